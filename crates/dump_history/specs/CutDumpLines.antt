@@ -31,12 +31,12 @@ pub record IsCutProperty (settings : Settings) (included : List NodePath) (kept 
       × AllZip (IsNewLine settings kept) (filter (has_line_in_cut included) lines) new_lines
       × (new.value ≡ Some (mergeinfo_text (nonempty_lines new_lines)))
 
--- in the cut stands what stood there, with such properties, and elsewhere nothing
+-- in the cut is what was there, with such properties, and elsewhere nothing
 abbrev pub TreeIsCutWithLines : Settings → List NodePath → List DumpRecord → TreeRelation
 TreeIsCutWithLines settings included records =
     IsCut included (IsCutProperty settings included (kept_revisions settings records))
 
--- the lines of all mergeinfo in the tree are in short form, and their paths are named
+-- the lines of all mergeinfo in the tree are canonical, and their paths are named
 abbrev pub HasNamedLines : List NodePath → Tree → Type 0
 HasNamedLines named tree =
     EachProperty (λ p. (lines : List MergeLine) → IsTrue (is_mergeinfo p) → IsMergeinfo (value_of p) lines
@@ -54,7 +54,7 @@ LoadedLinesAreNamed = (named : List NodePath) (revisions : List (List Change)) (
     loaded_over root_alone revisions ≡ Some trees → SetsNamedLines named revisions
     → slice_get trees number ≡ Some tree → HasNamedLines named tree
 
--- where the siblings cover what the lines of a tree name, its cut has the lines in the cut
+-- if the siblings cover what the lines of a tree name, its cut has the lines in the cut
 abbrev pub CutTreesHaveCutLines : Type 0
 CutTreesHaveCutLines = (settings : Settings) (included named siblings : List NodePath) (records : List DumpRecord)
     (old new : Tree) →

@@ -42,7 +42,7 @@ NumbersAreKept = (settings : Settings) (records : List DumpRecord) →
     → KeepsNamedNumbers settings records × IsTrue (keeps_numbering settings records)
 
 -- the dump loads into a new repository, these are the records of its expanded form, and the text is what the filter
--- writes of that form, where it answers cleanly
+-- writes of that form, if its answer is clean
 pub record FiltersExpansion (patched : Patching) (settings : Settings) (dump : List ℕ) (records : List DumpRecord)
     (revisions : List (List Change)) (trees : List Tree) (again : List DumpRecord) (filtered : List ℕ) : Type 0 where
   pub has : HasRecords dump records Ending.Whole
@@ -59,7 +59,7 @@ pub record FiltersExpansion (patched : Patching) (settings : Settings) (dump : L
 abbrev pub TreeRelation : Type 1
 TreeRelation = Tree → Tree → Type 0
 
--- at a kept path stands what stood there, with the properties that the filter writes, and elsewhere only what is given
+-- at a kept path is what was there, with the properties that the filter writes, and elsewhere only what is given
 abbrev pub TreeRestricts : Settings → List DumpRecord → TreeRelation
 TreeRestricts settings records = IsRestricted settings (IsNewProperty settings (kept_revisions settings records))
 
@@ -102,7 +102,7 @@ ExcludedDumpLoads = (patched : Patching) (settings : Settings) (dump filtered : 
     → settings.side ≡ Exclude → IsTrue (leaves_no_gap settings)
     → LoadsNew patched settings (TreeRestricts settings again) again trees filtered
 
--- where no revision is dropped or emptied, each has its own number and properties
+-- if no revision is dropped or emptied, each has its own number and properties
 abbrev pub ExcludedDumpLoadsNumbered : Type 0
 ExcludedDumpLoadsNumbered = (patched : Patching) (settings : Settings) (dump filtered : List ℕ)
     (records again : List DumpRecord) (revisions : List (List Change)) (trees : List Tree) →
@@ -138,7 +138,7 @@ abbrev pub TextsAreKept : Settings → List (List Change) → Tree → Type 0
 TextsAreKept settings revisions tree = (path : NodePath) (props : List Property) (text : List ℕ) →
     tree path ≡ Some (Node.File props text) → IsMadeByKept settings revisions text
 
--- so it is in the trees of what is written, where nothing comes back
+-- so it is in the trees of what is written, if nothing comes back
 abbrev pub WrittenTextsAreKept : Type 0
 WrittenTextsAreKept = (patched : Patching) (settings : Settings) (dump filtered : List ℕ)
     (records again : List DumpRecord) (revisions : List (List Change)) (trees : List Tree) (number : ℕ)
@@ -177,7 +177,7 @@ FilteredDumpsTellKeptPaths = (patched : Patching) (settings : Settings) (dump te
     IsCleanText settings dump records text → LengthsFit settings records → KeepsNamedNumbers settings records
     → MakeRevisions patched records revisions → TellsKeptPaths patched settings text
 
--- mergeinfo whose sources are named: what the filter writes of it, where the siblings are excluded, has the lines of those
+-- mergeinfo whose sources are named: what the filter writes of it, if the siblings are excluded, has the lines of those
 -- sources that are in the cut, and no others
 abbrev pub CutMergeinfoStays : Type 0
 CutMergeinfoStays = (settings : Settings) (included named siblings : List NodePath) (kept : KeptRevisions)

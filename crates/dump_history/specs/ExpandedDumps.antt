@@ -1,4 +1,4 @@
--- Expanded dumps: what stands in place of each record of a dump, so that the same trees are loaded, and the filter's cut
+-- Expanded dumps: what is in place of each record of a dump, so that the same trees are loaded, and the filter's cut
 -- separates each change.
 use Rattle.std.specs.Prelude.{◌≡◌, ℕ, Bool, true, not, ◌&&◌, List, [], ◌∷◌, ◌++◌, map, codes, IsTrue}
 use Rattle.std.specs.List.{AllZip, list_all}
@@ -28,21 +28,21 @@ use Rattle.dump_history.specs.WrittenNodes.{WrittenNode, node_record, can_be_wri
 
 -- what is left of a record of the dump
 pub data OwnForm : Type 0 where
-  -- it stands as it is
+  -- it is unchanged
   AsItIs : OwnForm
-  -- the node, without the lines that tell a copy source
+  -- the node, without the lines that state a copy source
   WithoutSource : OwnForm
-  -- the node, with the action that replaces what stands there
+  -- the node, with the action that replaces what is there
   Replacing : OwnForm
   -- nothing
   LeftOut : OwnForm
 
--- what stands in an expanded dump in place of a record: these nodes, and behind them what is left of it
+-- what is in an expanded dump in place of a record: these nodes, and after them what is left of it
 pub record Stead : Type 0 where
   pub nodes : List WrittenNode
   pub own : OwnForm
 
--- the node without the lines that tell a copy source
+-- the node without the lines that state a copy source
 abbrev pub without_source : DumpRecord → DumpRecord
 without_source r = record {
   place = r.place;
@@ -52,7 +52,7 @@ without_source r = record {
   text = r.text;
 }
 
--- the node with the action that replaces what stands there
+-- the node with the action that replaces what is there
 abbrev pub as_replacement : DumpRecord → DumpRecord
 as_replacement r = record {
   place = r.place;
@@ -69,30 +69,31 @@ own_records r OwnForm.WithoutSource = without_source r ∷ []
 own_records r OwnForm.Replacing = as_replacement r ∷ []
 own_records r OwnForm.LeftOut = []
 
--- what stands in place of the record
+-- what is in place of the record
 abbrev pub stead_records : DumpRecord → Stead → List DumpRecord
 stead_records r stead = map (node_record r.place r.version) stead.nodes ++ own_records r stead.own
 
--- what stands in place of the records, one after the other
+-- what is in place of the records, one after the other
 abbrev pub expanded_records : List DumpRecord → List Stead → List DumpRecord
 expanded_records [] steads = []
 expanded_records (r ∷ records) [] = []
 expanded_records (r ∷ records) (stead ∷ steads) = stead_records r stead ++ expanded_records records steads
 
 -- whether so much may be left of the record: of a node that makes nothing no load reads a copy source, a node that adds
--- may replace, and a node may be left out; any other record stands as it is
+-- may replace, and a node may be omitted; any other record is unchanged
 abbrev pub may_be_left : DumpRecord → OwnForm → Bool
 may_be_left r OwnForm.AsItIs = true
 may_be_left r OwnForm.WithoutSource = is_node r && not (makes r)
 may_be_left r OwnForm.Replacing = is_node r && has_action (codes "add") r
 may_be_left r OwnForm.LeftOut = is_node r
 
--- whether these nodes may stand before what is left of the record: nodes that can be written may in place of a node
+-- whether these nodes may come before what is left of the record: only in place of a node, and only nodes that can be
+-- written
 abbrev pub may_precede : DumpRecord → List WrittenNode → Bool
 may_precede r [] = true
 may_precede r (w ∷ nodes) = is_node r && list_all can_be_written (w ∷ nodes)
 
--- whether this may stand in place of the record
+-- whether this may be in place of the record
 abbrev pub may_stand : DumpRecord → Stead → Bool
 may_stand r stead = may_precede r stead.nodes && may_be_left r stead.own
 
@@ -103,8 +104,8 @@ pub record IsSameRecord (r s : DumpRecord) : Type 0 where
   pub props : s.props ≡ r.props
   pub text : s.text ≡ r.text
 
--- these records are an expanded form of those of a dump that makes these revisions: they stand in place of them, and
--- make revisions whose changes are expansions of those of the dump, where it is loaded into a new repository
+-- these records are an expanded form of those of a dump that makes these revisions: they are in place of them, and make
+-- revisions whose changes are expansions of those of the dump, where it is loaded into a new repository
 pub record IsExpandedDump (patched : Patching) (settings : Settings) (records : List DumpRecord) (steads : List Stead)
     (again : List DumpRecord) (revisions expanded : List (List Change)) : Type 0 where
   pub may : AllZip (λ r stead. IsTrue (may_stand r stead)) records steads
@@ -125,8 +126,9 @@ ExpandedDumpLoads = (patched : Patching) (settings : Settings) (dump : List ℕ)
     × (revision_numbers again ≡ revision_numbers records)
     × ((props : List (List Property)) → HaveRevisionProperties records props → HaveRevisionProperties again props)
 
--- what the filter writes of the expanded form of a dump that loads, loaded over the given folders, has the restricted
--- trees of the dump. The filter answers of the expanded form; no change of the dump itself need be separated or quiet
+-- what the filter writes of the expanded form of a dump that loads, loaded over the parent directories, has the
+-- restricted trees of the dump. The filter answers of the expanded form; no change of the dump itself need be separated
+-- or quiet
 abbrev pub FilteredExpansionRestricts : Type 0
 FilteredExpansionRestricts = (patched : Patching) (settings : Settings) (dump expansion text : List ℕ)
     (records : List DumpRecord) (steads : List Stead) (again : List DumpRecord)
@@ -138,7 +140,7 @@ FilteredExpansionRestricts = (patched : Patching) (settings : Settings) (dump ex
     → KeepsNamedNumbers settings again
     → LoadsRestricted patched settings again trees text
 
--- so it has where it is loaded behind the given folders
+-- so it has where it is loaded after the parent directories
 abbrev pub FilteredExpansionRestrictsBehindFolders : Type 0
 FilteredExpansionRestrictsBehindFolders = (patched : Patching) (settings : Settings) (dump expansion text : List ℕ)
     (records : List DumpRecord) (steads : List Stead) (again : List DumpRecord)
@@ -150,20 +152,20 @@ FilteredExpansionRestrictsBehindFolders = (patched : Patching) (settings : Setti
     → KeepsNamedNumbers settings again
     → LoadsBehindFolders patched settings again trees text
 
--- whether the kept node has lines that tell a copy source that isn't kept, and makes nothing; no load reads these lines,
--- but the filter refuses it
+-- whether the kept node has lines that state a copy source that isn't kept, and makes nothing; no load reads these
+-- lines, but the filter rejects it
 abbrev pub has_idle_source : Settings → DumpRecord → Bool
 has_idle_source settings r = is_kept_node settings r && has_lost_source settings r && not (makes r)
 
--- whether no such node stands as it is
+-- whether such a node isn't left unchanged
 abbrev pub takes_idle_source : Settings → DumpRecord → OwnForm → Bool
 takes_idle_source settings r OwnForm.AsItIs = not (has_idle_source settings r)
 takes_idle_source settings r OwnForm.WithoutSource = true
 takes_idle_source settings r OwnForm.Replacing = true
 takes_idle_source settings r OwnForm.LeftOut = true
 
--- where no change of an expanded form loses its source, and no node stands in it that tells one and makes nothing, the
--- filter refuses none of its records for its copy source
+-- if no change of an expanded form loses its source, and no node is in it that states one and makes nothing, the filter
+-- rejects none of its records for its copy source
 abbrev pub NoSourceIsMissed : Type 0
 NoSourceIsMissed = (patched : Patching) (settings : Settings) (dump : List ℕ) (records : List DumpRecord)
     (steads : List Stead) (again : List DumpRecord) (revisions expanded : List (List Change)) →

@@ -1,4 +1,4 @@
--- Expanded parts of a history: of dumps that begin above revision 0.
+-- Expanded partial dumps: of dumps that begin above revision 0.
 use Rattle.std.specs.Prelude.{◌≡◌, ℕ, List, [], ◌∷◌, ◌++◌, IsTrue}
 use Rattle.std.specs.List.{AllZip, list_all}
 use Rattle.dump_text.specs.declared.fault.FaultKind.TheVariants.{CopySource}
@@ -23,8 +23,9 @@ use Rattle.dump_history.specs.PartLaws.{MakePartRevisions, PartLoadsAs, PartLoad
 use Rattle.dump_history.specs.ExpandedDumps.{Stead, IsSameRecord, may_stand, expanded_records, takes_idle_source}
 use Rattle.dump_history.specs.ExpandedText.{IsExpandedText, stead_groups, expanded_revisions}
 
--- these records are an expanded form of those of a part that makes these revisions behind that many: they stand in place
--- of them, and make revisions whose changes are expansions of those of the part, where it is loaded into a new repository
+-- these records are an expanded form of those of a part that makes these revisions after that many: they are in place
+-- of them, and make revisions whose changes are expansions of those of the part, where it is loaded into a new
+-- repository
 pub record IsExpandedPart (patched : Patching) (settings : Settings) (before : ℕ) (records : List DumpRecord)
     (steads : List Stead) (again : List DumpRecord) (revisions expanded : List (List Change)) : Type 0 where
   pub may : AllZip (λ r stead. IsTrue (may_stand r stead)) records steads
@@ -46,7 +47,7 @@ ExpandedPartLoads = (patched : Patching) (settings : Settings) (before : ℕ) (d
     × ((props : List (List Property)) → HaveRevisionProperties records props → HaveRevisionProperties again props)
 
 -- what the filter writes of the expanded form of a part that loads, has the restricted trees of the part, loaded over
--- the given folders or behind them
+-- the parent directories or after them
 abbrev pub FilteredExpandedPartRestricts : Type 0
 FilteredExpandedPartRestricts = (patched : Patching) (settings : Settings) (before : ℕ) (dump expansion text : List ℕ)
     (records : List DumpRecord) (steads : List Stead) (again : List DumpRecord)
@@ -58,7 +59,7 @@ FilteredExpandedPartRestricts = (patched : Patching) (settings : Settings) (befo
     → KeepsNamedNumbers settings again
     → PartLoadsRestricted patched before settings again trees text
 
--- where it loses no source, the filter misses none
+-- if it loses no source, the filter misses none
 abbrev pub NoSourceIsMissedInPart : Type 0
 NoSourceIsMissedInPart = (patched : Patching) (settings : Settings) (before : ℕ) (dump : List ℕ)
     (records : List DumpRecord) (steads : List Stead) (again : List DumpRecord)
@@ -71,8 +72,8 @@ NoSourceIsMissedInPart = (patched : Patching) (settings : Settings) (before : �
     → (front after : List DumpRecord) (s : DumpRecord) → again ≡ front ++ s ∷ after
     → ¬ HoldsOfRecord settings front s CopySource
 
--- where what is made in place of a part's changes are these revisions, behind that many, and they are expansions of
--- those of the part, a text that has what may stand in place of its records is a part, an expanded form of it
+-- where what is made in place of a part's changes are these revisions, after that many, and they are expansions of
+-- those of the part, a text that has what may be in place of its records is a part, an expanded form of it
 abbrev pub PartExpansionsAreParts : Type 0
 PartExpansionsAreParts = (patched : Patching) (settings : Settings) (before : ℕ) (dump text : List ℕ)
     (records : List DumpRecord) (steads : List Stead) (revisions expanded : List (List Change)) →

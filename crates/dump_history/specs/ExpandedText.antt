@@ -22,13 +22,13 @@ use Rattle.dump_history.specs.ExpandedDumps.{OwnForm, Stead, may_stand, expanded
 
 -- what is written
 
--- the text is the records, with some line feeds behind each
+-- the text is the records, with some line feeds after each
 abbrev pub AreRecordTexts : List DumpRecord → List ℕ → Type 0
 AreRecordTexts [] text = text ≡ []
 AreRecordTexts (r ∷ records) text = (lfs : ℕ) × (rest : List ℕ)
     × (text ≡ record_text r ++ (line_feeds lfs ++ rest)) × AreRecordTexts records rest
 
--- the text has in place of each record what may stand there, behind some line feeds
+-- the text has in place of each record what may be there, after some line feeds
 pub record IsExpandedText (records : List DumpRecord) (steads : List Stead) (text : List ℕ) : Type 0 where
   pub may : AllZip (λ r stead. IsTrue (may_stand r stead)) records steads
   pub lfs : ℕ
@@ -62,13 +62,13 @@ expanded_revisions (steads ∷ groups) [] = []
 expanded_revisions (steads ∷ groups) (changes ∷ revisions) =
     expanded_changes steads changes ∷ expanded_revisions groups revisions
 
--- what stands in place of the nodes with which the records begin
+-- what is in place of the nodes with which the records begin
 abbrev pub node_steads : List DumpRecord → List Stead → List Stead
 node_steads [] steads = []
 node_steads (r ∷ records) [] = []
 node_steads (r ∷ records) (stead ∷ steads) = if is_node r then stead ∷ node_steads records steads else []
 
--- what stands in place of the nodes of each revision
+-- what is in place of the nodes of each revision
 abbrev pub stead_groups : List DumpRecord → List Stead → List (List Stead)
 stead_groups [] steads = []
 stead_groups (r ∷ records) [] = []
@@ -92,8 +92,8 @@ ExpansionsAreDumps = (patched : Patching) (settings : Settings) (dump text : Lis
     → (again : List DumpRecord) × HasRecords text again Ending.Whole
     × IsExpandedDump patched settings records steads again revisions (made_in_stead records steads revisions)
 
--- so what the filter writes of such a text, where it answers it cleanly, has the restricted trees of the dump, loaded over
--- the given folders and behind them: what is filtered of the expanded form of a dump, from bytes to bytes
+-- so what the filter writes of such a text, if its answer is clean, has the restricted trees of the dump, loaded over
+-- the parent directories and after them: what is filtered of the expanded form of a dump, from bytes to bytes
 abbrev pub FilteredTextsRestrict : Type 0
 FilteredTextsRestrict = (patched : Patching) (settings : Settings) (dump text filtered : List ℕ)
     (records again : List DumpRecord) (steads : List Stead) (revisions : List (List Change)) (trees : List Tree) →
@@ -105,7 +105,7 @@ FilteredTextsRestrict = (patched : Patching) (settings : Settings) (dump text fi
     → KeepsNamedNumbers settings again
     → LoadsRestricted patched settings again trees filtered × LoadsBehindFolders patched settings again trees filtered
 
--- and where it loses no source, the filter misses none in it
+-- and if it loses no source, the filter misses none in it
 abbrev pub NoSourceIsMissedInText : Type 0
 NoSourceIsMissedInText = (patched : Patching) (settings : Settings) (dump text : List ℕ)
     (records again : List DumpRecord) (steads : List Stead) (revisions : List (List Change)) →

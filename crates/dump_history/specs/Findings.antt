@@ -1,6 +1,6 @@
 -- What a survey finds in a dump before it is filtered: where the loaded repository may not be the one that is meant. A
--- program can tell all of it in one pass, node by node, by header lines, properties and prefixes alone; no text of a
--- file and no tree is asked for, so what is found may do no harm: nothing may stand where a prefix points.
+-- program can find all of it in one pass, node by node, by header lines, properties and prefixes alone; it needs no
+-- text of a file and no tree. So a finding may be harmless: there may be no node at the path of a prefix.
 use Rattle.std.specs.Prelude.{◌≡◌, ◌↔◌, ℕ, Bool, true, false, not, ◌&&◌, ◌==◌, List, [], ◌∷◌, length, filter, nat_lt, Option, Some, None, unwrap_or, is_none, Contains, IsTrue}
 use Rattle.std.specs.List.{list_any}
 use Rattle.dump_text.specs.declared.fault.FaultKind.TheVariants.{CopyRevision, MergeInfo, MergeSource, MergeRange}
@@ -26,11 +26,11 @@ use Rattle.dump_history.specs.NumberGaps.{go_up, NamesRevisionBehind}
 pub data Finding : Type 0 where
   -- its property block can't be read
   UnreadBlock : Finding
-  -- it says that its properties or its text are a delta, where version 3 isn't in force, be there any or not
+  -- it says that its properties or its text are a delta, but version 3 is not in force; it may have neither
   Delta : Finding
   -- it has no action, or an unknown one
   UnknownAction : Finding
-  -- the load reads a text of it otherwise than it stands
+  -- a load reads one of its texts differently
   OddText : Finding
   -- the filter stops: it is a kept copy without its source, and no whole file
   NoWholeFile : Finding
@@ -44,15 +44,16 @@ pub data Finding : Type 0 where
   MissingMergeRevision : Finding
   -- a kept copy without its source sets no properties, so those of the source may be lost
   PropertiesLost : Finding
-  -- a kept copy of a kept path, below which something is left out that is kept below the copy: it may lack that
+  -- a kept copy of a kept path, below which something is excluded that is included below the copy: it may lack that
   CopyLoses : Finding
-  -- a kept copy of a kept path, below which something is kept that is to be left out below the copy: it may let that in
+  -- a kept copy of a kept path, below which something is included that is excluded below the copy: it may bring that
+  -- back
   CopyLetsIn : Finding
-  -- a left-out folder above a prefix is deleted, and may take with it what is kept below it
+  -- an excluded directory above a prefix is deleted, and what is included below it may stay
   FolderTakes : Finding
-  -- a left-out folder above a prefix is a copy, and may bring what is kept below it
+  -- an excluded directory above a prefix is a copy, and what is included below it may be missing
   FolderBrings : Finding
-  -- a kept file is a copy of one that is to be left out, and its text comes from it, perhaps edited
+  -- a kept file is a copy of an excluded one, and its text comes from it, perhaps edited
   TextComesIn : Finding
 
 -- each of them, in order
@@ -66,7 +67,7 @@ every_finding = Finding.UnreadBlock ∷ Finding.Delta ∷ Finding.UnknownAction 
 abbrev pub has_kept_path : Settings → DumpRecord → Bool
 has_kept_path settings r = keeps_path settings (node_path r)
 
--- whether the filter stops at the node for want of its copy source: it is a kept copy without it, and no whole file
+-- whether the filter stops at the node because its copy source is excluded: it is a kept copy, and no whole file
 abbrev pub lacks_source : Settings → DumpRecord → Bool
 lacks_source settings r = has_kept_path settings r && has_lost_source settings r && not (is_whole_file r)
 
@@ -99,7 +100,7 @@ pub record NodeFaults : Type 0 where
   pub missing : Bool
   pub outside : Bool
 
--- these are the node's faults, as the filter tells them of a record that these stand before
+-- these are the node's faults, by the filter's rules for a record after these
 pub record AreNodeFaultsOf (settings : Settings) (before : List DumpRecord) (r : DumpRecord)
     (faults : NodeFaults) : Type 0 where
   pub copy_revision : IsTrue faults.copy_revision ↔ HoldsOfRecord settings before r CopyRevision
@@ -107,8 +108,8 @@ pub record AreNodeFaultsOf (settings : Settings) (before : List DumpRecord) (r :
   pub missing : IsTrue faults.missing ↔ HoldsOfRecord settings before r MergeSource
   pub outside : IsTrue faults.outside ↔ HoldsOfRecord settings before r MergeRange
 
--- whether this is found in the node; the properties are those of its block, none where that can't be read, and the
--- faults those of the node
+-- whether this is found in the node; the properties are those of its block, none if that can't be read, and the faults
+-- those of the node
 abbrev pub is_found : Settings → DumpRecord → Option (List Property) → NodeFaults → Finding → Bool
 is_found settings r ps faults Finding.UnreadBlock = is_none ps
 is_found settings r ps faults Finding.Delta = has_odd_delta r
@@ -137,17 +138,17 @@ is_found settings r ps faults Finding.TextComesIn =
 abbrev pub findings_of : Settings → DumpRecord → Option (List Property) → NodeFaults → List Finding
 findings_of settings r ps faults = filter (λ f. is_found settings r ps faults f) every_finding
 
--- these are the node's properties; none is said where its block can't be read
+-- these are the node's properties; none if its block can't be read
 abbrev pub IsReadBlock : DumpRecord → Option (List Property) → Type 0
 IsReadBlock r None = ¬ HasPropertyBlock r
 IsReadBlock r (Some ps) = HasPropertyList r ps
 
--- this is what is found in the node that these records stand before
+-- this is what is found in the node that follows these records
 abbrev pub AreFindingsOf : Settings → List DumpRecord → DumpRecord → List Finding → Type 0
 AreFindingsOf settings before r found = (ps : Option (List Property)) × (faults : NodeFaults)
     × IsReadBlock r ps × AreNodeFaultsOf settings before r faults × (found ≡ findings_of settings r ps faults)
 
--- whether a node with the finding makes no change that the definitions tell
+-- whether a node with the finding makes no change that the definitions describe
 abbrev pub is_obstacle : Finding → Bool
 is_obstacle Finding.UnreadBlock = true
 is_obstacle Finding.Delta = true
@@ -178,9 +179,9 @@ pub data DumpFinding : Type 0 where
   NodeInFirst : DumpFinding
   -- a node of a revision is a copy from one before the first revision
   SourceBefore : DumpFinding
-  -- a node stands outside of any revision, at which the filter stops
+  -- a node is outside of any revision, at which the filter stops
   NodeOutside : DumpFinding
-  -- a revision is dropped, the others aren't renumbered, and a kept node behind it is a copy or sets mergeinfo
+  -- a revision is dropped, the others aren't renumbered, and a kept node after it is a copy or sets mergeinfo
   NumbersLeft : DumpFinding
 
 -- each of them, in order
@@ -207,7 +208,7 @@ abbrev pub first_has_node : List Group → Bool
 first_has_node [] = false
 first_has_node (g ∷ gs) = not (is_bare g)
 
--- the number of the dump's first revision, or 0 where there is none
+-- the number of the dump's first revision, or 0 if there is none
 abbrev pub begins_at : List DumpRecord → ℕ
 begins_at records = first_number (revision_numbers records)
 

@@ -18,17 +18,17 @@ use Rattle.dump_history.specs.ExpandedText.{AreRecordTexts, IsExpandedText, chan
 abbrev pub ExpandedTextsBegin : Type 0
 ExpandedTextsBegin = (lfs : ℕ) → IsExpandedText [] [] (line_feeds lfs)
 
--- behind what stands in place of some records, what may stand in place of one more may be written
+-- after what is in place of some records, what may be in place of one more may be written
 abbrev pub ExpandedTextsGrow : Type 0
 ExpandedTextsGrow = (records : List DumpRecord) (steads : List Stead) (text own : List ℕ) (r : DumpRecord)
     (stead : Stead) →
     IsExpandedText records steads text → IsTrue (may_stand r stead) → AreRecordTexts (stead_records r stead) own
     → IsExpandedText (records ++ r ∷ []) (steads ++ stead ∷ []) (text ++ own)
 
--- what stands in place of the nodes of each revision
+-- what is in place of the nodes of each revision
 
--- one more revision begins a group; one more node, where nodes stand in revisions, goes to the last one; and any other
--- record leaves them as they are
+-- one more revision begins a group; one more node, where nodes are in revisions, is added to the last one; and any
+-- other record leaves them as they are
 abbrev pub SteadGroupsGrow : Type 0
 SteadGroupsGrow = (dump : List ℕ) (records : List DumpRecord) (steads : List Stead) (r : DumpRecord) (stead : Stead) →
     BeginsWithRecords dump (records ++ r ∷ [])
@@ -42,7 +42,7 @@ SteadGroupsGrow = (dump : List ℕ) (records : List DumpRecord) (steads : List S
     × (stead_groups (records ++ r ∷ []) (steads ++ stead ∷ []) ≡ front ++ (last ++ stead ∷ []) ∷ []))
     (stead_groups (records ++ r ∷ []) (steads ++ stead ∷ []) ≡ stead_groups records steads))
 
--- what is made in place of one more revision stands behind what is made in place of the others
+-- what is made in place of one more revision is after what is made in place of the others
 abbrev pub ExpandedRevisionsGrow : Type 0
 ExpandedRevisionsGrow = (steads : List (List Stead)) (revisions : List (List Change)) (last : List Stead)
     (changes : List Change) → length steads ≡ length revisions
@@ -57,7 +57,7 @@ ExpandedChangesGrow = (steads : List Stead) (changes : List Change) (stead : Ste
 
 -- expansions
 
--- behind expansions of some revisions one more may begin, which has no change yet
+-- after expansions of some revisions one more may begin, which has no change yet
 abbrev pub ExpansionsBegin : Type 0
 ExpansionsBegin = (settings : Settings) (revisions expanded : List (List Change)) →
     AllRevisionsExpand settings (root_alone ∷ []) root_alone revisions expanded
@@ -75,7 +75,7 @@ ExpansionsGrow = (settings : Settings) (revisions expanded : List (List Change))
     (expanded ++ (first ++ more) ∷ [])
 
 -- there the revisions, with the last one cut short before the change, load to these trees and the tree before it, which
--- is the last one; so looking back finds what stands in it
+-- is the last one; so looking back finds what is in it
 abbrev pub PlacesAreLoaded : Type 0
 PlacesAreLoaded = (revisions : List (List Change)) (changes : List Change) (trees : List Tree) (youngest before : Tree) →
     loaded_over root_alone revisions ≡ Some trees → slice_get trees (length revisions) ≡ Some youngest

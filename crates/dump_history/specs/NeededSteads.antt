@@ -1,5 +1,5 @@
 -- Expanded dumps in which nothing is written that isn't needed: each record stays, but for kept copies that the cut
--- doesn't separate, and copies over something; and what is written in place of a copy is what it copies. So where nothing
+-- doesn't separate, and copies over something; and what is written in place of a copy is what it copies. So if nothing
 -- comes back no text and no property of an excluded node is among the bytes that are written.
 use Rattle.std.specs.Prelude.{◌≡◌, ℕ, true, ◌&&◌, List, [], ◌∷◌, ◌++◌, drop, Some, is_some, slice_get, Contains, IsTrue, IsFalse, ⊤, ◌⊎◌}
 use Rattle.std.specs.List.{All}
@@ -35,13 +35,13 @@ abbrev pub StaysAsItIs : Settings → DumpRecord → Stead → Type 0
 StaysAsItIs settings r stead = (stead.nodes ≡ [])
     × ((stead.own ≡ OwnForm.AsItIs) ⊎ ((stead.own ≡ OwnForm.WithoutSource) × IsTrue (has_idle_source settings r)))
 
--- these changes are those, behind a deletion of what stands at the path, if something does; or the first one replaces it
+-- these changes are those, after a deletion of what is at the path, if something does; or the first one replaces it
 abbrev pub MakeRoom : Tree → NodePath → List Change → List Change → Type 0
 MakeRoom before path changes expanded = (expanded ≡ cleared before path ++ changes)
     ⊎ ((first : Change) × (rest : List Change) × (changes ≡ first ∷ rest) × (expanded ≡ replacing true first ∷ rest)
     × IsTrue (is_some (before path)))
 
--- the change copies over something, and stays; what stands there is deleted first
+-- the change copies over something, and stays; what is there is deleted first
 pub record IsStayingOver (before : Tree) (c : Change) (stead : Stead) : Type 0 where
   pub copies : IsTrue (is_copied c.made)
   pub over : IsTrue (is_some (before c.path))
@@ -57,7 +57,7 @@ CopiesFrom path number source d = (made_number : ℕ) (made_source : NodePath) �
     d.made ≡ Some (Made.Copied made_number made_source)
     → (rest : NodePath) × (d.path ≡ path ++ rest) × (made_number ≡ number) × (made_source ≡ source ++ rest)
 
--- what the change makes anew below the path, in place of a rest of the source, couldn't be copied there: the cut doesn't
+-- what the change creates below the path, in place of a rest of the source, couldn't be copied there: the cut doesn't
 -- take that part whole
 abbrev pub CopiesNothing : Settings → NodePath → NodePath → Tree → Change → Type 0
 CopiesNothing settings path source old d = (name : List ℕ) (rest : NodePath) (part : Branch) →
@@ -97,7 +97,7 @@ pub record IsCopyWritten (settings : Settings) (history : History) (before : Tre
   pub room : MakeRoom before c.path changes (changes_for stead c)
   pub written : AreWrittenFrom settings history c changes
 
--- what stands in place of the record, which makes this change, is needed
+-- what is in place of the record, which makes this change, is needed
 abbrev pub IsNeeded : Settings → History → Tree → DumpRecord → Stead → Change → Type 0
 IsNeeded settings history before r stead c = StaysAsItIs settings r stead
     ⊎ (IsStayingOver before c stead ⊎ IsCopyWritten settings history before c stead)
@@ -120,7 +120,7 @@ AllRevisionsNeeded settings trees youngest (g ∷ others) (steads ∷ more) (cha
     → AllRevisionsNeeded settings (trees ++ tree ∷ []) tree others more revisions)
 AllRevisionsNeeded settings trees youngest _ _ _ = ⊥
 
--- what stands in place of the records of a dump, which makes these revisions, is needed; revision 0 has no nodes
+-- what is in place of the records of a dump, which makes these revisions, is needed; revision 0 has no nodes
 abbrev pub SteadsAreNeeded : Settings → List DumpRecord → List Stead → List (List Change) → Type 0
 SteadsAreNeeded settings records steads revisions =
     AllRevisionsNeeded settings (root_alone ∷ []) root_alone (drop 1 (groups records))
@@ -134,7 +134,7 @@ abbrev pub NeedsNothing : Settings → History → Tree → DumpRecord → Chang
 NeedsNothing settings history before r c = (IsTrue (keeps settings c.path) → IsTaken settings history before c)
     × IsFalse (is_copied c.made && is_some (before c.path)) × IsFalse (has_idle_source settings r)
 
--- these records stand in place of the nodes, which make these changes, one after the other: in place of one that needs
+-- these records are in place of the nodes, which make these changes, one after the other: in place of one that needs
 -- nothing just it
 abbrev pub NodesStay : Settings → History → Tree → List DumpRecord → List Change → List DumpRecord → Type 0
 NodesStay settings history before [] [] others = others ≡ []
@@ -153,7 +153,7 @@ RevisionsStay settings trees youngest (g ∷ others) (changes ∷ revisions) (h 
     → RevisionsStay settings (trees ++ tree ∷ []) tree others revisions more)
 RevisionsStay settings trees youngest _ _ _ = ⊥
 
--- where no more is written than is needed, each node whose change the cut takes is in the expanded form, and it is there
+-- if no more is written than is needed, each node whose change the cut takes is in the expanded form, and it is there
 -- as it was, with nothing before it in its place
 abbrev pub TakenRecordsStay : Type 0
 TakenRecordsStay = (patched : Patching) (settings : Settings) (dump filtered : List ℕ)
@@ -205,7 +205,7 @@ CopiesPart path number source c = (top : NodePath) × (rest : NodePath) × (c.ma
     × (path ≡ c.path ++ rest) × (source ≡ top ++ rest)
 
 -- all that the change does with content comes of kept changes of these revisions: they have set each property that it
--- sets, as it was before it was written anew, and have made its text; and its copy is one of theirs, or a part of one
+-- sets, as it was before it was written out, and have made its text; and its copy is one of theirs, or a part of one
 pub record ComesOfKept (settings : Settings) (revisions : List (List Change)) (IsNew : NewProperty)
     (IsNumber : NewNumber) (d : Change) : Type 0 where
   pub props : All (λ new. (old : Property) × IsNew old new × SomeKeptDoes settings revisions (SetsProperty old))
@@ -218,8 +218,8 @@ pub record ComesOfKept (settings : Settings) (revisions : List (List Change)) (I
 abbrev pub IsSameProperty : NewProperty
 IsSameProperty old new = new ≡ old
 
--- where nothing comes back, and no more is written than is needed, what the kept changes of the expanded form do comes
--- of kept changes of the dump
+-- if nothing comes back, and no more is written than is needed, what the kept changes of the expanded form do comes of
+-- kept changes of the dump
 abbrev pub ExpandedChangesAreKept : Type 0
 ExpandedChangesAreKept = (patched : Patching) (settings : Settings) (dump filtered : List ℕ)
     (records again : List DumpRecord) (revisions : List (List Change)) (trees : List Tree)

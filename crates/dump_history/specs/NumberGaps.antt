@@ -1,6 +1,6 @@
 -- Gaps in the numbers of a dump's revisions. A load numbers revisions itself, without gaps, and goes by the numbers in
 -- the dump only to find the revisions that copies and mergeinfo name (svnadmin load of Subversion 1.14,
--- load-fs-vtable.c). So where none is named behind a gap, a dump makes the revisions that it would make without it.
+-- load-fs-vtable.c). So where none is named after a gap, a dump makes the revisions that it would make without it.
 use Rattle.std.specs.Prelude.{◌≡◌, ◌⊎◌, ℕ, suc, Bool, true, false, not, ◌&&◌, ◌||◌, ◌==◌, List, [], ◌∷◌, nat_lt, Option, Some, None, Contains, IsTrue, MatchBool, ⊤}
 use Rattle.std.specs.List.{AllZip, list_all, list_any}
 use Rattle.dump_text.specs.PropertyList.{Property}
@@ -41,7 +41,7 @@ abbrev pub go_up : ℕ → List ℕ → Bool
 go_up number [] = true
 go_up number (n ∷ numbers) = nat_lt number n && go_up n numbers
 
--- whether these are the numbers of these revisions: this one, the next one and so on, or so up to a gap, behind which
+-- whether these are the numbers of these revisions: this one, the next one and so on, or so up to a gap, after which
 -- they go up, and no change names a revision
 abbrev pub count_to_gap : ℕ → List ℕ → List (List Change) → Bool
 count_to_gap number [] revisions = true
@@ -51,7 +51,7 @@ count_to_gap number (n ∷ numbers) (changes ∷ revisions) =
     || (go_up number (n ∷ numbers) && name_no_revision (changes ∷ revisions))
 
 -- the dump's first revision is revision 0, and the later ones are numbered 1, 2 and so on up to a gap, if there is one,
--- behind which no change names a revision. All else is as in a dump without gaps
+-- after which no change names a revision. All else is as in a dump without gaps
 pub record MakeRevisionsWithGaps (patched : Patching) (records : List DumpRecord) (revisions : List (List Change))
     : Type 0 where
   pub later : List ℕ
@@ -67,7 +67,7 @@ pub record LoadsWithGapsAs (patched : Patching) (first : Tree) (records : List D
   pub makes : MakeRevisionsWithGaps patched records revisions
   pub loads : loaded_over first revisions ≡ Some trees
 
--- nodes that name a revision behind a dropped one
+-- nodes that name a revision after a dropped one
 
 -- the node sets mergeinfo
 abbrev pub SetsMergeinfo : DumpRecord → Type 0
@@ -82,17 +82,17 @@ abbrev pub HasNamingNode : Settings → List Group → Type 0
 HasNamingNode settings gs = (g : Group) × (r : DumpRecord) × Contains gs g × Contains g.nodes r
     × IsTrue (is_kept_node settings r) × NamesRevision r
 
--- a kept node behind the first dropped one of these groups does
+-- a kept node after the first dropped one of these groups does
 abbrev pub HasNamingNodeBehind : Settings → List Group → Type 0
 HasNamingNodeBehind settings [] = ⊥
 HasNamingNodeBehind settings (g ∷ gs) =
     MatchBool (keeps_group settings g) (HasNamingNodeBehind settings gs) (HasNamingNode settings gs)
 
--- a kept node behind the first dropped revision names a revision
+-- a kept node after the first dropped revision names a revision
 abbrev pub NamesRevisionBehind : Settings → List DumpRecord → Type 0
 NamesRevisionBehind settings records = HasNamingNodeBehind settings (groups records)
 
 -- whether what is written names revisions by the numbers that a load gives them, where the whole dump has no gap: they
--- are renumbered, or no kept node behind the first dropped one names one
+-- are renumbered, or no kept node after the first dropped one names one
 abbrev pub KeepsNamedNumbers : Settings → List DumpRecord → Type 0
 KeepsNamedNumbers settings records = MatchBool settings.renumber ⊤ (¬ NamesRevisionBehind settings records)

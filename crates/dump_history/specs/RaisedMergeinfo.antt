@@ -1,5 +1,5 @@
--- What a load makes of mergeinfo behind other revisions (svnadmin load of Subversion 1.14, load-fs-vtable.c): its
--- numbers become higher by as many, and its lines are spelled anew. That is so where it names no revision from its own
+-- What a load makes of mergeinfo after other revisions (svnadmin load of Subversion 1.14, load-fs-vtable.c): its
+-- numbers become higher by as many, and its lines are spelled again. That is so where it names no revision from its own
 -- one on; else the load leaves some numbers as they are.
 use Rattle.std.specs.Prelude.{◌≡◌, ◌↔◌, ℕ, ◌+◌, Bool, List, Some, Contains, MatchBool}
 use Rattle.dump_text.specs.PropertyList.{Property}
@@ -8,7 +8,7 @@ use Rattle.dump_rules.specs.RangeList.{HasNumber}
 use Rattle.dump_rules.specs.Mergeinfo.{MergeLine, IsMergeinfo}
 use Rattle.dump_digest.specs.RecordParts.{is_mergeinfo}
 
--- the revision number stands, as this kind, in a line of this path; a leading slash doesn't count
+-- the revision number is in a line of this path, as this kind; a leading slash doesn't count
 abbrev pub HasMergedNumber : List MergeLine → List ℕ → Bool → ℕ → Type 0
 HasMergedNumber lines path kind number = (line : MergeLine) × Contains lines line
     × (bare_path line.path ≡ bare_path path) × HasNumber line.ranges kind number
@@ -24,7 +24,7 @@ abbrev pub IsRaisedValue : ℕ → List ℕ → List ℕ → Type 0
 IsRaisedValue count old new = (lines raised : List MergeLine)
     × IsMergeinfo old lines × IsMergeinfo new raised × AreRaisedLines count lines raised
 
--- a property behind this many revisions: mergeinfo is raised, and all else stays as it is
+-- a property after this many revisions: mergeinfo is raised, and all else stays as it is
 pub record IsRaised (count : ℕ) (old new : Property) : Type 0 where
   pub name : new.name ≡ old.name
   pub value : MatchBool (is_mergeinfo old)

@@ -1,4 +1,4 @@
--- The change that a node of a dump makes in a tree (Subversion, notes/dump-load-format.txt; where it is silent: as
+-- The change that a node of a dump makes in a tree (Subversion, notes/dump-load-format.txt; where that says nothing: as
 -- svnadmin load of Subversion 1.14 takes it, load.c and load-fs-vtable.c). The node's lines break no rule of dumps.
 use Rattle.std.specs.Prelude.{◌≡◌, ℕ, Bool, not, ◌&&◌, ◌||◌, ◌==◌, List, [], ◌∷◌, Option, Some, None, unwrap_or, bytes_eq, codes, if◌then◌else◌, IsTrue}
 use Rattle.std.specs.List.{list_all, list_any}
@@ -11,7 +11,7 @@ use Rattle.dump_digest.specs.RecordParts.{is_copy, has_text, node_path, HasPrope
 use Rattle.dump_trees.specs.Paths.{path_of, is_short}
 use Rattle.dump_trees.specs.Changes.{Made, PropertyChange, TextChange, Change}
 
--- a reading of text deltas: what a delta makes of an old text, none where the load refuses it. Of their form (svndiff)
+-- a reading of text deltas: what a delta makes of an old text, none if the load rejects it. Of their form (svndiff)
 -- nothing is said here
 abbrev pub Patching : Type 0
 Patching = (delta old : List ℕ) → Option (List ℕ)
@@ -29,7 +29,7 @@ abbrev pub has_known_action : DumpRecord → Bool
 has_known_action r =
     list_any (λ action. has_action action r) (codes "add" ∷ codes "change" ∷ codes "delete" ∷ codes "replace" ∷ [])
 
--- whether the action deletes what stands at the path
+-- whether the action deletes what is at the path
 abbrev pub deletes : DumpRecord → Bool
 deletes r = has_action (codes "delete") r || has_action (codes "replace") r
 
@@ -52,7 +52,7 @@ copy_path r = unwrap_or (header_value copy_path_name r.headers) []
 abbrev pub copy_revision : DumpRecord → ℕ
 copy_revision r = unwrap_or (header_number copy_revision_name r.headers) 0
 
--- the copy that the node's copy source tells
+-- the copy that the node states
 abbrev pub copied_from : DumpRecord → Made
 copied_from r = Made.Copied (copy_revision r) (path_of (copy_path r))
 
@@ -60,8 +60,8 @@ copied_from r = Made.Copied (copy_revision r) (path_of (copy_path r))
 abbrev pub made_of : DumpRecord → Option Made
 made_of r = if makes r then if is_copy r then Some (copied_from r) else made_by_kind r else None
 
--- what the node makes of properties, where there is a property length: its entries take the place of the old ones, also
--- where there are none; or under version 3, where they are a delta, they edit the old ones. What the load writes into
+-- what the node makes of properties, where there is a property length: its entries replace the old ones, also where
+-- there are none; or under version 3, where they are a delta, they edit the old ones. What the load writes into
 -- mergeinfo isn't said here
 abbrev pub property_change_of : DumpRecord → List Property → Option PropertyChange
 property_change_of r ps =
@@ -83,9 +83,9 @@ abbrev pub has_odd_delta : DumpRecord → Bool
 has_odd_delta r =
     not (r.version == 3) && (says_true prop_delta_name r.headers || says_true text_delta_name r.headers)
 
--- the change of a node with these entries in its property block; none without a known action, which the load refuses,
+-- the change of a node with these entries in its property block; none without a known action, which the load rejects,
 -- and none of a delta where version 3 isn't in force, which isn't modelled. The load also compares the digests that the
--- node tells of texts, and refuses others; that is taken here, so here more loads than there
+-- node states of texts, and rejects others; here such a node loads, so more loads here than there
 abbrev pub change_of : Patching → DumpRecord → List Property → Option Change
 change_of patched r ps =
     if has_known_action r && not (has_odd_delta r) then Some record {
@@ -97,12 +97,12 @@ change_of patched r ps =
     }
     else None
 
--- whether no zero byte stands in the line; the load cuts a value at one, and refuses a name with one
+-- whether no zero byte is in the line; the load cuts a value at one, and rejects a name with one
 abbrev pub is_plain_line : Header → Bool
 is_plain_line h = not (has_byte 0 h.name) && not (has_byte 0 h.value)
 
--- whether the load reads the node's texts as they stand: no zero byte in its lines and in the names of its properties,
--- and its paths in their short form
+-- whether the load reads the node's texts as they are: no zero byte in its lines and in the names of its properties,
+-- and its paths in canonical form
 abbrev pub has_plain_texts : DumpRecord → List Property → Bool
 has_plain_texts r ps = list_all is_plain_line r.headers
     && list_all (λ (p : Property). not (has_byte 0 p.name)) ps

@@ -1,4 +1,4 @@
--- One change that replaces what stands at its path, in place of two, of which the first deletes it; and a copy that
+-- One change that replaces what is at its path, in place of two, of which the first deletes it; and a copy that
 -- replaces, in place of one made over something. So a node can be written with the action that replaces.
 use Rattle.std.specs.Prelude.{◌≡◌, ℕ, Bool, List, [], ◌∷◌, ◌++◌, Some, is_some, IsTrue, IsFalse}
 use Rattle.dump_rules.specs.Settings.{Settings}
@@ -12,8 +12,8 @@ use Rattle.dump_trees.specs.Expansions.{Expands}
 use Rattle.dump_trees.specs.ExpansionCases.{branch_made, deletion_of, deletions, CoverKept}
 use Rattle.dump_history.specs.WrittenNodes.{replacing}
 
--- where changes lead, among which one deletes what stands at a path, and the next one makes something there, those lead
--- too that have one in their place, which replaces
+-- where changes lead, among which one deletes what is at a path, and the next one makes something there, those lead too
+-- that have one in their place, which replaces
 abbrev pub ReplacingLeads : Type 0
 ReplacingLeads = (settings : Settings) (history : History) (before after : Tree) (front : List Change) (c : Change)
     (changes : List Change) → IsFalse c.deletes
@@ -38,7 +38,7 @@ KeptCopyReplaces = (settings : Settings) (history : History) (before old : Tree)
     → WritesOut settings history c.path made (first ∷ changes)
     → Expands settings history before c (replacing Bool.true first ∷ changes)
 
--- so does what is written out at a path that isn't kept, behind the deletions of the kept paths below
+-- so does what is written out at a path that isn't kept, after the deletions of the kept paths below
 abbrev pub LeftCopyReplaces : Type 0
 LeftCopyReplaces = (settings : Settings) (history : History) (before old : Tree) (c : Change) (number : ℕ)
     (source : NodePath) (branch made : Branch) (first : Change) (changes : List Change) (rests : List NodePath) →
@@ -57,14 +57,14 @@ CopyReplacingLeads = (settings : Settings) (history : History) (before after : T
     → Leads settings history before (front ++ c ∷ changes) after
     → Leads settings history before (front ++ replacing Bool.true c ∷ changes) after
 
--- so a copy over something that stays may be told to replace this
+-- so a copy over something that stays may be written as one that replaces this
 abbrev pub StayingCopyReplaces : Type 0
 StayingCopyReplaces = (settings : Settings) (history : History) (before : Tree) (c : Change) →
     IsTrue (is_some (before c.path)) → IsTrue (is_copied c.made)
     → Expands settings history before c (c ∷ [])
     → Expands settings history before c (replacing Bool.true c ∷ [])
 
--- and one at a path that isn't kept, behind the deletions of the kept paths below
+-- and one at a path that isn't kept, after the deletions of the kept paths below
 abbrev pub LeftStayingCopyReplaces : Type 0
 LeftStayingCopyReplaces = (settings : Settings) (history : History) (before : Tree) (c : Change)
     (rests : List NodePath) → IsTrue (is_some (before c.path)) → IsTrue (is_copied c.made)

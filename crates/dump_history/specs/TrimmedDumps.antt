@@ -1,5 +1,5 @@
--- Dumps whose copies are trimmed: what the filter writes, and behind its nodes deletions of what they take to paths that
--- aren't kept. So a part of a dump is taken in which nothing is written anew.
+-- Dumps whose copies are trimmed: what the filter writes, and after its nodes deletions of what they take to paths that
+-- aren't kept. So a copy of which a part isn't kept stays a copy, and nothing has to be written out in its place.
 use Rattle.std.specs.Prelude.{◌≡◌, ℕ, Bool, true, false, ◌&&◌, ◌==◌, List, [], ◌∷◌, ◌++◌, length, drop, map, Some, slice_get, if◌then◌else◌, MatchBool, IsTrue}
 use Rattle.std.specs.List.{AllZip, list_all}
 use Rattle.dump_records.specs.DumpText.{Ending, HasRecords, line_feeds}
@@ -29,21 +29,22 @@ use Rattle.dump_history.specs.ExpandedDumps.{Stead}
 use Rattle.dump_history.specs.ExpandedText.{AreRecordTexts, IsExpandedText, made_in_stead}
 use Rattle.dump_history.specs.CutDumps.{TreeRestricts, TreeIsCut, LoadsNew, LoadsNumbered}
 
--- what is written behind
+-- what is written after
 
--- the records, and behind each these nodes
+-- the records, and after each these nodes
 abbrev pub records_behind : List DumpRecord → List (List WrittenNode) → List DumpRecord
 records_behind [] behind = []
 records_behind (r ∷ records) [] = []
 records_behind (r ∷ records) (nodes ∷ behind) =
     r ∷ (map (node_record r.place r.version) nodes ++ records_behind records behind)
 
--- whether these nodes may stand behind the record: behind a node nodes that can be written may
+-- whether these nodes may follow the record: only a node is followed by nodes, and these have to be such that can be
+-- written
 abbrev pub may_stand_behind : DumpRecord → List WrittenNode → Bool
 may_stand_behind r [] = true
 may_stand_behind r (w ∷ nodes) = is_node r && list_all can_be_written (w ∷ nodes)
 
--- the text has the records, and behind each these nodes, which may stand there
+-- the text has the records, and after each these nodes, which may be there
 pub record IsTrimmedText (records : List DumpRecord) (behind : List (List WrittenNode)) (text : List ℕ) : Type 0 where
   pub may : AllZip (λ r nodes. IsTrue (may_stand_behind r nodes)) records behind
   pub lfs : ℕ
@@ -51,13 +52,13 @@ pub record IsTrimmedText (records : List DumpRecord) (behind : List (List Writte
   pub spelled : text ≡ line_feeds lfs ++ front
   pub texts : AreRecordTexts (records_behind records behind) front
 
--- what is told of the nodes with which the records begin
+-- the parts of the list that belong to the nodes with which the records begin
 abbrev pub node_parts : List DumpRecord → List (List WrittenNode) → List (List WrittenNode)
 node_parts [] behind = []
 node_parts (r ∷ records) [] = []
 node_parts (r ∷ records) (nodes ∷ behind) = if is_node r then nodes ∷ node_parts records behind else []
 
--- what is told of the nodes of each revision
+-- the same for the nodes of each revision
 abbrev pub part_groups : List DumpRecord → List (List WrittenNode) → List (List (List WrittenNode))
 part_groups [] behind = []
 part_groups (r ∷ records) [] = []
@@ -65,7 +66,7 @@ part_groups (r ∷ records) (nodes ∷ behind) =
     if is_revision_record r then node_parts records behind ∷ part_groups records behind
     else part_groups records behind
 
--- the changes, and behind each those of these nodes
+-- the changes, and after each those of these nodes
 abbrev pub changes_behind : List (List WrittenNode) → List Change → List Change
 changes_behind [] changes = []
 changes_behind (nodes ∷ behind) [] = []
@@ -77,7 +78,7 @@ revisions_with [] revisions = []
 revisions_with (behind ∷ groups) [] = []
 revisions_with (behind ∷ groups) (changes ∷ revisions) = changes_behind behind changes ∷ revisions_with groups revisions
 
--- such a text is a dump, which makes the changes of the records and of the nodes behind them, in revisions that have the
+-- such a text is a dump, which makes the changes of the records and of the nodes after them, in revisions that have the
 -- properties of those of the dump
 abbrev pub TrimmedTextsAreDumps : Type 0
 TrimmedTextsAreDumps = (patched : Patching) (dump text : List ℕ) (records : List DumpRecord)
@@ -90,7 +91,7 @@ TrimmedTextsAreDumps = (patched : Patching) (dump text : List ℕ) (records : Li
 
 -- what has to be deleted
 
--- behind each kept change of a revision stand the deletions of just what it takes to paths that aren't kept
+-- after each kept change of a revision are the deletions of just what it takes to paths that aren't kept
 abbrev pub AreTrimming : Settings → History → Tree → List Change → List (List WrittenNode) → Type 0
 AreTrimming settings history before [] behind = behind ≡ []
 AreTrimming settings history before (c ∷ changes) behind =
@@ -110,7 +111,7 @@ AreAllTrimming settings trees youngest (changes ∷ revisions) groups =
     × ((tree : Tree) → steps (slice_get trees) youngest changes ≡ Some tree
     → AreAllTrimming settings (trees ++ tree ∷ []) tree revisions rest)
 
--- the dump loads into a new repository, and the text is what the filter writes of it, where it answers cleanly, with the
+-- the dump loads into a new repository, and the text is what the filter writes of it, if its answer is clean, with the
 -- deletions of what its copies take to paths that aren't kept
 pub record FiltersTrimmed (patched : Patching) (settings : Settings) (dump : List ℕ) (records : List DumpRecord)
     (revisions : List (List Change)) (trees : List Tree) (text : List ℕ) : Type 0 where
@@ -124,7 +125,7 @@ pub record FiltersTrimmed (patched : Patching) (settings : Settings) (dump : Lis
   pub trimmed : IsTrimmedText again behind text
   pub trims : AreAllTrimming settings (root_alone ∷ []) root_alone revisions (drop 1 (part_groups again behind))
 
--- where prefixes are excluded, and no revision is dropped, emptied or renumbered, the text loads into a new repository,
+-- if prefixes are excluded, and no revision is dropped, emptied or renumbered, the text loads into a new repository,
 -- and has the restricted trees, each under its own number
 abbrev pub TrimmedDumpLoads : Type 0
 TrimmedDumpLoads = (patched : Patching) (settings : Settings) (dump : List ℕ) (records : List DumpRecord)
@@ -133,7 +134,7 @@ TrimmedDumpLoads = (patched : Patching) (settings : Settings) (dump : List ℕ) 
     → settings.side ≡ Exclude → settings.empty ≡ Pad → settings.preserve ≡ true → settings.renumber ≡ false
     → LoadsNumbered patched (TreeRestricts settings records) records trees text
 
--- where the siblings of included paths are excluded, it has the cuts
+-- if the siblings of included paths are excluded, it has the cuts
 abbrev pub TrimmedCutDumpLoads : Type 0
 TrimmedCutDumpLoads = (patched : Patching) (settings : Settings) (included siblings : List NodePath) (dump : List ℕ)
     (records : List DumpRecord) (revisions : List (List Change)) (trees : List Tree) (text : List ℕ) →
@@ -158,7 +159,7 @@ EachBranchIsCutAlike = (path source : NodePath) (branch : Branch) → IsCutAlike
 
 -- a dump that loads, an expanded form of it, and a text that is what the filter writes of that, trimmed. Of the
 -- expansions nothing is asked but that they do the same: they are expansions under options that keep everything. So
--- what is written anew and what is trimmed may stand side by side
+-- what is written out and what is trimmed may be in one dump
 pub record FiltersTrimmedExpansion (patched : Patching) (settings : Settings) (dump : List ℕ) (records : List DumpRecord)
     (revisions : List (List Change)) (trees : List Tree) (again : List DumpRecord) (text : List ℕ) : Type 0 where
   pub has : HasRecords dump records Ending.Whole
@@ -186,7 +187,7 @@ TrimmedExpansionLoads = (patched : Patching) (settings : Settings) (dump : List 
     → settings.side ≡ Exclude → settings.empty ≡ Pad → settings.preserve ≡ true → settings.renumber ≡ false
     → LoadsNumbered patched (TreeRestricts settings again) records trees text
 
--- or their cuts, where the siblings of included paths are excluded
+-- or their cuts, if the siblings of included paths are excluded
 abbrev pub TrimmedCutExpansionLoads : Type 0
 TrimmedCutExpansionLoads = (patched : Patching) (settings : Settings) (included siblings : List NodePath)
     (dump : List ℕ) (records again : List DumpRecord) (revisions : List (List Change)) (trees : List Tree)
@@ -202,7 +203,7 @@ TrimmedCutExpansionLoads = (patched : Patching) (settings : Settings) (included 
 abbrev pub stays_empty : Settings → EmptyRule
 stays_empty settings changes = keeps_empty settings.empty (length changes == 0)
 
--- behind the kept changes of each revision that stays stand the deletions of just what they take to paths that aren't kept
+-- after the kept changes of each revision that stays are the deletions of just what they take to paths that aren't kept
 abbrev pub AreFilteredTrimming : Settings → List Tree → Tree → List (List Change) → List (List (List WrittenNode))
     → Type 0
 AreFilteredTrimming settings trees youngest [] groups = groups ≡ []
@@ -228,7 +229,7 @@ pub record FiltersRenumbered (patched : Patching) (settings : Settings) (dump : 
   pub trimmed : IsTrimmedText again behind text
   pub trims : AreFilteredTrimming settings (root_alone ∷ []) root_alone revisions (drop 1 (part_groups again behind))
 
--- where prefixes are excluded and revisions are renumbered, the text loads into a new repository, and has the restricted
+-- if prefixes are excluded and revisions are renumbered, the text loads into a new repository, and has the restricted
 -- trees at the images of the numbers
 abbrev pub TrimmedDumpLoadsRenumbered : Type 0
 TrimmedDumpLoadsRenumbered = (patched : Patching) (settings : Settings) (dump : List ℕ) (records : List DumpRecord)
@@ -237,7 +238,7 @@ TrimmedDumpLoadsRenumbered = (patched : Patching) (settings : Settings) (dump : 
     → settings.side ≡ Exclude → IsTrue settings.renumber
     → LoadsNew patched settings (TreeRestricts settings records) records trees text
 
--- or their cuts, where the siblings of included paths are excluded
+-- or their cuts, if the siblings of included paths are excluded
 abbrev pub TrimmedCutDumpLoadsRenumbered : Type 0
 TrimmedCutDumpLoadsRenumbered = (patched : Patching) (settings : Settings) (included siblings : List NodePath)
     (dump : List ℕ) (records : List DumpRecord) (revisions : List (List Change)) (trees : List Tree)
@@ -274,7 +275,7 @@ TrimmedExpansionLoadsRenumbered = (patched : Patching) (settings : Settings) (du
     → settings.side ≡ Exclude → IsTrue settings.renumber
     → LoadsNew patched settings (TreeRestricts settings again) again trees text
 
--- or their cuts, where the siblings of included paths are excluded
+-- or their cuts, if the siblings of included paths are excluded
 abbrev pub TrimmedCutExpansionLoadsRenumbered : Type 0
 TrimmedCutExpansionLoadsRenumbered = (patched : Patching) (settings : Settings) (included siblings : List NodePath)
     (dump : List ℕ) (records again : List DumpRecord) (revisions : List (List Change)) (trees : List Tree)

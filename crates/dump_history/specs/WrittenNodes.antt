@@ -1,5 +1,5 @@
--- The nodes that an expanded dump has in place of others: deletions, copies, and folders and files that are told as a
--- whole. Which lines a node has, and what follows them (Subversion, notes/dump-load-format.txt).
+-- The nodes that an expanded dump has in place of others: deletions, copies, and directories and files that are written
+-- as a whole. Which lines a node has, and what follows them (Subversion, notes/dump-load-format.txt).
 use Rattle.std.specs.Prelude.{ℕ, ◌+◌, ◌<◌, ◌^◌, Bool, true, false, not, ◌&&◌, nat_lt, List, [], ◌∷◌, ◌++◌, length, Option, Some, None, codes, IsTrue}
 use Rattle.std.specs.List.{list_all}
 use Rattle.dump_text.specs.Names.{path_name, node_kind_name, action_name, copy_revision_name, copy_path_name, property_length_name, text_length_name, content_length_name, md5_name, sha1_name}
@@ -14,18 +14,18 @@ use Rattle.dump_trees.specs.WritingOut.{copy_of, folder_of, file_of}
 use Rattle.dump_trees.specs.ExpansionCases.{deletion_of}
 use Rattle.dump_history.specs.RecordChanges.{Patching, MakesChange}
 
--- what kind of thing a copy is told to be; a load doesn't ask
+-- what kind of node a copy says that it is; a load does not look at it
 pub data NodeKind : Type 0 where
   Dir : NodeKind
   File : NodeKind
 
--- a node that is written; paths are told as their texts
+-- a node that is written; paths are given by their texts
 pub data WrittenNode : Type 0 where
-  -- what stands at the path is deleted
+  -- what is at the path is deleted
   Deletion : (path : List ℕ) → WrittenNode
   -- the source, as it is in the revision of this number, is copied to the path
   Copy : (kind : NodeKind) → (number : ℕ) → (source : List ℕ) → (path : List ℕ) → WrittenNode
-  -- a folder with the properties of these entries; it replaces what stands at the path, or nothing stands there
+  -- a directory with the properties of these entries; it replaces what is at the path, or nothing is there
   Folder : (replaces : Bool) → (path : List ℕ) → (entries : List Property) → WrittenNode
   -- so a file with this text too, perhaps with digests of it
   File : (replaces : Bool) → (path : List ℕ) → (entries : List Property) → (text : List ℕ)
@@ -51,7 +51,7 @@ abbrev pub kind_word : NodeKind → List ℕ
 kind_word NodeKind.Dir = codes "dir"
 kind_word NodeKind.File = codes "file"
 
--- the word for what makes something, and replaces what stands there or not
+-- the word for what makes something, and replaces what is there or not
 abbrev pub making_word : Bool → List ℕ
 making_word true = codes "replace"
 making_word false = codes "add"
@@ -115,7 +115,7 @@ node_bytes w = block_text (node_lines w) ++ node_props w ++ node_text w
 
 -- what it means
 
--- the change, which deletes first what stands at its path where this says so
+-- the change, which deletes first what is at its path where this says so
 abbrev pub replacing : Bool → Change → Change
 replacing replaces c = record {
   path = c.path;
@@ -135,7 +135,7 @@ written_change (WrittenNode.File replaces path entries text md5 sha1) =
 
 -- which of them can be written
 
--- whether the text can be a value that the load reads as it stands: it has no LF and no zero byte
+-- whether the text can be a value that the load reads as it is: it has no LF and no zero byte
 abbrev pub is_plain_value : List ℕ → Bool
 is_plain_value text = not (has_byte 10 text) && not (has_byte 0 text)
 
@@ -171,7 +171,7 @@ can_be_written (WrittenNode.File replaces path entries text md5 sha1) =
 
 -- laws
 
--- wherever such a node stands behind the first record of a dump, it is one record of it, which breaks no rule
+-- wherever such a node is after the first record of a dump, it is one record of it, which breaks no rule
 abbrev pub WrittenNodesAreRecords : Type 0
 WrittenNodesAreRecords = (w : WrittenNode) (number place version : ℕ) (after : List ℕ) →
     IsTrue (can_be_written w) → 0 < number

@@ -13,8 +13,8 @@ ghost use Rattle.dump_history.specs.SurveyLaws.{AlarmsAreExact, DumpFindingsAreO
 ghost use Rattle.dump_history.specs.TrimmedDumps.{EachBranchIsCutAlike, EachChangeStays, KeepsEachPath, TrimmedCutDumpLoads, TrimmedCutDumpLoadsRenumbered, TrimmedCutExpansionLoads, TrimmedCutExpansionLoadsRenumbered, TrimmedDumpLoads, TrimmedDumpLoadsRenumbered, TrimmedExpansionLoads, TrimmedExpansionLoadsRenumbered, TrimmedTextsAreDumps};
 ghost use Rattle.dump_history.specs.WrittenNodes.{WrittenNodesAreRecords, WrittenNodesMakeChanges};
 
-/// What the filter writes of a dump without a fault, loaded over the given folders, has the trees that the whole dump
-/// has, restricted to the kept paths, where the filter's cut separates its changes.
+/// What the filter writes of a dump without a fault, loaded over the parent directories, has the trees that the whole
+/// dump has, restricted to the kept paths, if its changes are separated.
 pub fn each_filtered_dump_restricts()
     ensures { FilteredDumpRestricts }
 {}
@@ -24,33 +24,33 @@ pub fn each_quiet_dump_restricts()
     ensures { QuietDumpRestricts }
 {}
 
-/// The first revisions of a dump have the law, also where one behind them is refused or isn't separated.
+/// The first revisions of a dump have the law, also where one after them is rejected or isn't separated.
 pub fn each_filtered_front_restricts()
     ensures separated { FilteredDumpFrontRestricts }
     ensures quiet { QuietDumpFrontRestricts }
 {}
 
-/// Loaded behind the given folders, as an administrator makes them in a revision of their own, what the filter writes
-/// has the restricted trees, each one revision later, and the numbers in mergeinfo are higher by one.
+/// Loaded after the parent directories, as an administrator makes them in a revision of their own, what the filter
+/// writes has the restricted trees, each one revision later, and the numbers in mergeinfo are higher by one.
 pub fn each_dump_restricts_behind_folders()
     ensures separated { FilteredDumpRestrictsBehindFolders }
     ensures quiet { QuietDumpRestrictsBehindFolders }
 {}
 
-/// A part of a history, which begins above revision 0, has the law too: loaded over the given folders, or behind them.
+/// A partial dump, which begins above revision 0, has the law too: loaded over the parent directories, or after them.
 pub fn each_part_restricts()
     ensures separated { FilteredPartRestricts }
     ensures quiet { QuietPartRestricts }
 {}
 
-/// A dump has one list of records, revisions and trees, be there a gap in its numbers or not.
+/// A dump has one list of records, revisions and trees, with or without gaps in its numbers.
 pub fn each_dump_loads_once()
     ensures once { DumpLoadsOnce }
     ensures dump { NoGapIsNeeded }
     ensures part { NoGapIsNeededInPart }
 {}
 
-/// Behind older revisions a dump that sets no mergeinfo makes the trees that it makes in a new repository; its changes
+/// After older revisions a dump that sets no mergeinfo makes the trees that it makes in a new repository; its changes
 /// are those that a load makes of them there.
 pub fn each_dump_loads_the_same_behind_others()
     ensures same { DumpLoadsTheSameBehindOthers }
@@ -58,7 +58,7 @@ pub fn each_dump_loads_the_same_behind_others()
 {}
 
 /// What a survey finds in a node is one list, and it is exact: a node without an obstacle makes a change, and no other
-/// node does; the change is quiet exactly where there is no alarm.
+/// node does; the change is quiet exactly if there is no alarm.
 pub fn each_finding_is_exact()
     ensures once { FindingsAreOnce }
     ensures whole { DumpFindingsAreOnce }
@@ -66,14 +66,14 @@ pub fn each_finding_is_exact()
     ensures alarms { AlarmsAreExact }
 {}
 
-/// Where a survey finds nothing that matters, a dump makes revisions, and the law of filtered dumps holds, of the whole
+/// If a survey finds nothing that matters, a dump makes revisions, and the law of filtered dumps holds, of the whole
 /// dump or of its first revisions.
 pub fn each_surveyed_dump_restricts()
     ensures whole { SurveyedDumpRestricts }
     ensures front { SurveyedDumpFrontRestricts }
 {}
 
-/// The nodes that stand in an expanded dump in place of others are records of it, and each makes the change that it is
+/// The nodes that are in an expanded dump in place of others are records of it, and each makes the change that it is
 /// written for.
 pub fn written_nodes_make_changes()
     ensures records { WrittenNodesAreRecords }
@@ -81,7 +81,7 @@ pub fn written_nodes_make_changes()
 {}
 
 /// What is written in place of the records of a dump is a dump, whose records are an expanded form of them. So what the
-/// filter writes of it has the restricted trees of the dump, and where no source is lost it misses none.
+/// filter writes of it has the restricted trees of the dump, and if no source is lost it misses none.
 pub fn each_expansion_is_a_dump()
     ensures dump { ExpansionsAreDumps }
     ensures restricts { FilteredTextsRestrict }
@@ -89,7 +89,7 @@ pub fn each_expansion_is_a_dump()
 {}
 
 /// The expanded form of a dump loads to the dump's trees, and what the filter writes of it has these trees, restricted,
-/// whatever the dump's changes are; where it loses no source of a copy the filter misses none.
+/// whatever the dump's changes are; if it loses no source of a copy the filter misses none.
 pub fn each_expanded_dump_restricts()
     ensures loads { ExpandedDumpLoads }
     ensures filtered { FilteredExpansionRestricts }
@@ -97,7 +97,7 @@ pub fn each_expanded_dump_restricts()
     ensures sources { NoSourceIsMissed }
 {}
 
-/// So it is with a part of a history, which begins above revision 0.
+/// The same holds of a partial dump, which begins above revision 0.
 pub fn each_expanded_part_restricts()
     ensures loads { ExpandedPartLoads }
     ensures filtered { FilteredExpandedPartRestricts }
@@ -106,8 +106,8 @@ pub fn each_expanded_part_restricts()
     ensures first { FirstPartExpansionsAreParts }
 {}
 
-/// An expanded form can be written record by record: its text, what stands in place of the nodes of each revision, and
-/// the expansions of their changes grow.
+/// An expanded form can be written record by record: its text, what is in place of the nodes of each revision, and the
+/// expansions of their changes grow.
 pub fn each_expansion_grows()
     ensures begin { ExpandedTextsBegin }
     ensures text { ExpandedTextsGrow }
@@ -119,7 +119,7 @@ pub fn each_expansion_grows()
     ensures places { PlacesAreLoaded }
 {}
 
-/// One change that replaces may be made in place of a deletion and a change behind it; so what is written out over
+/// One change that replaces may be made in place of a deletion and a change after it; so what is written out over
 /// something begins with one. And it may be made in place of a copy over something, which stays but for this.
 pub fn replacing_is_deleting_first()
     ensures leads { ReplacingLeads }
@@ -131,10 +131,10 @@ pub fn replacing_is_deleting_first()
     ensures left_stays { LeftStayingCopyReplaces }
 {}
 
-/// What is filtered of a dump's expanded form by excluded prefixes loads into a new repository, where revisions are
-/// renumbered or none is dropped; no more is asked of the dump than that it loads. Where the siblings of included paths
-/// are excluded, it has the cuts of the dump's trees; and where they leave out each path outside the cut that is named, its
-/// mergeinfo has the lines of the sources in the cut.
+/// What is filtered of a dump's expanded form by excluded prefixes loads into a new repository, if revisions are
+/// renumbered or none is dropped; the dump only has to load. If the siblings of included paths are excluded, it has the
+/// cuts of the dump's trees; and if they exclude each named path outside the cut, its mergeinfo has the lines of the
+/// sources in the cut.
 pub fn each_cut_dump_loads()
     ensures numbers { NumbersAreKept }
     ensures names { LoadedDumpsHaveNames }
@@ -145,8 +145,8 @@ pub fn each_cut_dump_loads()
     ensures mergeinfo { CutMergeinfoStays }
 {}
 
-/// Where the siblings cover the paths that the lines of mergeinfo name too, and these are in short form, each such line in
-/// the trees stays exactly where its path is in the cut.
+/// If the siblings cover the paths that the lines of mergeinfo name too, and these are canonical, each such line in the
+/// trees stays exactly if its path is in the cut.
 pub fn cut_dumps_have_cut_lines()
     ensures named { LoadedLinesAreNamed }
     ensures trees { CutTreesHaveCutLines }
@@ -154,7 +154,7 @@ pub fn cut_dumps_have_cut_lines()
     ensures cut_numbered { CutDumpLoadsNumberedWithLines }
 {}
 
-/// Where nothing comes back, kept changes alone have made each text in what is filtered so; and whatever comes back, its
+/// If nothing comes back, kept changes alone have made each text in what is filtered so; and whatever comes back, its
 /// nodes and their copy sources are at kept paths alone.
 pub fn texts_in_cut_dumps_are_kept()
     ensures excluded { WrittenTextsAreKept }
@@ -162,8 +162,8 @@ pub fn texts_in_cut_dumps_are_kept()
     ensures paths { FilteredDumpsTellKeptPaths }
 {}
 
-/// Where no more is written in place of a dump's records than is needed, each one whose change the cut takes stays as it
-/// was, each part of a copy that it takes stays a copy, and the same revisions are kept. Where nothing comes back either,
+/// If no more is written in place of a dump's records than is needed, each one whose change the cut takes stays as it
+/// was, each part of a copy that it takes stays a copy, and the same revisions are kept. If nothing comes back either,
 /// all that the changes do which are written comes of kept changes of the dump: each property, each text and each copy,
 /// also where revisions don't show it.
 pub fn needed_expansions_keep_records()
@@ -174,10 +174,10 @@ pub fn needed_expansions_keep_records()
     ensures written { WrittenChangesAreKept }
 {}
 
-/// What the filter writes by excluded prefixes, with the deletions behind its copies of what they take to paths that
+/// What the filter writes by excluded prefixes, with the deletions after its copies of what they take to paths that
 /// aren't kept, is a dump that loads into a new repository, and has the restricted trees, each under its own number, or
-/// at the images where revisions are renumbered; so has what it writes of an expanded form of which nothing is asked but
-/// that it does the same. Where the siblings of included paths are excluded, it has the cuts.
+/// at the images if revisions are renumbered; so has what it writes of an expanded form of which nothing is asked but
+/// that it does the same. If the siblings of included paths are excluded, it has the cuts.
 pub fn each_trimmed_dump_loads()
     ensures dump { TrimmedTextsAreDumps }
     ensures keeps { KeepsEachPath }

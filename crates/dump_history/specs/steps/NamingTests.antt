@@ -1,4 +1,4 @@
--- Tests of nodes that tell which of them name a revision.
+-- Tests that show which nodes name a revision.
 use Rattle.std.specs.Prelude.{◌↔◌, Bool, false, ◌&&◌, List, [], ◌∷◌, if◌then◌else◌, IsTrue}
 use Rattle.std.specs.List.{list_any}
 use Rattle.dump_records.specs.RecordText.{DumpRecord}
@@ -7,7 +7,7 @@ use Rattle.dump_digest.specs.RecordParts.{is_kept_node}
 use Rattle.dump_filter.specs.Groups.{Group, keeps_group}
 use Rattle.dump_history.specs.NumberGaps.{NamesRevision}
 
--- the test tells which nodes name a revision
+-- the test shows which nodes name a revision
 abbrev pub TellsNaming : (DumpRecord → Bool) → Type 0
 TellsNaming names = (r : DumpRecord) → IsTrue (names r) ↔ NamesRevision r
 
@@ -19,7 +19,7 @@ nodes_name settings names nodes = list_any (λ r. is_kept_node settings r && nam
 abbrev pub groups_name : Settings → (DumpRecord → Bool) → List Group → Bool
 groups_name settings names gs = list_any (λ (g : Group). nodes_name settings names g.nodes) gs
 
--- whether a node behind the first dropped one of them does
+-- whether a node after the first dropped one of them does
 abbrev pub groups_name_behind : Settings → (DumpRecord → Bool) → List Group → Bool
 groups_name_behind settings names [] = false
 groups_name_behind settings names (g ∷ gs) =

@@ -1,4 +1,4 @@
--- Which of a node's values the filter refuses, by their reading.
+-- Which of a node's values the filter rejects, by their reading.
 use Rattle.std.specs.Prelude.{ℕ, Bool, false, not, ◌&&◌, ◌||◌, nat_lt, nat_le, List, [], ◌∷◌, ◌++◌, Option, Some, None}
 use Rattle.std.specs.List.{list_any}
 use Rattle.dump_text.specs.Names.{copy_revision_name}
@@ -18,7 +18,7 @@ use Rattle.dump_history.specs.Findings.{NodeFaults}
 abbrev pub is_unread_value : Property → Bool
 is_unread_value p = is_mergeinfo p && not (value_reads (value_of p))
 
--- whether it is mergeinfo that can be read and names a path that isn't kept, where such lines aren't left out
+-- whether it is mergeinfo that can be read and names a path that isn't kept, unless such lines are omitted
 abbrev pub names_missing_source : Settings → Property → Bool
 names_missing_source settings p = is_mergeinfo p && (value_reads (value_of p) && value_misses settings (value_of p))
 
@@ -37,18 +37,18 @@ abbrev pub is_missing_number : Option ℕ → List ℕ → ℕ → Bool
 is_missing_number None kept present = false
 is_missing_number (Some number) kept present = not (has_up_to number kept) || nat_lt present number
 
--- whether the filter refuses the revision that the node is copied from
+-- whether the filter rejects the revision that the node is copied from
 abbrev pub has_missing_revision : Settings → List ℕ → ℕ → DumpRecord → Bool
 has_missing_revision settings kept present r =
     (settings.renumber && is_kept_node settings r && stays_copy settings r)
     && is_missing_number (header_number copy_revision_name r.headers) kept present
 
--- so of a node that these records stand before
+-- the same of a node that follows these records
 abbrev pub copy_refused : Settings → List DumpRecord → DumpRecord → Bool
 copy_refused settings before r =
     has_missing_revision settings (kept_revisions settings (before ++ r ∷ [])).numbers (present_number before) r
 
--- what is refused of one of a kept node's properties, where the dump begins and has come so far
+-- what is rejected of one of a kept node's properties, where the dump begins and has come so far
 abbrev pub property_faults : Settings → ℕ → ℕ → Property → NodeFaults
 property_faults settings first present p = record {
   copy_revision = false;
@@ -57,7 +57,7 @@ property_faults settings first present p = record {
   outside = names_outside settings first present p;
 }
 
--- what is refused of all of them, and of the copy
+-- what is rejected of all of them, and of the copy
 abbrev pub faults_read : Settings → Bool → ℕ → ℕ → List Property → NodeFaults
 faults_read settings copy first present ps = record {
   copy_revision = copy;
@@ -66,10 +66,10 @@ faults_read settings copy first present ps = record {
   outside = list_any (names_outside settings first present) ps;
 }
 
--- the copy alone is refused, or not
+-- the copy alone is rejected, or not
 abbrev pub copy_faults : Bool → NodeFaults
 copy_faults copy = record { copy_revision = copy; unread = false; missing = false; outside = false }
 
--- nothing is refused
+-- nothing is rejected
 abbrev pub no_node_faults : NodeFaults
 no_node_faults = copy_faults false
