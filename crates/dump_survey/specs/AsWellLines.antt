@@ -20,7 +20,7 @@ as_well_line side path = concat (as_well_words side ∷ shown_path path ∷ code
 abbrev pub as_well_lines : Side → List (List ℕ) → List ℕ
 as_well_lines side paths = flat_map (as_well_line side) paths
 
--- these are the lines of all prefixes to add where this dump is filtered
+-- these are the lines of all prefixes to add if this dump is filtered
 pub record AreAsWellLines (settings : Settings) (dump lines : List ℕ) : Type 0 where
   pub paths : List (List ℕ)
   pub are_kept : AreKeptAsWellIn settings dump paths

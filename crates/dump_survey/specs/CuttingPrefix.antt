@@ -1,4 +1,4 @@
--- The prefix by which a copy is cut otherwise than its source.
+-- The prefix by which a copy is filtered differently from its source.
 use Rattle.std.specs.Prelude.{ℕ, List, Option, None, filter, slice_get}
 use Rattle.dump_records.specs.RecordText.{DumpRecord}
 use Rattle.dump_rules.specs.declared.options.Side.{Side}
@@ -17,7 +17,7 @@ first_cut Include settings path other = None
 first_cut Exclude settings path other =
     slice_get (filter (λ prefix. cuts_one settings (path_of path) (path_of other) prefix) settings.prefixes) 0
 
--- the prefix that is told with a finding in the node, if one is
+-- the prefix that is reported with a finding in the node, if one is
 abbrev pub cutting_prefix : Settings → DumpRecord → Finding → Option (List ℕ)
 cutting_prefix settings r Finding.CopyLoses = first_cut settings.side settings (copy_path r) (node_path r)
 cutting_prefix settings r Finding.CopyLetsIn = first_cut settings.side settings (node_path r) (copy_path r)

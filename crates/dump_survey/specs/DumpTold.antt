@@ -1,4 +1,4 @@
--- What a survey tells of a dump as a whole: each finding, and the first record with which it comes up.
+-- What a survey reports of a dump as a whole: each finding, and the first record that causes it.
 use Rattle.std.specs.Prelude.{◌≡◌, Bool, true, false, List, [], ◌∷◌, ◌++◌, length, map, Contains, Option, Some, None, IsTrue, MatchBool}
 use Rattle.std.specs.List.{AllZip}
 use Rattle.dump_records.specs.RecordText.{DumpRecord}
@@ -9,7 +9,7 @@ use Rattle.dump_survey.specs.declared.places.Place.{Place}
 use Rattle.dump_survey.specs.declared.surveyor.SurveyEnd.{SurveyEnd}
 use Rattle.dump_survey.specs.DumpFindings.{listed_findings}
 
--- a finding, and where the record is with which it comes up, if one is told
+-- a finding, and where the first record is that causes it, if there is one
 pub record DumpTold : Type 0 where
   pub finding : DumpFinding
   pub at : Option Place
@@ -25,11 +25,11 @@ place_in places DumpFinding.SourceBefore = places.source_before
 place_in places DumpFinding.NodeOutside = places.node_outside
 place_in places DumpFinding.NumbersLeft = places.numbers_left
 
--- a finding as it is told at the end, as the program has it
+-- a finding as it is reported at the end, as the program has it
 abbrev pub told_of_dump : SurveyEnd → DumpFinding → DumpTold
 told_of_dump end f = record { finding = f; at = place_in end.places f }
 
--- what is told at the end
+-- what is reported at the end
 abbrev pub told_at_end : SurveyEnd → List DumpTold
 told_at_end end = map (told_of_dump end) (listed_findings end.dump)
 
@@ -38,7 +38,7 @@ abbrev pub IsDumpFinding : Settings → List DumpRecord → DumpFinding → Type
 IsDumpFinding settings records f =
     (found : List DumpFinding) × AreDumpFindingsOf settings records found × Contains found f
 
--- whether the finding comes up with a record; that there is no revision doesn't
+-- whether a record causes the finding; that there is no revision has no such record
 abbrev pub comes_up : DumpFinding → Bool
 comes_up DumpFinding.NoRevision = false
 comes_up _ = true
@@ -48,7 +48,7 @@ abbrev pub IsNeverFound : Settings → List DumpRecord → DumpFinding → Type 
 IsNeverFound settings records f = (front rest : List DumpRecord) → records ≡ front ++ rest →
     ¬ IsDumpFinding settings front f
 
--- with the record there the finding comes up first: it is found with the records up to it, and with no fewer
+-- the record there is the first that causes the finding: it is found with the records up to it, and with no fewer
 pub record ComesUpAt (settings : Settings) (records : List DumpRecord) (f : DumpFinding) (p : Place) : Type 0 where
   pub before : List DumpRecord
   pub r : DumpRecord
@@ -58,7 +58,7 @@ pub record ComesUpAt (settings : Settings) (records : List DumpRecord) (f : Dump
   pub found : IsDumpFinding settings (before ++ r ∷ []) f
   pub is : p ≡ record { number = length before; place = r.place }
 
--- with the record there the finding came up; where none is told, it didn't
+-- the record there caused the finding; if there is none, it isn't found
 abbrev pub CameUp : Settings → List DumpRecord → DumpFinding → Option Place → Type 0
 CameUp settings records f None = IsNeverFound settings records f
 CameUp settings records f (Some p) = ComesUpAt settings records f p
@@ -68,12 +68,12 @@ abbrev pub ArePlaces : Settings → List DumpRecord → DumpPlaces → Type 0
 ArePlaces settings records places =
     (f : DumpFinding) → IsTrue (comes_up f) → CameUp settings records f (place_in places f)
 
--- this is told of the finding
+-- this is reported of the finding
 pub record IsDumpTold (settings : Settings) (records : List DumpRecord) (f : DumpFinding) (t : DumpTold) : Type 0 where
   pub finding : t.finding ≡ f
   pub at : MatchBool (comes_up f) ((p : Place) × (t.at ≡ Some p) × ComesUpAt settings records f p) (t.at ≡ None)
 
--- this is told of the dump with these records: of each finding, in order
+-- this is reported of the dump with these records: of each finding, in order
 abbrev pub AreDumpTold : Settings → List DumpRecord → List DumpTold → Type 0
 AreDumpTold settings records told = (found : List DumpFinding) × AreDumpFindingsOf settings records found
     × AllZip (IsDumpTold settings records) found told

@@ -1,5 +1,5 @@
--- What to keep as well, so that the filter stops at no copy: under include the sources of copies, which are to be included
--- too; under exclude copies, which are to be excluded too.
+-- The prefixes to add so that the filter stops at no copy: under include the sources of copies, which are to be
+-- included too; under exclude copies, which are to be excluded too.
 use Rattle.std.specs.Prelude.{◌≡◌, ℕ, Bool, true, not, ◌&&◌, List, [], ◌∷◌, ◌++◌, bytes_eq, if◌then◌else◌, IsTrue, IsFalse, ⊤}
 use Rattle.std.specs.List.{list_any}
 use Rattle.dump_records.specs.RecordText.{DumpRecord}
@@ -16,7 +16,7 @@ use Rattle.dump_history.specs.Findings.{lacks_source}
 abbrev pub with_prefixes : Settings → List (List ℕ) → Settings
 with_prefixes settings paths = record settings { prefixes = settings.prefixes ++ paths }
 
--- whether the filter stops at the record for want of its copy source
+-- whether the filter stops at the record because its copy source is excluded
 abbrev pub stops_at : Settings → DumpRecord → Bool
 stops_at settings r = is_node r && lacks_source settings r
 
@@ -25,16 +25,16 @@ abbrev pub wanted_path : Side → DumpRecord → List ℕ
 wanted_path Include r = copy_path r
 wanted_path Exclude r = node_path r
 
--- whether the path, as a prefix, matches itself; one with two slashes at its front, which is not in its short form, doesn't
+-- whether the path, as a prefix, matches itself; one with two leading slashes, which is not canonical, doesn't
 abbrev pub matches_itself : List ℕ → Bool
 matches_itself path = matches_path path path
 
--- whether the filter stops at a copy for want of this path
+-- whether the filter stops at a copy that needs this path as a prefix
 abbrev pub is_wanted : Settings → List DumpRecord → List ℕ → Bool
 is_wanted settings records path =
     list_any (λ r. stops_at settings r && bytes_eq (wanted_path settings.side r) path) records
 
--- each of the paths is wanted where the ones before it are prefixes too, and matches itself
+-- each of the paths is needed if the ones before it are prefixes too, and matches itself
 abbrev pub AreWanted : Settings → List DumpRecord → List (List ℕ) → List (List ℕ) → Type 0
 AreWanted settings records before [] = ⊤
 AreWanted settings records before (path ∷ paths) =
@@ -45,7 +45,7 @@ AreWanted settings records before (path ∷ paths) =
 abbrev pub covers : List ℕ → List ℕ → Bool
 covers other prefix = begins_path (bare_prefix other) (bare_prefix prefix)
 
--- those of the paths that none behind them covers
+-- those of the paths that no later one covers
 abbrev pub uncovered : List (List ℕ) → List (List ℕ)
 uncovered [] = []
 uncovered (path ∷ paths) =
@@ -63,7 +63,7 @@ abbrev pub stops_somewhere : Settings → List DumpRecord → Bool
 stops_somewhere settings records =
     list_any (λ r. stops_at settings r && matches_itself (wanted_path settings.side r)) records
 
--- these paths are to be kept as well: those that copies want, one after the other, without those below another one; with
+-- these are the prefixes to add: the paths that copies need, one after the other, without those below another one; with
 -- them the filter stops at no copy
 pub record AreKeptAsWell (settings : Settings) (records : List DumpRecord) (paths : List (List ℕ)) : Type 0 where
   pub wanted : List (List ℕ)
@@ -72,7 +72,7 @@ pub record AreKeptAsWell (settings : Settings) (records : List DumpRecord) (path
   pub apart : IsTrue (are_apart paths)
   pub stops_nowhere : IsFalse (stops_somewhere (with_prefixes settings paths) records)
 
--- these paths are to be kept as well where this dump is filtered
+-- these are the prefixes to add if this dump is filtered
 abbrev pub AreKeptAsWellIn : Settings → List ℕ → List (List ℕ) → Type 0
 AreKeptAsWellIn settings dump paths =
     (records : List DumpRecord) × (ending : Ending) × HasRecords dump records ending × AreKeptAsWell settings records paths

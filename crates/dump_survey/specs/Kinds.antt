@@ -28,7 +28,7 @@ finding_place Finding.FolderTakes = 12
 finding_place Finding.FolderBrings = 13
 finding_place Finding.TextComesIn = 14
 
--- how often the finding is told
+-- how often the finding is reported
 abbrev pub times_told : List NodeTold → Finding → ℕ
 times_told told finding = length (filter (λ (t : NodeTold). finding_place t.finding == finding_place finding) told)
 

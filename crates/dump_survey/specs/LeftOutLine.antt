@@ -1,13 +1,13 @@
--- The line that tells how many lines of mergeinfo are dropped, word for word.
+-- The line that says how many lines of mergeinfo are dropped, word for word.
 use Rattle.std.specs.Prelude.{ℕ, ◌==◌, List, [], ◌∷◌, codes, decimal, if◌then◌else◌}
 use Rattle.std.specs.List.{concat}
 
--- what it says behind the number
+-- what it says after the number
 abbrev pub left_out_words : ℕ → List ℕ
 left_out_words count =
     if count == 1 then codes " line of an excluded path\n" else codes " lines of excluded paths\n"
 
--- the line, where any are dropped
+-- the line, if any are dropped
 unfoldable pub left_out_line : ℕ → List ℕ
 left_out_line count =
     if count == 0 then [] else concat (codes "dropped from svn:mergeinfo: " ∷ decimal count ∷ left_out_words count ∷ [])

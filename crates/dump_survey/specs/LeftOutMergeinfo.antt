@@ -1,5 +1,5 @@
--- How many lines of mergeinfo go with --skip-missing-merge-sources: those of paths that aren't kept, which the filter
--- leaves out and tells of none.
+-- How many lines of mergeinfo --skip-missing-merge-sources omits: those of paths that aren't kept. The filter reports
+-- none of them.
 use Rattle.std.specs.Prelude.{◌≡◌, ℕ, not, List, [], map, filter, length, sum, MatchBool, Option, Some, None, unwrap_or}
 use Rattle.std.specs.List.{AllZip}
 use Rattle.dump_text.specs.PropertyList.{Property}
@@ -10,7 +10,7 @@ use Rattle.dump_rules.specs.Mergeinfo.{MergeLine, IsMergeinfo, HasMergeLines}
 use Rattle.dump_digest.specs.RecordParts.{is_kept_node, is_mergeinfo, value_of}
 use Rattle.dump_history.specs.Findings.{IsReadBlock}
 
--- the value is these lines; none are said where it isn't mergeinfo
+-- the value is these lines; none if it isn't mergeinfo
 abbrev pub IsReadValue : List ℕ → Option (List MergeLine) → Type 0
 IsReadValue value None = ¬ HasMergeLines value
 IsReadValue value (Some lines) = IsMergeinfo value lines
@@ -19,7 +19,7 @@ IsReadValue value (Some lines) = IsMergeinfo value lines
 abbrev pub leaving_lines : Settings → List MergeLine → List MergeLine
 leaving_lines settings lines = filter (λ (line : MergeLine). not (keeps_path settings line.path)) lines
 
--- so many lines of the value go, none where it can't be read
+-- so many lines of the value are omitted, none if it can't be read
 abbrev pub AreLeftOutOfValue : Settings → List ℕ → ℕ → Type 0
 AreLeftOutOfValue settings value count = (lines : Option (List MergeLine)) × IsReadValue value lines
     × (count ≡ length (leaving_lines settings (unwrap_or lines [])))
@@ -28,16 +28,16 @@ AreLeftOutOfValue settings value count = (lines : Option (List MergeLine)) × Is
 abbrev pub AddUpTo : {X : Type 0} → (X → ℕ → Type 0) → List X → ℕ → Type 0
 AddUpTo HasCount xs total = (counts : List ℕ) × AllZip HasCount xs counts × (total ≡ sum counts)
 
--- the values of mergeinfo among the properties; the name may stand more than once
+-- the values of mergeinfo among the properties; the name may occur more than once
 abbrev pub mergeinfo_values : List Property → List (List ℕ)
 mergeinfo_values ps = map value_of (filter is_mergeinfo ps)
 
--- so many lines of the record's mergeinfo go, none where its property block can't be read
+-- so many lines of the record's mergeinfo are omitted, none if its property block can't be read
 abbrev pub AreLeftOutOfProperties : Settings → DumpRecord → ℕ → Type 0
 AreLeftOutOfProperties settings r count = (ps : Option (List Property)) × IsReadBlock r ps
     × AddUpTo (AreLeftOutOfValue settings) (mergeinfo_values (unwrap_or ps [])) count
 
--- so many lines go with the record, none where it isn't a kept node
+-- so many lines are omitted with the record, none if it isn't a kept node
 abbrev pub AreLeftOutOf : Settings → DumpRecord → ℕ → Type 0
 AreLeftOutOf settings r count =
     MatchBool (is_kept_node settings r) (AreLeftOutOfProperties settings r count) (count ≡ 0)
@@ -47,7 +47,7 @@ abbrev pub AreLeftOutOfRecords : Settings → List ℕ → ℕ → Type 0
 AreLeftOutOfRecords settings dump count = (records : List DumpRecord) × (ending : Ending)
     × HasRecords dump records ending × AddUpTo (AreLeftOutOf settings) records count
 
--- so many lines go where the dump is filtered; without the option none do, since the filter stops at the first
+-- so many lines are omitted if the dump is filtered; without the option none are, since the filter stops at the first
 abbrev pub AreLeftOutIn : Settings → List ℕ → ℕ → Type 0
 AreLeftOutIn settings dump count =
     MatchBool settings.skip_missing (AreLeftOutOfRecords settings dump count) (count ≡ 0)

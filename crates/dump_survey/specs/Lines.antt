@@ -21,7 +21,7 @@ unfoldable pub shown_byte : ℕ → List ℕ
 shown_byte b =
     if nat_lt b 32 || b == 127 then 92 ∷ 120 ∷ small_digit (b / 16) ∷ small_digit (b % 16) ∷ [] else b ∷ []
 
--- a path as it is shown, with a slash at its front, be there one in the dump or not
+-- a path as it is shown, with a leading slash, whether or not the dump has one
 unfoldable pub shown_path : List ℕ → List ℕ
 shown_path path = 47 ∷ flat_map shown_byte (bare_path path)
 
@@ -42,7 +42,7 @@ unfoldable pub source_text : NodeTold → List ℕ
 source_text t = concat (codes ", copied from " ∷ shown_path t.copy_path
     ∷ codes "@" ∷ decimal t.copy_revision ∷ [])
 
--- whether a finding's line tells what the node is copied from
+-- whether a finding's line states what the node is copied from
 abbrev pub tells_source : Finding → Bool
 tells_source Finding.NoWholeFile = true
 tells_source Finding.MissingCopyRevision = true
@@ -109,14 +109,14 @@ dump_words DumpFinding.NodeOutside = codes "a node of the dump is outside of a r
 dump_words DumpFinding.NumbersLeft =
     codes "a revision is dropped, and a later copy or svn:mergeinfo names revisions by their old numbers: use --renumber-revs"
 
--- the fault with which the filter stops where this is found, if it does
+-- the fault with which the filter stops if this is found, if it does
 abbrev pub dump_fault : DumpFinding → Option FaultKind
 dump_fault DumpFinding.NumberFalls = Some Order
 dump_fault DumpFinding.UnreadRevision = Some Props
 dump_fault DumpFinding.NodeOutside = Some Order
 dump_fault _ = None
 
--- the line of a finding in the dump as a whole, with the record with which it comes up, if one is told
+-- the line of a finding in the dump as a whole, with the first record that causes it, if it has one
 unfoldable pub dump_line : DumpTold → List ℕ
 dump_line t = concat (dump_words t.finding ∷ fault_and_place (dump_fault t.finding) t.at ∷ codes "\n" ∷ [])
 

@@ -1,5 +1,5 @@
--- What stands behind the findings, word for word: how many lines of mergeinfo are left out, the folders to make before
--- the load, and what to keep as well.
+-- What follows the findings, word for word: how many lines of mergeinfo are dropped, the parent directories to create,
+-- and the prefixes to add.
 use Rattle.std.specs.Prelude.{◌≡◌, ℕ, ◌⊎◌, List, [], ◌∷◌, ◌++◌, flat_map, codes, Option}
 use Rattle.std.specs.List.{concat}
 use Rattle.std.specs.Io.KnownBytes.{Appends}
@@ -11,15 +11,15 @@ use Rattle.dump_survey.specs.LeftOutLine.{left_out_line}
 use Rattle.dump_survey.specs.LeftOutMergeinfo.{AreLeftOutIn}
 use Rattle.dump_survey.specs.Lines.{shown_path}
 
--- the line of a folder to be made
+-- the line of a directory to create
 unfoldable pub folder_line : List ℕ → List ℕ
 folder_line path = concat (codes "create first: " ∷ shown_path path ∷ codes "\n" ∷ [])
 
--- one line for each of the folders
+-- one line for each of the directories
 abbrev pub folder_lines : List (List ℕ) → List ℕ
 folder_lines folders = flat_map folder_line folders
 
--- these are the lines behind the findings where this dump is filtered
+-- these are the lines after the findings if this dump is filtered
 pub record AreLinesBehind (settings : Settings) (dump lines : List ℕ) : Type 0 where
   pub left_out : ℕ
   pub are_left_out : AreLeftOutIn settings dump left_out
@@ -33,7 +33,7 @@ pub record AreLinesBehind (settings : Settings) (dump lines : List ℕ) : Type 0
 abbrev pub TakesSome : Option (List ℕ) → Option (List ℕ) → List ℕ → Type 0
 TakesSome old new lines = (part : List ℕ) × IsPrefixOf part lines × Appends old new part
 
--- the sink took nothing, or a first part of the lines behind the findings
+-- the sink took nothing, or a first part of the lines after the findings
 abbrev pub TakesSomeBehind : Settings → List ℕ → Option (List ℕ) → Option (List ℕ) → Type 0
 TakesSomeBehind settings dump old new =
     Appends old new [] ⊎ ((lines : List ℕ) × AreLinesBehind settings dump lines × TakesSome old new lines)

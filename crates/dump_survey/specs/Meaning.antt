@@ -1,4 +1,4 @@
--- The words that the program has for findings.
+-- The values that the program has for findings.
 use Rattle.dump_history.specs.Findings.{Finding}
 use Rattle.dump_survey.specs.declared.finding.NodeFinding.{NodeFinding}
 use Rattle.dump_survey.specs.declared.finding.NodeFinding.TheVariants as findings

@@ -11,7 +11,7 @@ use Rattle.dump_survey.specs.declared.prefix_findings.PrefixFinding.{PrefixFindi
 use Rattle.dump_survey.specs.declared.prefix_findings.PrefixFinding.TheVariants.{NotShort, Idle}
 use Rattle.dump_survey.specs.declared.prefix_findings.ToldPrefix.{ToldPrefix}
 
--- whether the prefix is in its short form, as the load makes paths: the slashes at its ends don't count, and no name
+-- whether the prefix is canonical, as `svnadmin load` makes paths: the slashes at its ends don't count, and no name
 -- between them is empty or a dot
 abbrev pub is_short_prefix : List ℕ → Bool
 is_short_prefix prefix = is_short (bare_prefix prefix)
@@ -30,7 +30,7 @@ is_in_copy prefix r =
 abbrev pub is_idle : List DumpRecord → List ℕ → Bool
 is_idle records prefix = not (list_any (λ r. is_matched_by prefix r || is_in_copy prefix r) records)
 
--- what is found in the prefix, if something; of one that isn't in its short form no more is told
+-- what is found in the prefix, if something; of one that isn't canonical nothing else is reported
 abbrev pub prefix_finding : List DumpRecord → List ℕ → Option PrefixFinding
 prefix_finding records prefix =
     if is_short_prefix prefix then (if is_idle records prefix then Some Idle else None) else Some NotShort
@@ -44,11 +44,11 @@ pub record PrefixTold : Type 0 where
 abbrev pub prefix_view : ToldPrefix → PrefixTold
 prefix_view t = record { prefix = t.prefix.now; finding = t.finding }
 
--- what is told of the prefix, if something
+-- what is reported of the prefix, if something
 abbrev pub told_of_prefix : List DumpRecord → List ℕ → Option PrefixTold
 told_of_prefix records prefix =
     option_map (λ finding. record { prefix = prefix; finding = finding }) (prefix_finding records prefix)
 
--- what is told of the prefixes, in their order
+-- what is reported of the prefixes, in their order
 abbrev pub told_prefixes : List DumpRecord → List (List ℕ) → List PrefixTold
 told_prefixes records prefixes = filter_map (told_of_prefix records) prefixes

@@ -6,7 +6,7 @@ use Rattle.dump_survey.specs.declared.prefix_findings.PrefixFinding.TheVariants.
 use Rattle.dump_survey.specs.Lines.{shown_byte}
 use Rattle.dump_survey.specs.PrefixFindings.{PrefixTold}
 
--- what such a line says behind the prefix
+-- what such a line says after the prefix
 abbrev pub prefix_line_words : PrefixFinding → List ℕ
 prefix_line_words NotShort = codes ": not in canonical form, so it matches no path of the loaded repository\n"
 prefix_line_words Idle = codes ": no node has a path at or below it, and none is copied from there or to a path above it\n"

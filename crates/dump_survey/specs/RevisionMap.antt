@@ -19,7 +19,7 @@ map_line settings kept number = concat (codes "r" ∷ decimal number ∷ codes "
 abbrev pub map_lines : Settings → KeptRevisions → List ℕ
 map_lines settings kept = flat_map (map_line settings kept) kept.numbers
 
--- this is the map of the revisions of a dump, up to where its list of records ends
+-- this is the map of the revisions of a dump, up to the end of its list of records
 pub record IsRevisionMap (settings : Settings) (dump text : List ℕ) : Type 0 where
   pub records : List DumpRecord
   pub ending : Ending

@@ -1,4 +1,4 @@
--- What a survey writes: one line for each finding, in the dump's order, and behind them one for each kind.
+-- What a survey writes: one line for each finding, in the dump's order, and after them one for each kind.
 use Rattle.std.specs.Prelude.{◌≡◌, ℕ, Bool, false, not, ◌==◌, List, [], ◌++◌, flat_map, length, map, Option, None}
 use Rattle.std.specs.Io.KnownBytes.{Appends}
 use Rattle.dump_records.specs.RecordText.{DumpRecord}
@@ -12,8 +12,8 @@ use Rattle.dump_survey.specs.Lines.{node_line, dump_line, ending_line}
 use Rattle.dump_survey.specs.PrefixFindings.{told_prefixes}
 use Rattle.dump_survey.specs.PrefixLines.{prefix_lines}
 
--- the lines of what is told of nodes, of the findings of the whole dump, of what is told of prefixes, of what ends the
--- list of records, and of the kinds of all these
+-- the lines of what is reported of nodes, of the findings of the whole dump, of what is reported of prefixes, of what
+-- ends the list of records, and of the kinds of all these
 abbrev pub survey_lines : Settings → List NodeTold → List DumpTold → List DumpRecord → Ending → List ℕ
 survey_lines settings told of_dump records ending = flat_map node_line told
     ++ (flat_map dump_line of_dump

@@ -1,4 +1,4 @@
--- What a survey tells is what is found in the dump's nodes, group by group; and what follows where it tells nothing.
+-- What a survey reports is what is found in the dump's nodes, group by group; and what follows if it reports nothing.
 use Rattle.std.specs.Prelude.{◌≡◌, ℕ, Bool, true, false, not, List, [], ◌∷◌, ◌++◌, map, flat_map, None, is_some, IsTrue}
 use Rattle.std.specs.List.{list_any}
 use Rattle.dump_text.specs.declared.fault.FaultKind.{FaultKind}
@@ -22,7 +22,7 @@ use Rattle.dump_survey.specs.SurveyText.{IsSurveyText}
 abbrev pub all_findings : FindingsByGroup → List Finding
 all_findings found = flat_map (λ fs. flat_map (λ node. node) fs) found
 
--- the findings that are told of a dump's nodes are those of its groups' nodes, in order, and no others
+-- the findings that are reported of a dump's nodes are those of its groups' nodes, in order, and no others
 abbrev pub ToldAreFindings : Type 0
 ToldAreFindings = (settings : Settings) (dump : List ℕ) (records : List DumpRecord) (ending : Ending)
     (told : List NodeTold) → HasRecords dump records ending → AreTold settings [] None records told
@@ -34,24 +34,24 @@ abbrev pub ToldOnce : Type 0
 ToldOnce = (settings : Settings) (records : List DumpRecord) (told others : List NodeTold) →
     AreTold settings [] None records told → AreTold settings [] None records others → others ≡ told
 
--- whether the finding is that a copy is cut otherwise than its source
+-- whether the finding is that a copy is filtered differently from its source
 abbrev pub tells_cut : Finding → Bool
 tells_cut Finding.CopyLoses = true
 tells_cut Finding.CopyLetsIn = true
 tells_cut _ = false
 
--- with each of these a prefix is told that cuts, and with no other finding
+-- with each of these a prefix responsible is reported, and with no other finding
 abbrev pub EachCutNamesPrefix : Type 0
 EachCutNamesPrefix = (settings : Settings) (records : List DumpRecord) (told : List NodeTold) →
     AreTold settings [] None records told
     → map (λ (t : NodeTold). is_some t.prefix) told ≡ map (λ (t : NodeTold). tells_cut t.finding) told
 
--- whether none of the findings that are told is of this kind
+-- whether none of the findings that are reported is of this kind
 abbrev pub none_told : (Finding → Bool) → List NodeTold → Bool
 none_told test told = not (list_any test (map (λ (t : NodeTold). t.finding) told))
 
--- where the filter's answer is clean, and a survey of the dump tells nothing of the whole, and no obstacle and no alarm
--- of its nodes, the dump is restricted
+-- if the filter's answer is clean, and a survey reports nothing of the dump as a whole, and no obstacle and no alarm of
+-- its nodes, loading commutes with filtering
 abbrev pub SilentSurveyRestricts : Type 0
 SilentSurveyRestricts = (patched : Patching) (settings : Settings) (dump text : List ℕ) (records : List DumpRecord)
     (survey : Survey) →
@@ -61,7 +61,7 @@ SilentSurveyRestricts = (patched : Patching) (settings : Settings) (dump text : 
     → IsTrue (none_told is_alarm (map told_view survey.told.items))
     → DumpRestricts patched settings records text
 
--- so it is where the text of a survey says that nothing is found
+-- the same holds if the text of a survey says that nothing is found
 abbrev pub SilentTextRestricts : Type 0
 SilentTextRestricts = (patched : Patching) (settings : Settings) (dump text said : List ℕ) (records : List DumpRecord) →
     IsCleanText settings dump records text → LengthsFit settings records → IsSurveyText settings dump said false
@@ -73,7 +73,7 @@ is_digest_fault Md5 = true
 is_digest_fault Sha1 = true
 is_digest_fault _ = false
 
--- where the text of a survey says that nothing is found, the dump is records to its end, of which none has a fault but
+-- if the text of a survey says that nothing is found, the dump is records to its end, of which none has a fault but
 -- that of a digest
 abbrev pub SilentTextLeavesDigests : Type 0
 SilentTextLeavesDigests = (settings : Settings) (dump said : List ℕ) → IsSurveyText settings dump said false →

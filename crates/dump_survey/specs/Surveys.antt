@@ -1,5 +1,5 @@
--- The survey of a dump: what is found in its nodes, in the dump as a whole and in the prefixes, up to where its list of
--- records ends.
+-- The survey of a dump: what is found in its nodes, in the dump as a whole and in the prefixes, up to the end of its
+-- list of records.
 use Rattle.std.specs.Prelude.{◌≡◌, ℕ, List, [], map, None}
 use Rattle.dump_records.specs.RecordText.{DumpRecord}
 use Rattle.dump_records.specs.DumpText.{HasRecords}
@@ -10,7 +10,7 @@ use Rattle.dump_survey.specs.PrefixFindings.{prefix_view, told_prefixes}
 use Rattle.dump_survey.specs.SurveyEnds.{survey_ending}
 use Rattle.dump_survey.specs.Told.{told_view, AreTold}
 
--- this is told of the dump's nodes, these are its records, and this is the survey
+-- this is reported of the dump's nodes, these are its records, and this is the survey
 pub record IsSurveyOf (settings : Settings) (dump : List ℕ) (survey : Survey) : Type 0 where
   pub records : List DumpRecord
   pub has : HasRecords dump records (survey_ending survey.end.end)

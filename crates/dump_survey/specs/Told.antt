@@ -1,4 +1,4 @@
--- What a survey tells of a dump: each finding in a node of a revision, in order, and where it is.
+-- What a survey reports of a dump: each finding in a node of a revision, in order, and where it is.
 use Rattle.std.specs.Prelude.{◌≡◌, ℕ, List, [], ◌∷◌, ◌++◌, length, map, Option, Some, None, option_copied, if◌then◌else◌, MatchBool}
 use Rattle.dump_records.specs.RecordText.{DumpRecord}
 use Rattle.dump_rules.specs.Settings.{Settings}
@@ -10,8 +10,9 @@ use Rattle.dump_survey.specs.CuttingPrefix.{cutting_prefix}
 use Rattle.dump_survey.specs.Meaning.{meaning}
 use Rattle.dump_survey.specs.declared.told.Told.{Told}
 
--- a finding in a node: the record's number and place, the number of the revision that it belongs to, its path, what it is
--- copied from, no bytes and 0 where it is no copy, and the first prefix by which the copy is cut otherwise than its source
+-- a finding in a node: the record's number and place, the number of the revision that it belongs to, its path, what it
+-- is copied from, no bytes and 0 if it is no copy, and the first prefix by which the copy is filtered differently from
+-- its source
 pub record NodeTold : Type 0 where
   pub finding : Finding
   pub number : ℕ
@@ -53,23 +54,23 @@ abbrev pub told_in : Settings → ℕ → ℕ → DumpRecord → Finding → Nod
 told_in settings number revision r finding =
     told_naming (cutting_prefix settings r finding) number revision r finding
 
--- the revision that a node belongs to which comes next, if there is one: behind a revision it is that one, and behind a
+-- the revision that a node belongs to which comes next, if there is one: after a revision it is that one, and after a
 -- node that node's
 abbrev pub present_after : Option ℕ → DumpRecord → Option ℕ
 present_after present r = if is_revision_record r then Some (revision_number r) else if is_node r then present else None
 
--- this is told of a node of this revision behind these records
+-- this is reported of a node of this revision after these records
 abbrev pub IsToldOfNode : Settings → List DumpRecord → ℕ → DumpRecord → List NodeTold → Type 0
 IsToldOfNode settings before revision r told = (found : List Finding) × AreFindingsOf settings before r found
     × (told ≡ map (told_in settings (length before) revision r) found)
 
--- this is told of the record behind these, where a node belongs to this revision
+-- this is reported of the record after these, if a node belongs to this revision
 abbrev pub IsToldOf : Settings → List DumpRecord → Option ℕ → DumpRecord → List NodeTold → Type 0
 IsToldOf settings before None r told = told ≡ []
 IsToldOf settings before (Some revision) r told =
     MatchBool (is_node r) (IsToldOfNode settings before revision r told) (told ≡ [])
 
--- this is told of the records behind these
+-- this is reported of the records after these
 abbrev pub AreTold : Settings → List DumpRecord → Option ℕ → List DumpRecord → List NodeTold → Type 0
 AreTold settings before present [] told = told ≡ []
 AreTold settings before present (r ∷ records) told = (this others : List NodeTold) × (told ≡ this ++ others)

@@ -1,4 +1,4 @@
-//! What to keep as well, so that the filter stops at no copy.
+//! The prefixes to add so that the filter stops at no copy.
 ghost use Rattle.std.specs.Prelude.{◌≡◌, IfOk, map};
 ghost use Rattle.dump_survey.specs.KeepAsWell.{AreKeptAsWellIn, uncovered};
 
@@ -9,7 +9,7 @@ use dump_nodes::bare_prefix;
 use dump_rules::{Memory, Options, Side};
 use std::alloc::Global;
 
-/// Those of the paths that none behind them covers, in their order.
+/// Those of the paths that no later one covers, in their order.
 fn uncovered<'a>(alloc: Global, paths: &[&'a [u8]]) -> Result<Vec<&'a [u8]>, Memory>
     ensures { IfOk result (λ top. map (λ path. path.now) top.items ≡ uncovered (map (λ path. path.now) paths.now)) }
 {
@@ -27,13 +27,12 @@ fn uncovered<'a>(alloc: Global, paths: &[&'a [u8]]) -> Result<Vec<&'a [u8]>, Mem
     Ok(top)
 }
 
-/// What to keep as well where a dump is filtered under these options: under include copy sources to be included too,
-/// under exclude copies to be excluded too, so that the filter stops at no copy. A path that begins with two slashes,
-/// which no prefix can name, isn't told.
+/// The prefixes to add if a dump is filtered under these options: under include copy sources to be included too, under
+/// exclude copies to be excluded too, so that the filter stops at no copy. A path that begins with two slashes, which
+/// no prefix can name, isn't among them.
 ///
-/// Takes memory for each copy that can't stand without its source. Copies are gone through until none wants more, under
-/// include from the last one on, since a source is mostly older than its copy: so a chain of copies is gone through
-/// twice.
+/// Takes memory for each copy that needs its source. All copies are looked at until none needs more, under include from
+/// the last one on, since a source is mostly older than its copy: so a chain of copies is settled twice.
 pub fn keep_as_well<'a>(
     alloc: Global,
     dump: &'a [u8],

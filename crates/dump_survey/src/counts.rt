@@ -1,4 +1,4 @@
-//! How often each kind of finding was told of nodes.
+//! How often each kind of finding was reported of nodes.
 ghost use Rattle.std.specs.Prelude.{◌≡◌, ◌+◌, ◌<◌, ◌^◌, if◌then◌else◌};
 ghost use Rattle.dump_history.specs.Findings.{Finding};
 ghost use Rattle.dump_survey.specs.Meaning.{meaning};
@@ -6,7 +6,7 @@ ghost use Rattle.dump_survey.specs.steps.Counts.{AreWithNode, count_in, no_count
 
 use crate::finding::{Found, NodeFinding};
 
-/// How often each kind was told.
+/// How often each kind was reported.
 #[derive(Clone, Copy)]
 pub(crate) struct Counts {
     unread_block: u64,
@@ -58,7 +58,7 @@ impl Counts {
         }
     }
 
-    /// How often the kind was told.
+    /// How often the kind was reported.
     pub(crate) fn of(&self, finding: NodeFinding) -> u64
         ensures { result ≡ count_in self.now (meaning finding) }
     {

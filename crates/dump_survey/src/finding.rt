@@ -14,11 +14,11 @@ use dump_text::FaultKind;
 pub enum NodeFinding {
     /// Its property block can't be read.
     UnreadBlock,
-    /// It says that a part of it is a delta, where format version 3 isn't in force.
+    /// It says that a part of it is a delta, but format version 3 isn't in force.
     Delta,
     /// It has no action, or an unknown one.
     UnknownAction,
-    /// The load reads a text of it otherwise than it stands.
+    /// `svnadmin load` reads one of its texts differently.
     OddText,
     /// The filter stops at it with fault 12.
     NoWholeFile,
@@ -30,21 +30,21 @@ pub enum NodeFinding {
     MissingMergeSource,
     /// The filter stops at it with fault 16: its mergeinfo names a revision outside of the dump.
     MissingMergeRevision,
-    /// The properties of its left-out source may be lost.
+    /// The properties of its excluded source may be lost.
     PropertiesLost,
-    /// A copy of a kept path may lack what is left out below that path.
+    /// A copy of a kept path may lack what is excluded below that path.
     CopyLoses,
-    /// A copy of a kept path may let in what is to be left out below the copy.
+    /// A copy of a kept path may bring back what is excluded below the copy.
     CopyLetsIn,
-    /// A left-out folder is deleted, and may take with it what is kept below it.
+    /// An excluded directory is deleted, and what is included below it may stay.
     FolderTakes,
-    /// A left-out folder is a copy, and may bring what is kept below it.
+    /// An excluded directory is a copy, and what is included below it may be missing.
     FolderBrings,
-    /// A kept file is a copy of a left-out one, whose text comes in with it.
+    /// A kept file is a copy of an excluded one, and has its text.
     TextComesIn,
 }
 
-/// Each of them, in the order in which they are told.
+/// Each of them, in the order in which they are reported.
 pub const EVERY_FINDING: [NodeFinding; 15] = [
     NodeFinding::UnreadBlock,
     NodeFinding::Delta,
@@ -79,7 +79,7 @@ impl NodeFinding {
     }
 }
 
-/// What keeps a node from making a change that can be told.
+/// What keeps a node from making a change that the definitions describe.
 #[derive(Clone, Copy, Debug, PartialEq, Eq)]
 pub(crate) struct Obstacles {
     pub(crate) unread_block: bool,
@@ -95,7 +95,7 @@ pub(crate) struct Losses<'o> {
     pub(crate) properties_lost: bool,
     /// The first prefix by which a copy lacks something.
     pub(crate) copy_loses: Option<&'o [u8]>,
-    /// The first prefix by which a copy lets something in.
+    /// The first prefix by which a copy brings something back.
     pub(crate) copy_lets_in: Option<&'o [u8]>,
     pub(crate) folder_takes: bool,
     pub(crate) folder_brings: bool,
@@ -169,7 +169,7 @@ impl<'o> Found<'o> {
             | losses.text_comes_in
     }
 
-    /// The prefix that is told with this, if one is.
+    /// The prefix that is reported with this, if one is.
     pub(crate) fn prefix(&self, finding: NodeFinding) -> Option<&'o [u8]>
         ensures { option_copied result ≡ found_prefix self.now (meaning finding) }
     {

@@ -1,4 +1,4 @@
-//! The folders to make before the load.
+//! The parent directories to create before loading.
 ghost use Rattle.std.specs.Prelude.{◌≡◌, [], IfOk, OnOk, filter, flat_map, map, not};
 ghost use Rattle.dump_rules.specs.Settings.{keeps_path};
 ghost use Rattle.dump_survey.specs.Folders.{AreFoldersToMake, each_once, fronts, with_new};
@@ -9,7 +9,7 @@ use std::alloc::Global;
 use std::collections::BTreeSet;
 use std::marker::Model;
 
-/// Folders, each once, in the order in which they came.
+/// Directories, each once, in the order in which they came.
 #[derive(Drop)]
 struct Folders<'o> {
     paths: Vec<&'o [u8]>,
@@ -28,7 +28,7 @@ impl<'o> Model for Folders<'o> {
 }
 
 impl<'o> Folders<'o> {
-    /// No folder.
+    /// No directory.
     fn new(alloc: Global) -> Folders<'o>
         ensures { result ≡ [] }
     {
@@ -38,7 +38,7 @@ impl<'o> Folders<'o> {
         }
     }
 
-    /// Adds a folder, if it isn't there.
+    /// Adds a directory, if it isn't there.
     fn add(&mut self, alloc: Global, path: &'o [u8]) -> Result<(), Memory>
         ensures { OnOk result (self.new ≡ with_new self.old path.now) }
     {
@@ -88,8 +88,8 @@ fn left_above<'o>(
     Ok(folders.paths)
 }
 
-/// The folders to make before what is filtered under these options is loaded: under include those above the prefixes
-/// that aren't kept themselves, each behind the one that it stands in; under exclude none.
+/// The directories to create before what is filtered under these options is loaded: under include those above the
+/// prefixes that aren't kept themselves, each after its parent; under exclude none.
 pub fn folders_to_make<'o>(alloc: Global, options: &'o Options) -> Result<Vec<&'o [u8]>, Memory>
     ensures { IfOk result (λ paths. AreFoldersToMake options.now (map (λ path. path.now) paths.items)) }
 {

@@ -79,7 +79,7 @@ impl<'o, 'a> Growth<'o, 'a> {
         added
     }
 
-    /// Adds what is wanted, need by need, and tells whether anything was.
+    /// Adds what is needed, need by need, and returns whether anything was.
     fn pass(&mut self, alloc: Global, needs: &[Need<'a>]) -> Result<bool, Memory>
         requires { IsTrue (each_matches_itself (map need_view needs.now)) }
         ensures { IfOk result (λ grew. IsPass (map need_view needs.now) self.old self.new grew) }
@@ -97,8 +97,8 @@ impl<'o, 'a> Growth<'o, 'a> {
     }
 }
 
-/// The paths that have to be prefixes too, so that no need is open, each behind those that make it so. They come in the
-/// order of the needs, and again from the first one where a need was met too late.
+/// The paths that have to be prefixes too, so that each need is met, each after those that make it necessary. They come
+/// in the order of the needs, and again from the first one if a need was met too late.
 pub(crate) fn wanted_paths<'a>(
     alloc: Global,
     options: &Options,

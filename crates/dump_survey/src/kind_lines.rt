@@ -152,7 +152,7 @@ fn push_kind_line(lines: &mut Vec<u8>, times: u64, kind: &Kind) -> Result<(), Me
     Ok(lines.push(b'\n')?)
 }
 
-/// Adds the lines of these kinds, so far as they were told of nodes.
+/// Adds the lines of these kinds, as far as they were reported of nodes.
 fn push_node_kinds(
     lines: &mut Vec<u8>,
     counts: &Counts,

@@ -1,4 +1,4 @@
-//! The lines of mergeinfo that the filter leaves out.
+//! The lines of mergeinfo that the filter omits.
 ghost use Rattle.std.specs.Prelude.{◌≡◌, List};
 ghost use Rattle.dump_text.specs.PropertyList.{IsPropertyBlock, Property};
 ghost use Rattle.dump_text.specs.steps.PropertyViews.{entry_property, props_bytes};
@@ -42,7 +42,7 @@ fn without_lf(value: &[u8]) -> &[u8]
     value.strip_suffix(b"\n").unwrap_or(value)
 }
 
-/// How many lines of a value are left out, none where it can't be read.
+/// How many lines of a value are omitted, none if it can't be read.
 fn value_left_out(value: &[u8], options: &Options) -> usize
     ensures { result ≡ value_count options.now value.now }
 {
@@ -53,7 +53,7 @@ fn value_left_out(value: &[u8], options: &Options) -> usize
     }
 }
 
-/// How many lines of a property are left out.
+/// How many lines of a property are omitted.
 fn entry_left_out(entry: &Entry<'_>, options: &Options) -> usize
     ensures { result ≡ property_count options.now (entry_property entry.now) }
 {
@@ -64,7 +64,7 @@ fn entry_left_out(entry: &Entry<'_>, options: &Options) -> usize
     }
 }
 
-/// How many lines of some properties are left out. The name may stand more than once.
+/// How many lines of some properties are omitted. The name may occur more than once.
 fn properties_left_out(props: &Props<'_>, options: &Options) -> usize
     ensures { (ps : List Property) → IsPropertyBlock (props_bytes props.now) ps
         → result ≡ properties_count options.now ps }
@@ -79,7 +79,7 @@ fn properties_left_out(props: &Props<'_>, options: &Options) -> usize
     count
 }
 
-/// How many lines are left out with a record.
+/// How many lines are omitted with a record.
 fn record_left_out(item: &Record<'_>, options: &Options) -> usize
     ensures { AreLeftOutOf options.now (record_item item.now) result }
 {
@@ -92,7 +92,7 @@ fn record_left_out(item: &Record<'_>, options: &Options) -> usize
     }
 }
 
-/// How many lines are left out with the records of a dump.
+/// How many lines are omitted with the records of a dump.
 fn records_left_out(dump: &[u8], options: &Options) -> usize
     ensures { AreLeftOutOfRecords options.now dump.now result }
 {
@@ -107,7 +107,7 @@ fn records_left_out(dump: &[u8], options: &Options) -> usize
     }
 }
 
-/// How many lines of the mergeinfo of kept nodes the filter leaves out of a dump under these options, since their paths
+/// How many lines of the mergeinfo of kept nodes the filter omits from a dump under these options, since their paths
 /// aren't kept. Without `--skip-missing-merge-sources` it leaves none out, and the dump isn't read.
 pub fn left_out_lines(dump: &[u8], options: &Options) -> usize
     ensures { AreLeftOutIn options.now dump.now result }

@@ -1,12 +1,12 @@
 //! A survey of a dump before it is filtered: each place where the repository that is loaded from the filtered
 //! dump may be wrong.
 //!
-//! A [`Surveyor`] reads a dump record by record, cut as the filter cuts it. [`Surveyor::next`] gives what is
-//! found in each: of a node of a revision the [`Found`], which [`SurveyedNode::tell`] turns into one [`Told`]
-//! for each [`NodeFinding`]. A [`Told`] has the record's number and place, the revision and the path; of a copy
-//! that is filtered differently from its source it has the first prefix responsible. Where the records end,
-//! `next` gives what is found in the dump as a whole, [`DumpFindings`], and whether they end with the dump. Then
-//! [`Surveyor::told_prefixes`] gives the prefixes that have no effect, each with its [`PrefixFinding`].
+//! A [`Surveyor`] reads a dump record by record, cut as the filter cuts it. [`Surveyor::next`] gives what is found in
+//! each: of a node of a revision the [`Found`], which [`SurveyedNode::tell`] turns into one [`Told`] for each
+//! [`NodeFinding`]. A [`Told`] has the record's number and place, the revision and the path; of a copy that is filtered
+//! differently from its source it has the first prefix responsible. When the records end, `next` gives what is found in
+//! the dump as a whole, [`DumpFindings`], and whether they end with the dump. Then [`Surveyor::told_prefixes`] gives
+//! the prefixes that have no effect, each with its [`PrefixFinding`].
 //!
 //! [`survey_dump`] keeps all this in a [`Survey`]. [`write_survey`] writes a line for each finding as it is
 //! found, and keeps nothing. [`left_out_lines`] counts the lines of mergeinfo that the filter drops,

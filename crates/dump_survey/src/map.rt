@@ -25,7 +25,7 @@ struct KeptNumbers {
     numbers: Vec<u64>,
 }
 
-/// Adds the present revision, if it is kept, where it has no more nodes.
+/// Adds the present revision, which has no more nodes, if it is kept.
 fn push_ended(numbers: &mut Vec<u64>, tally: &Tally, options: &Options) -> Result<(), Memory>
     ensures { OnOk result (numbers.new.items ≡ numbers.old.items ++ ended_numbers options.now tally.now.present) }
 {
@@ -53,7 +53,7 @@ fn push_before(
     Ok(())
 }
 
-/// The kept revisions, where the records end.
+/// The kept revisions, when the records end.
 fn ended(mut numbers: Vec<u64>, tally: &Tally, options: &Options) -> Result<KeptNumbers, Memory>
     ensures first { IfOk result (λ kept. kept.first ≡ tally.now.first) }
     ensures numbers { IfOk result (λ kept.
@@ -66,7 +66,7 @@ fn ended(mut numbers: Vec<u64>, tally: &Tally, options: &Options) -> Result<Kept
     })
 }
 
-/// The revisions that the filter keeps, up to where the list of records ends.
+/// The revisions that the filter keeps, up to the end of the list of records.
 fn kept_in(alloc: Global, dump: &[u8], options: &Options) -> Result<KeptNumbers, Memory>
     ensures { IfOk result (λ kept. AreKeptIn options.now dump.now (kept_view kept)) }
 {
@@ -85,7 +85,7 @@ fn kept_in(alloc: Global, dump: &[u8], options: &Options) -> Result<KeptNumbers,
     }
 }
 
-/// The same numbers, in rising order. They rise already where the filter takes the dump.
+/// The same numbers, in rising order. They rise already if the filter accepts the dump.
 fn in_order(alloc: Global, numbers: &[u64]) -> Result<Vec<u64>, Memory>
     ensures same { IfOk result (λ sorted. IsPermutation numbers.now sorted.items) }
     ensures rising { IfOk result (λ sorted. IsNonDecreasing sorted.items) }
@@ -95,7 +95,7 @@ fn in_order(alloc: Global, numbers: &[u64]) -> Result<Vec<u64>, Memory>
     Ok(sorted)
 }
 
-/// The number under which a revision is written, where the first one and the kept ones, in rising order, are these.
+/// The number under which a revision is written, if the first one and the kept ones, in rising order, are these.
 fn written_number(options: &Options, first: u64, sorted: &[u64], number: u64) -> u64
     requires rising { IsNonDecreasing sorted.now }
     requires small { first < 10 ^ 18 }
@@ -162,7 +162,7 @@ fn map_of(alloc: Global, dump: &[u8], options: &Options) -> Result<Vec<u8>, Memo
     map_lines(alloc, options, &kept)
 }
 
-/// Writes the old and the new number of each revision that is kept where a dump is filtered under these options, a line
+/// Writes the old and the new number of each revision that is kept if a dump is filtered under these options, a line
 /// for each, in the dump's order. Nothing is written before all is known.
 pub fn write_map<S: Sink>(
     alloc: Global,

@@ -17,7 +17,7 @@ use dump_records::Record;
 use dump_rules::Options;
 use dump_text::Props;
 
-/// Whether mergeinfo stands among the properties.
+/// Whether mergeinfo is among the properties.
 fn has_mergeinfo(props: &Props<'_>) -> bool
     ensures { (ps : List Property) → IsPropertyBlock (props_bytes props.now) ps → result ≡ list_any is_mergeinfo ps }
 {
@@ -48,8 +48,8 @@ fn names_revision(item: &Record<'_>) -> bool
     makes_copy(item) || sets_mergeinfo(item)
 }
 
-/// Whether a record behind those of the tally, be it a kept node or not, is one that names a revision, while one is
-/// dropped before it and the others keep their numbers.
+/// Whether this record, which follows those of the tally and may be a kept node, refers to a revision by number after a
+/// revision was dropped without renumbering.
 pub(crate) fn leaves_number(item: &Record<'_>, kept: bool, options: &Options, tally: &Tally) -> bool
     requires { kept ≡ is_kept_node options.now (record_item item.now) }
     ensures { (names : DumpRecord → Bool) → TellsNaming names

@@ -1,4 +1,4 @@
-//! The copies of a dump that can't stand without their source.
+//! The copies of a dump that need their source.
 ghost use Rattle.std.specs.Prelude.{◌≡◌, List, IfOk, map, option_map};
 ghost use Rattle.dump_records.specs.RecordText.{DumpRecord};
 ghost use Rattle.dump_records.specs.DumpText.{Ending, HasRecords};
@@ -12,7 +12,7 @@ use dump_records::{Cut, Cutter, Record};
 use dump_rules::{Memory, Side};
 use std::alloc::Global;
 
-/// What a copy needs: where a prefix matches the first path, one has to match the second.
+/// What a copy needs: if a prefix matches the first path, one has to match the second.
 #[derive(Clone, Copy)]
 pub(crate) struct Need<'a> {
     pub(crate) matched: &'a [u8],
@@ -26,14 +26,14 @@ fn matches_itself(path: &[u8]) -> bool
     begins_path(bare_prefix(path), bare_path(path))
 }
 
-/// Whether the record is a copy that can't stand without its source.
+/// Whether the record is a copy that needs its source.
 fn can_not_stand(item: &Record<'_>) -> bool
     ensures { result ≡ can_not_stand (record_item item.now) }
 {
     item.is_node() && is_copy(item) && !is_whole_file(item)
 }
 
-/// What the record needs, where it is such a copy.
+/// What the record needs, if it is such a copy.
 fn need_of<'a>(item: &Record<'a>, side: Side) -> Option<Need<'a>>
     ensures { option_map need_view result ≡ need_of side (record_item item.now) }
 {
@@ -59,7 +59,7 @@ fn need_of<'a>(item: &Record<'a>, side: Side) -> Option<Need<'a>>
     }
 }
 
-/// What the records of the dump need, in their order, up to where their list ends.
+/// What the records of the dump need, in their order, up to the end of their list.
 pub(crate) fn needs_in<'a>(
     alloc: Global,
     dump: &'a [u8],

@@ -24,7 +24,7 @@ use dump_rules::{Memory, Options, Side, keeps};
 use dump_text::Props;
 use std::alloc::Global;
 
-/// What keeps a node with this action and these properties from making a change that can be told.
+/// What keeps a node with this action and these properties from making a change that the definitions describe.
 fn obstacles_of(item: &Record<'_>, action: Action, props: &Option<Props<'_>>) -> Obstacles
     requires node { IsTrue (is_node (record_item item.now)) }
     requires action { IsActionOf (record_item item.now) action }
@@ -147,7 +147,7 @@ fn losses_of_left<'o>(
     }
 }
 
-/// What is found in a node, be its path kept or not, with the numbers of the revisions up to it.
+/// What is found in a node, whether or not its path is kept, with the numbers of the revisions up to it.
 pub(crate) fn find<'o>(
     alloc: Global,
     item: &Record<'_>,

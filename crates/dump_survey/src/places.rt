@@ -1,4 +1,4 @@
-//! Where what is found in a dump as a whole comes up first.
+//! The first record that causes each finding in a dump as a whole.
 ghost use Rattle.std.specs.Prelude.{◌≡◌};
 ghost use Rattle.dump_survey.specs.DumpTold.{place_in};
 ghost use Rattle.dump_survey.specs.steps.Places.{AreNextPlaces, first_place, no_places};
@@ -16,7 +16,7 @@ pub struct Place {
     pub place: usize,
 }
 
-/// The first record with which each of the findings comes up, where one does. Want of a revision has none.
+/// The first record that causes each of the findings, if one does. That there is no revision has none.
 #[derive(Clone, Copy, Debug, PartialEq, Eq)]
 pub struct DumpPlaces {
     pub other_numbers: Option<Place>,
@@ -28,7 +28,7 @@ pub struct DumpPlaces {
     pub numbers_left: Option<Place>,
 }
 
-/// The place of a finding that came up there, if it did, and is found with the record here or not.
+/// The place of a finding that was caused there, if it was, and is found with the record here or not.
 fn first_place(before: Option<Place>, found: bool, here: Place) -> Option<Place>
     ensures { result ≡ first_place before found here }
 {

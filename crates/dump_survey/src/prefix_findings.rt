@@ -15,7 +15,7 @@ use std::alloc::Global;
 /// What can be found in a prefix.
 #[derive(Clone, Copy, Debug, PartialEq, Eq)]
 pub enum PrefixFinding {
-    /// It isn't in its short form, so no path of the loaded repository is at or below it.
+    /// It isn't canonical, so no path of the loaded repository is at or below it.
     NotShort,
     /// No node has a path at or below it, and none is copied from there or to a path above it.
     Idle,
@@ -54,7 +54,7 @@ fn leave_copied(idle: &mut PrefixSet, item: &Record<'_>)
     }
 }
 
-/// Takes out the bare prefixes that aren't idle where this record is there.
+/// Takes out the bare prefixes that aren't idle if the dump has this record.
 pub(crate) fn leave_touched(idle: &mut PrefixSet, item: &Record<'_>)
     ensures { AreWithout (is_touched_by (record_item item.now)) idle.old idle.new }
 {
@@ -65,7 +65,7 @@ pub(crate) fn leave_touched(idle: &mut PrefixSet, item: &Record<'_>)
     leave_copied(idle, item);
 }
 
-/// What is found in the prefix, where these are idle.
+/// What is found in the prefix, if these are idle.
 fn finding_in(idle: &PrefixSet, prefix: &[u8]) -> Option<PrefixFinding>
     ensures { result ≡ finding_by idle.now prefix.now }
 {
@@ -79,7 +79,7 @@ fn finding_in(idle: &PrefixSet, prefix: &[u8]) -> Option<PrefixFinding>
     None
 }
 
-/// What is told of the prefixes, in their order, where these are idle.
+/// What is reported of the prefixes, in their order, if these are idle.
 pub(crate) fn told_prefixes<'o>(
     alloc: Global,
     prefixes: &[&'o [u8]],

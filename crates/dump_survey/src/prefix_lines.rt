@@ -7,7 +7,7 @@ use crate::prefix_findings::{PrefixFinding, ToldPrefix};
 use crate::survey_lines::push_shown;
 use dump_rules::Memory;
 
-/// What the line of a prefix says behind it.
+/// What the line of a prefix says after it.
 fn prefix_line_words(finding: PrefixFinding) -> &'static [u8]
     ensures { result.now ≡ prefix_line_words finding }
 {

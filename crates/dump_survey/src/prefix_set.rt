@@ -54,7 +54,7 @@ impl PrefixSet {
         Ok(set)
     }
 
-    /// Adds a prefix. Where memory runs out, nothing is added.
+    /// Adds a prefix. If memory runs out, nothing is added.
     pub(crate) fn add(&mut self, alloc: Global, prefix: &[u8]) -> Result<(), Memory>
         ensures added { OnOk result (BeginSame self.new (self.old ++ bare_prefix prefix.now ∷ [])) }
         ensures has { OnOk result (HaveSame self.new (self.old ++ bare_prefix prefix.now ∷ [])) }
@@ -98,7 +98,8 @@ impl PrefixSet {
         false
     }
 
-    /// Behind how many bytes of the path no part of it is one of them: the longest ends before.
+    /// How far a search for prefixes that begin the path has to look: each prefix shorter than the path is shorter than
+    /// this many bytes.
     fn near(&self, path: &[u8]) -> usize
         ensures within { result ≤ length path.now }
         ensures reach { (text : List ℕ) (n : ℕ) → is_among text self.now ≡ true → n ≤ length text

@@ -41,7 +41,7 @@ pub(crate) fn given_prefixes<'o>(
     Ok(given)
 }
 
-/// What stands in the text behind this front and a slash, if it begins so.
+/// What follows this text and a slash in the other one, if that begins so.
 pub(crate) fn behind<'t>(front: &[u8], text: &'t [u8]) -> Option<&'t [u8]>
     ensures { option_copied result ≡ behind_slash front.now text.now }
 {
@@ -163,7 +163,7 @@ impl<'o> Prefixes<'o> {
         Ok(Prefixes { bare })
     }
 
-    /// Whether one lies below the path, where prefixes are included.
+    /// Whether one is below the path, if prefixes are included.
     pub(crate) fn has_below(&self, options: &Options, path: &[u8]) -> bool
         requires { self.now ≡ map bare_prefix options.now.prefixes }
         ensures { result ≡ is_above_some options.now.side options.now.prefixes (path_of path.now) }

@@ -1,4 +1,4 @@
-//! What the filter refuses of a kept node: the revision that it is copied from, and its mergeinfo.
+//! What the filter rejects of a kept node: the revision that it is copied from, and its mergeinfo.
 ghost use Rattle.std.specs.Prelude.{◌≡◌, IsTrue, List};
 ghost use Rattle.dump_text.specs.PropertyList.{IsPropertyBlock, Property};
 ghost use Rattle.dump_text.specs.steps.PropertyViews.{entry_property, props_bytes};
@@ -18,21 +18,21 @@ use dump_records::Record;
 use dump_rules::{Merged, Options, keeps};
 use dump_text::{Entry, Props};
 
-/// What the filter refuses of a node.
+/// What the filter rejects of a node.
 #[derive(Clone, Copy, Debug, PartialEq, Eq)]
 pub(crate) struct Refused {
     /// There is no new number for the revision that it is copied from.
     pub(crate) copy_revision: bool,
     /// A value of its mergeinfo can't be read.
     pub(crate) unread: bool,
-    /// A line names a path that isn't kept, and such lines aren't left out.
+    /// A line names a path that isn't kept, and such lines aren't omitted.
     pub(crate) missing: bool,
     /// A line names a revision outside of the dump.
     pub(crate) outside: bool,
 }
 
 impl Refused {
-    /// Nothing is refused.
+    /// Nothing is rejected.
     pub(crate) const NONE: Refused = Refused {
         copy_revision: false,
         unread: false,
@@ -41,7 +41,7 @@ impl Refused {
     };
 }
 
-/// What is refused of one property of a kept node.
+/// What is rejected of one property of a kept node.
 fn entry_refused(entry: &Entry<'_>, options: &Options, numbers: &Numbers) -> Refused
     ensures { node_faults result
         ≡ property_faults options.now numbers.now.first numbers.now.present (entry_property entry.now) }
@@ -62,7 +62,7 @@ fn entry_refused(entry: &Entry<'_>, options: &Options, numbers: &Numbers) -> Ref
     }
 }
 
-/// What is refused of the properties of a kept node, whose copy is refused or not. The name may stand more than once.
+/// What is rejected of the properties of a kept node, whose copy is rejected or not. The name may occur more than once.
 fn refused_in(props: &Props<'_>, options: &Options, numbers: &Numbers, copy: bool) -> Refused
     ensures { (ps : List Property) → IsPropertyBlock (props_bytes props.now) ps
         → node_faults result ≡ faults_read options.now copy numbers.now.first numbers.now.present ps }
@@ -105,7 +105,7 @@ fn misses_revision(item: &Record<'_>, options: &Options, numbers: &Numbers) -> b
     options.renumber() && stays_copy(item, options) && numbers.is_missing(number)
 }
 
-/// What is refused of a kept node with these properties, which may be no block.
+/// What is rejected of a kept node with these properties, which may be no block.
 pub(crate) fn refused_of(
     item: &Record<'_>,
     props: &Option<Props<'_>>,

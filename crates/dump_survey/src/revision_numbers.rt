@@ -14,7 +14,7 @@ pub(crate) struct Numbers {
 }
 
 impl Numbers {
-    /// Whether the revision of this number has no new one, or comes behind the present one.
+    /// Whether the revision of this number has no new one, or is after the present one.
     pub(crate) fn is_missing(&self, number: u64) -> bool
         ensures { result ≡ is_missing self.now (Some number) }
     {

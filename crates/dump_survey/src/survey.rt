@@ -18,8 +18,8 @@ pub struct Survey<'o, 'a> {
     pub end: SurveyEnd,
 }
 
-/// Surveys a dump for the filter under these options. Its findings are kept in memory; who writes each as it is found
-/// asks a `Surveyor`.
+/// Surveys a dump for the filter under these options. Its findings are kept in memory; a caller that writes each as it
+/// is found asks a `Surveyor`.
 pub fn survey_dump<'o, 'a>(
     alloc: Global,
     dump: &'a [u8],

@@ -139,7 +139,7 @@ fn push_source(line: &mut Vec<u8>, told: &Told<'_, '_>) -> Result<(), Memory>
     push_number(line, told.copy_revision)
 }
 
-/// Whether the finding's line tells what the node is copied from.
+/// Whether the finding's line states what the node is copied from.
 fn tells_source(finding: NodeFinding) -> bool
     ensures { result ≡ tells_source (meaning finding) }
 {
@@ -155,7 +155,7 @@ fn tells_source(finding: NodeFinding) -> bool
     )
 }
 
-/// Adds what the node is copied from, where the finding's line tells it.
+/// Adds what the node is copied from, if the finding's line states it.
 fn push_told_source(line: &mut Vec<u8>, told: &Told<'_, '_>) -> Result<(), Memory>
     ensures { OnOk result (line.new.items ≡ line.old.items
         ++ (if tells_source (meaning told.now.finding) then source_text (told_view told.now) else [])) }
@@ -202,7 +202,7 @@ fn words(finding: NodeFinding) -> &'static [u8]
     }
 }
 
-/// Adds the prefix that cuts, if one is told.
+/// Adds the prefix responsible, if there is one.
 #[tactic(auto, unfolding(crate::specs::Lines::cut_words))]
 fn push_cut(line: &mut Vec<u8>, prefix: Option<&[u8]>) -> Result<(), Memory>
     ensures { OnOk result (line.new.items ≡ line.old.items ++ cut_words (option_copied prefix.entry)) }
@@ -235,7 +235,7 @@ pub(crate) fn push_node_line(lines: &mut Vec<u8>, told: &Told<'_, '_>) -> Result
     Ok(lines.push(b'\n')?)
 }
 
-/// Adds the line of a finding in the dump as a whole, if it is found, with the record with which it comes up.
+/// Adds the line of a finding in the dump as a whole, if it is found, with the first record that causes it.
 #[tactic(auto, unfolding(crate::specs::Lines::dump_line))]
 fn push_dump_line(lines: &mut Vec<u8>, end: &SurveyEnd, finding: WholeFinding) -> Result<(), Memory>
     ensures { OnOk result (lines.new.items ≡ lines.old.items
@@ -291,7 +291,7 @@ fn push_ending_line(lines: &mut Vec<u8>, count: u64, end: End) -> Result<(), Mem
     }
 }
 
-/// The lines of what is known where so many records end, and behind them one for each kind of what was found.
+/// The lines of what is known after so many records, and then one for each kind of what was found.
 pub(crate) fn end_lines(
     alloc: Global,
     count: u64,
@@ -384,7 +384,7 @@ pub(crate) fn folder_lines(alloc: Global, folders: &[&[u8]]) -> Result<Vec<u8>, 
     Ok(lines)
 }
 
-/// What the line that tells how many lines of mergeinfo are dropped says behind their number.
+/// What the line about dropped lines of mergeinfo says after their number.
 fn left_out_words(count: usize) -> &'static [u8]
     ensures { result.now ≡ left_out_words count }
 {
@@ -395,7 +395,7 @@ fn left_out_words(count: usize) -> &'static [u8]
     }
 }
 
-/// The line that tells how many lines of mergeinfo are dropped, where any are.
+/// The line that says how many lines of mergeinfo are dropped, if any are.
 #[tactic(auto, unfolding(crate::specs::LeftOutLine::left_out_line))]
 pub(crate) fn left_out_line(alloc: Global, count: usize) -> Result<Vec<u8>, Memory>
     ensures { IfOk result (λ line. line.items ≡ left_out_line count) }

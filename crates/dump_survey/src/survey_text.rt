@@ -1,4 +1,4 @@
-//! The survey of a dump, written as it is found, and what stands behind it.
+//! The survey of a dump, written as it is found, and what follows it.
 ghost use Rattle.std.specs.Prelude.{◌≡◌, ◌≢◌, ◌==◌, List, ℕ, Err, IfOk, IsFalse, OnErr, OnOk, length, not};
 ghost use Rattle.std.specs.Io.KnownBytes.{Appends};
 ghost use Rattle.dump_writer.specs.SinkWords.{HasFailedSince};
@@ -42,7 +42,7 @@ impl From<dump_writer::Memory> for SurveyFailure {
     }
 }
 
-/// Writes lines, and tells whether there are any.
+/// Writes lines, and returns whether there are any.
 pub(crate) fn write_lines<S: Sink>(
     alloc: Global,
     sink: &mut S,
@@ -66,7 +66,7 @@ pub(crate) fn write_lines<S: Sink>(
 }
 
 /// Writes the survey of a dump for the filter under these options, each line as it is found and last one for each kind,
-/// and tells whether something was found.
+/// and returns whether something was found.
 pub fn write_survey<S: Sink>(
     alloc: Global,
     dump: &[u8],
@@ -106,7 +106,7 @@ pub fn write_survey<S: Sink>(
     }
 }
 
-/// The lines of what is to be kept as well. Where the survey found nothing there are none, and the dump isn't read again.
+/// The lines of the prefixes to add. If the survey found nothing there are none, and the dump isn't read again.
 fn lines_as_well(
     alloc: Global,
     dump: &[u8],
@@ -123,8 +123,8 @@ fn lines_as_well(
     as_well_lines(alloc, options.side(), &paths)
 }
 
-/// The lines of how many lines of mergeinfo are left out, of the folders to make before what is filtered under these
-/// options is loaded, and of what is to be kept as well.
+/// The lines of how many lines of mergeinfo are dropped, of the parent directories to create before what is filtered
+/// under these options is loaded, and of the prefixes to add.
 fn lines_behind(
     alloc: Global,
     dump: &[u8],
@@ -143,11 +143,11 @@ fn lines_behind(
     Ok(lines)
 }
 
-/// Writes what stands behind the findings where a dump is filtered under these options: a line with the number of
-/// [`left_out_lines`], where that isn't 0, then one for each folder to make before the load, in the order of
-/// [`folders_to_make`], and one for each path that is to be kept as well, in that of [`keep_as_well`]: none where the
-/// filter stops at no copy. Nothing is written before all is known. The caller tells whether the survey found something:
-/// where it didn't, nothing is to be kept as well, and that isn't sought.
+/// Writes what follows the findings of a dump that is filtered under these options: a line with the number of
+/// [`left_out_lines`], unless it is 0, then one for each parent directory to create, in the order of
+/// [`folders_to_make`], and one for each prefix to add, in that of [`keep_as_well`]: none if the filter stops at no
+/// copy. Nothing is written before all is known. The caller says whether the survey found something: if it didn't,
+/// there is no prefix to add, and none is looked for.
 pub fn write_behind<S: Sink>(
     alloc: Global,
     dump: &[u8],

@@ -27,16 +27,16 @@ use std::marker::Model;
 pub enum End {
     /// With the dump.
     Whole,
-    /// No record stands at this byte of the dump, for this fault.
+    /// There is no record at this byte of the dump, for this fault.
     Broken { kind: FaultKind, place: usize },
 }
 
-/// What is known where the records end.
+/// What is known when the records end.
 #[derive(Clone, Copy, Debug, PartialEq, Eq)]
 pub struct SurveyEnd {
     /// What is found in the dump as a whole, up to its end.
     pub dump: DumpFindings,
-    /// With which record each of these comes up.
+    /// Which record causes each of these first.
     pub places: DumpPlaces,
     pub end: End,
 }
@@ -46,7 +46,7 @@ pub struct SurveyEnd {
 pub enum Step<'o, 'a> {
     /// The next record is a node of a revision.
     Node(SurveyedNode<'o, 'a>),
-    /// The next record is another one, of which nothing is told.
+    /// The next record is another one, of which nothing is reported.
     Other,
     /// There is no further record.
     Finished(SurveyEnd),
@@ -61,11 +61,11 @@ pub struct Surveyor<'o, 'a> {
     /// Those that no node has matched so far.
     idle: PrefixSet,
     tally: Tally,
-    /// Whether a kept node named a revision behind a dropped one, and revisions aren't renumbered.
+    /// Whether a kept node named a revision after a dropped one, and revisions aren't renumbered.
     numbers_left: bool,
     /// Whether a revision came whose properties can't be read.
     unread_revision: bool,
-    /// Where what is found in the dump as a whole came up.
+    /// The first record that causes each finding in the dump as a whole.
     places: DumpPlaces,
 }
 
@@ -90,7 +90,7 @@ fn place_of(item: &Record<'_>) -> Place
     }
 }
 
-/// What is found in the next record, be it a kept node or not, behind those of this tally.
+/// What is found in the next record, which may be a kept node or not, after those of this tally.
 fn step_of<'o, 'a>(
     alloc: Global,
     item: Record<'a>,
@@ -118,7 +118,7 @@ fn step_of<'o, 'a>(
     }))
 }
 
-/// What is known behind the records of this tally, which end so, leave numbers or not, and have a revision whose
+/// What is known after the records of this tally, which end so, leave numbers or not, and have a revision whose
 /// properties can't be read or none; these are the places.
 fn finished(
     tally: &Tally,
@@ -162,8 +162,8 @@ impl<'o, 'a> Surveyor<'o, 'a> {
         })
     }
 
-    /// What is found in the next record, or what is known where there is none; then it is told again. Where memory runs
-    /// out, the next call goes on behind the record.
+    /// What is found in the next record, or what is known if there is none; then it is returned again. If memory runs
+    /// out, the next call continues after the record.
     pub fn next(&mut self, alloc: Global) -> Result<Step<'o, 'a>, Memory>
         ensures { IfOk result (λ step. SurveyStep self.old step self.new) }
     {

@@ -1,4 +1,4 @@
-//! What is known of the revisions of a dump, behind the records that came.
+//! What is known of the revisions of a dump after its first records.
 ghost use Rattle.std.specs.Prelude.{◌≡◌, ◌+◌, ◌<◌, ◌==◌, ◌^◌, IsTrue, Some};
 ghost use Rattle.std.specs.List.{list_any};
 ghost use Rattle.dump_records.specs.steps.RecordViews.{record_item};
@@ -30,9 +30,9 @@ pub struct DumpFindings {
     pub node_in_first: bool,
     /// A node of a revision is a copy from one before the first revision.
     pub source_before: bool,
-    /// A node stands outside of any revision.
+    /// A node is outside of any revision.
     pub node_outside: bool,
-    /// A revision is dropped, the others aren't renumbered, and a kept node behind it names one by its number.
+    /// A revision is dropped, the others aren't renumbered, and a kept node after it names one by its number.
     pub numbers_left: bool,
 }
 
@@ -79,7 +79,7 @@ pub(crate) struct Present {
 }
 
 impl Present {
-    /// Whether it is kept, where it has no more nodes.
+    /// Whether it is kept, if it has no more nodes.
     pub(crate) fn stays(&self, options: &Options) -> bool
         ensures { result ≡ keeps_open options.now (Some self.now) }
     {
@@ -132,7 +132,7 @@ fn copies_from_before(item: &Record<'_>, first: u64) -> bool
 pub(crate) struct Tally {
     /// How many revisions there are.
     count: u64,
-    /// The number of the first one; 0 where there is none.
+    /// The number of the first one; 0 if there is none.
     pub(crate) first: u64,
     /// Whether they are numbered on from that, one by one.
     numbered: bool,
@@ -144,7 +144,7 @@ pub(crate) struct Tally {
     node_in_first: bool,
     /// Whether a node of one of them is a copy from before the first one.
     source_before: bool,
-    /// Whether a node stands outside of any revision.
+    /// Whether a node is outside of any revision.
     node_outside: bool,
     /// Whether each revision before the present one is kept.
     all_kept: bool,
@@ -173,7 +173,7 @@ impl Tally {
         }
     }
 
-    /// Whether each revision is kept, where the present one has no more nodes.
+    /// Whether each revision is kept, if the present one has no more nodes.
     fn keeps_all(&self, options: &Options) -> bool
         ensures { result ≡ keeps_present options.now self.now }
     {
@@ -183,7 +183,7 @@ impl Tally {
         }
     }
 
-    /// The least number of the kept revisions, where the present one has no more nodes.
+    /// The least number of the kept revisions, if the present one has no more nodes.
     fn least_kept(&self, options: &Options) -> Option<u64>
         ensures { result ≡ least_behind options.now self.now.least self.now.present }
     {
@@ -204,14 +204,14 @@ impl Tally {
         }
     }
 
-    /// The number of the first revision, where one of this number comes.
+    /// The number of the first revision, if one of this number comes next.
     fn first_with(&self, number: u64) -> u64
         ensures { result ≡ first_with self.now number }
     {
         if self.count == 0 { number } else { self.first }
     }
 
-    /// That of one more record, be it a kept node or not.
+    /// The tally after one more record, which may be a kept node or not.
     pub(crate) fn with(&self, item: &Record<'_>, kept: bool, options: &Options) -> Tally
         requires room { self.now.count + 1 < 2 ^ 64 }
         requires kept { kept ≡ is_kept_node options.now (record_item item.now) }
@@ -246,7 +246,7 @@ impl Tally {
         }
     }
 
-    /// That of one more node, be it kept or not.
+    /// The tally after one more node, which may be kept or not.
     fn with_node(&self, item: &Record<'_>, kept: bool) -> Tally
         requires { IsTrue (is_node (record_item item.now)) }
         ensures { result ≡ node_tally self.now kept (copies_from_before self.now.first (record_item item.now))
@@ -278,8 +278,8 @@ impl Tally {
         self.present.is_some() && !self.all_kept
     }
 
-    /// What is found in the dump, where it ends here, numbers are left or not, and the properties of a revision can't be
-    /// read or all can.
+    /// What is found in the dump if it ends here, by whether numbers are left, and the properties of a revision can't
+    /// be read or all can.
     pub(crate) fn findings(&self, numbers_left: bool, unread_revision: bool) -> DumpFindings
         ensures { listed_findings result ≡ tally_findings self.now numbers_left unread_revision }
     {

@@ -1,4 +1,4 @@
-//! What no clause says: worked dumps with each finding once.
+//! What no clause says: example dumps with each finding once.
 use crate::laws::{each_silent_survey_restricts, each_told_is_found};
 use crate::{DumpFindings, End, Memory, NodeFinding, Survey, survey_dump};
 use dump_rules::{Empty, Options, Side};
@@ -31,7 +31,7 @@ fn prefixes_in<'a>(alloc: Global, words: &'a str) -> Result<Vec<&'a [u8]>, Alloc
     Ok(prefixes)
 }
 
-/// Whether these paths, and no others, stand in a text with a blank behind each.
+/// Whether these paths, and no others, are in a text with a blank after each.
 fn are_words(paths: &[&[u8]], words: &str) -> bool {
     let mut rest = words.as_bytes();
     for path in paths {
@@ -64,7 +64,7 @@ Revision-number: 0\n\n\
 Revision-number: 7\n\n\
 Node-path: trunk//a\nNode-action: change\n\n\n";
 
-/// Whether one finding is told, with its place.
+/// Whether one finding is reported, with its place.
 fn is_odd_alone(survey: &Survey<'_, '_>) -> bool {
     match survey.told.as_slice() {
         [told] => {
@@ -128,7 +128,7 @@ const BROKEN: End = End::Broken {
     place: 31,
 };
 
-/// What stands behind the version, what is found in the dump as a whole, and how its records end.
+/// What follows the version, what is found in the dump as a whole, and how its records end.
 const ENDS: [(&str, DumpFindings, End); 13] = [
     ("", NONE, End::Whole),
     ("Revision-number: 0", NONE, BROKEN),
@@ -139,7 +139,7 @@ const ENDS: [(&str, DumpFindings, End); 13] = [
         OUTSIDE_OF_ANY,
         End::Whole,
     ),
-    // A part of a history is told where its load goes wrong.
+    // A partial dump is reported if it would not load.
     (
         "Revision-number: 5\n\nNode-path: a\n\n",
         NOTHING,
@@ -207,7 +207,7 @@ fn what_is_found_in_a_dump_is_told_at_its_end(rt: HostRuntime) -> Result<(), Fai
     Ok(())
 }
 
-/// What stands behind a dropped revision: a copy, mergeinfo, neither, and a copy that is left out.
+/// What follows a dropped revision: a copy, mergeinfo, neither, and an excluded copy.
 const COPY: &str =
     "Node-path: t/b\nNode-action: add\nNode-copyfrom-rev: 1\nNode-copyfrom-path: t/a\n\n";
 
@@ -219,7 +219,7 @@ const NEITHER: &str = "Node-path: t/a\nNode-action: change\n\n";
 const OUTSIDE: &str =
     "Node-path: b\nNode-action: add\nNode-copyfrom-rev: 1\nNode-copyfrom-path: t\n\n";
 
-/// What is asked, what stands behind the dropped revision, and whether that one's number is left.
+/// What is asked, what follows the dropped revision, and whether that one's number is left.
 const LEFT: [(Empty, bool, &str, bool); 6] = [
     (Empty::Pad, false, COPY, false),
     (Empty::DropEmptied, true, COPY, false),
@@ -229,7 +229,7 @@ const LEFT: [(Empty, bool, &str, bool); 6] = [
     (Empty::DropEmptied, false, OUTSIDE, false),
 ];
 
-/// Revision 2 is dropped, and this node stands in revision 3.
+/// Revision 2 is dropped, and this node is in revision 3.
 fn behind_a_dropped_one(alloc: Global, node: &str) -> Result<String, AllocError> {
     format!(in alloc;
         "SVN-fs-dump-format-version: 2\n\nRevision-number: 0\n\nRevision-number: 1\n\n{NEITHER}\n\
@@ -277,7 +277,7 @@ fn tells_one_of_each(survey: &Survey<'_, '_>) -> bool {
     survey.told.len() == 1 && survey.prefixes.len() == 1 && ends_with(survey, NOTHING, End::Whole)
 }
 
-/// Run with each allocation refused in turn: all is told, or there is no memory.
+/// Run with each allocation failing in turn: all is reported, or there is no memory.
 #[test]
 fn a_survey_or_no_memory(rt: HostRuntime) {
     let Ok(options) = one_prefix(rt.alloc(), Side::Exclude, b"t/f") else {

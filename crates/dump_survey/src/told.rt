@@ -1,4 +1,4 @@
-//! What a survey tells of the nodes of a dump.
+//! What a survey reports of the nodes of a dump.
 ghost use Rattle.std.specs.Prelude.{◌≡◌, ◌++◌, IsTrue, OnOk, map};
 ghost use Rattle.dump_records.specs.steps.RecordViews.{record_item};
 ghost use Rattle.dump_digest.specs.RecordParts.{is_node};
@@ -21,13 +21,13 @@ pub struct Told<'o, 'a> {
     pub place: usize,
     /// The number of the revision that the node belongs to.
     pub revision: u64,
-    /// The node's path, as it stands.
+    /// The node's path, as in the dump.
     pub path: &'a [u8],
-    /// The path that the node is copied from, as it stands; no bytes where it is no copy.
+    /// The path that the node is copied from, as in the dump; no bytes if it is no copy.
     pub copy_path: &'a [u8],
-    /// The number of the revision that the node is copied from; 0 where it is no copy.
+    /// The number of the revision that the node is copied from; 0 if it is no copy.
     pub copy_revision: u64,
-    /// The first prefix, as it was given, by which a copy is cut otherwise than its source, where that is found.
+    /// The first prefix, as it was given, by which a copy is filtered differently from its source, if that is found.
     pub prefix: Option<&'o [u8]>,
 }
 
@@ -41,7 +41,7 @@ pub struct SurveyedNode<'o, 'a> {
 }
 
 impl<'o, 'a> SurveyedNode<'o, 'a> {
-    /// A finding as it is told of the node.
+    /// A finding as it is reported of the node.
     pub(crate) fn told(&self, finding: NodeFinding) -> Told<'o, 'a>
         requires { IsTrue (is_node (record_item self.now.item)) }
         ensures { told_view result ≡ told_of_finding self.now (meaning finding) }
@@ -58,7 +58,7 @@ impl<'o, 'a> SurveyedNode<'o, 'a> {
         }
     }
 
-    /// Adds what is found in the node to what is told already.
+    /// Adds what is found in the node to what is reported already.
     pub fn tell(&self, told: &mut Vec<Told<'o, 'a>>) -> Result<(), Memory>
         requires { IsTrue (is_node (record_item self.now.item)) }
         ensures { OnOk result (map told_view told.new.items ≡ map told_view told.old.items ++ told_of_node self.now) }

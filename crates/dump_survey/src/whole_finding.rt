@@ -44,7 +44,7 @@ impl WholeFinding {
         }
     }
 
-    /// The fault with which the filter stops where this is found, if it does.
+    /// The fault with which the filter stops if this is found, if it does.
     pub(crate) fn fault(self) -> Option<FaultKind>
         ensures { result ≡ dump_fault (whole_meaning self) }
     {

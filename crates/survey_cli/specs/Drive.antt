@@ -1,4 +1,4 @@
--- What the program does with its words and its input.
+-- What the program does with its arguments and its input.
 use Rattle.std.specs.Prelude.{◌≡◌, ℕ, Bool, true, false, ◌⊎◌, List, [], ◌++◌, Option, Some, None, Result, Ok, Err, IfSome, MatchBool}
 use Rattle.std.specs.Io.KnownBytes.{Keeps, Appends}
 use Rattle.dump_rules.specs.Settings.{Settings}
@@ -24,7 +24,7 @@ finding_status true = 1
 abbrev pub TakesFirst : Option (List ℕ) → Option (List ℕ) → List ℕ → Type 0
 TakesFirst old new text = (part : List ℕ) × IsPrefixOf part text × Appends old new part
 
--- this is the text of a survey, with the lines behind its findings, and whether something is found
+-- this is the text of a survey, with the lines after its findings, and whether something is found
 pub record IsWholeText (settings : Settings) (dump text : List ℕ) (found : Bool) : Type 0 where
   pub survey : List ℕ
   pub is_survey : IsSurveyText settings dump survey found
@@ -32,11 +32,11 @@ pub record IsWholeText (settings : Settings) (dump text : List ℕ) (found : Boo
   pub are_behind : AreLinesBehind settings dump behind
   pub text_is : text ≡ survey ++ behind
 
--- this is the map of revisions where it is asked for, and nothing where it isn't
+-- this is the map of revisions if it is asked for, and nothing if it isn't
 abbrev pub IsMapAskedFor : Call → List ℕ → List ℕ → Type 0
 IsMapAskedFor call dump text = MatchBool call.map (IsRevisionMap call.options dump text) (text ≡ [])
 
--- this is all that the call asks for: the map of revisions, where it is, stands behind all other lines
+-- this is all that the call asks for: the map of revisions, if it is asked for, follows all other lines
 pub record IsCallText (call : Call) (dump text : List ℕ) (found : Bool) : Type 0 where
   pub front : List ℕ
   pub is_front : IsWholeText call.options dump front found
@@ -44,7 +44,7 @@ pub record IsCallText (call : Call) (dump text : List ℕ) (found : Bool) : Type
   pub is_map : IsMapAskedFor call dump revisions
   pub all_is : text ≡ front ++ revisions
 
--- this is the text of a survey, alone or with all that stands behind its findings
+-- this is the text of a survey, alone or with all that follows its findings
 abbrev pub IsText : Call → List ℕ → List ℕ → Bool → Type 0
 IsText call dump text found = IsSurveyText call.options dump text found ⊎ IsCallText call dump text found
 
@@ -60,13 +60,13 @@ abbrev pub SurveysInput : Call → Option (List ℕ) → Option (List ℕ) → O
 SurveysInput call input old new status =
     IfSome input (λ dump. SurveysDump call dump old new status) ⊎ (Keeps old new × (status ≡ 3))
 
--- words that were refused write nothing, with the status 2, or 3 where reading them is out of memory, and others are
--- obeyed on the input
+-- arguments that were rejected write nothing, with the status 2, or 3 if memory ran out, and others are obeyed on the
+-- input
 abbrev pub SurveysOrRefuses : Result Call Usage → Option (List ℕ) → Option (List ℕ) → Option (List ℕ) → ℕ → Type 0
 SurveysOrRefuses (Err usage) input old new status = Keeps old new × (status ≡ refusal_status 3 usage)
 SurveysOrRefuses (Ok call) input old new status = SurveysInput call input old new status
 
--- words of this meaning have an answer, and it is obeyed
+-- arguments of this meaning have an answer, and it is obeyed
 abbrev pub DrivesSurvey : Result Call Usage → Option (List ℕ) → Option (List ℕ) → Option (List ℕ) → ℕ → Type 0
 DrivesSurvey meaning input old new status = (answer : Result Call Usage) × TellsCall meaning answer
     × SurveysOrRefuses answer input old new status

@@ -1,4 +1,4 @@
--- What the program's words mean, by the side and by what clap finds behind it.
+-- What the program's arguments mean, by the subcommand and by what clap finds after it.
 use Rattle.std.specs.Prelude.{List, Result, Ok, Err, codes, drop}
 use Rattle.clap.specs.Words.{Row, Text}
 use Rattle.dump_rules.specs.Settings.{Settings}
@@ -17,10 +17,10 @@ call_with (Ok settings) rows = Ok (record { options = settings; map = is_set (co
 abbrev pub call_of_side : Side → List Row → Result Call Usage
 call_of_side side rows = call_with (settings_of side rows) rows
 
--- what the words ask for: only a lawful line asks for something, unless it asks for both ways to drop revisions
+-- what the arguments ask for: only a lawful line asks for something, unless it asks for both ways to drop revisions
 abbrev pub call_of_words : List Text → Result Call Usage
 call_of_words words = meaning_in flags call_of_side (drop 1 words)
 
--- the answer to words of this meaning: out of memory may hide it, and nothing else
+-- the answer to arguments of this meaning: out of memory may hide it, and nothing else
 abbrev pub TellsCall : Result Call Usage → Result Call Usage → Type 0
 TellsCall meaning answer = Answers (λ call. call) meaning answer

@@ -1,4 +1,4 @@
-//! The command that the words behind the side are read by.
+//! The command by which the arguments after the subcommand are read.
 ghost use Rattle.std.specs.Prelude.{◌≡◌, IfOk};
 ghost use Rattle.clap.specs.Words.{app_of};
 ghost use Rattle.survey_cli.specs.CommandLine.{flags};

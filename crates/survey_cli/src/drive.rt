@@ -93,7 +93,7 @@ fn survey_input<R: Read, W: Write, E: Write>(
     tell(errors, answer)
 }
 
-/// Writes the survey with all that stands behind it, and hands on all that waits.
+/// Writes the survey with all that follows it, and flushes what waits.
 fn survey_and_flush<W: Write>(
     alloc: Global,
     dump: &[u8],
@@ -126,7 +126,7 @@ fn write_text<W: Write>(
     Ok(found)
 }
 
-/// Writes the survey, and behind it how many lines of mergeinfo are dropped, the directories to create and the prefixes
+/// Writes the survey, and after it how many lines of mergeinfo are dropped, the directories to create and the prefixes
 /// to add.
 fn write_front<W: Write>(
     alloc: Global,
@@ -144,7 +144,7 @@ fn write_front<W: Write>(
     Ok(found)
 }
 
-/// Writes the map of revisions, where the call asks for it.
+/// Writes the map of revisions, if the call asks for it.
 fn write_asked_map<W: Write>(
     alloc: Global,
     dump: &[u8],
@@ -162,7 +162,7 @@ fn write_asked_map<W: Write>(
     Ok(())
 }
 
-/// Hands on all that waits behind a text, unless its sink failed: then no more is tried.
+/// Flushes what waits after a text, unless its sink failed: then no more is tried.
 fn flush_behind<W: Write>(
     sink: &mut OutMut<'_, W>,
     answer: Result<bool, SurveyFailure>,

@@ -20,7 +20,7 @@ fn main(rt: HostRuntime) -> ExitCode {
     ExitCode::from(status)
 }
 
-/// The whole program on the words and the streams of the process.
+/// The whole program on the arguments and the streams of the process.
 fn run_words(rt: &HostRuntime) -> Result<u8, Usage> {
     let alloc = rt.alloc();
     let words = arguments(rt)?;

@@ -1,4 +1,4 @@
-//! The words on the command line.
+//! The arguments on the command line.
 ghost use Rattle.std.specs.Prelude.{◌≡◌, ◌≢◌, Err, map, true};
 ghost use Rattle.clap.specs.Words.{found_of, rows_of};
 ghost use Rattle.survey_cli.specs.Words.{TellsCall, call_of_words, call_of_side};
@@ -19,11 +19,11 @@ pub struct Call {
     pub map: bool,
 }
 
-/// What the words ask for. `words[0]` is the program's name.
+/// What the arguments ask for. `words[0]` is the program's name.
 pub fn call_of<'a>(alloc: Global, words: &'a [&'a str]) -> Result<Call, Usage>
     ensures meaning { TellsCall (call_of_words (map (λ word. word.now) words.now)) result }
 
-    // No lawful line is refused as other words.
+    // No lawful line is rejected as other arguments.
     ensures lawful { is_survey_call (map (λ word. word.now) words.now) ≡ true → result ≢ Err Usage.Words }
     ensures takes { is_taken_call (map (λ word. word.now) words.now) ≡ true → result ≢ Err Usage.Words }
 {
@@ -42,7 +42,7 @@ pub fn call_of<'a>(alloc: Global, words: &'a [&'a str]) -> Result<Call, Usage>
     }
 }
 
-/// What a side and what stands behind it ask for.
+/// What a subcommand and what follows it ask for.
 fn read_call(alloc: Global, side: Side, matches: &ArgMatches<'_>) -> Result<Call, Usage>
     ensures { TellsCall (call_of_side side (rows_of (found_of matches.now))) result }
 {

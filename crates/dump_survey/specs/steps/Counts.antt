@@ -1,4 +1,4 @@
--- How often each kind of finding was told, as the survey counts it.
+-- How often each kind of finding was reported, as the survey counts it.
 use Rattle.std.specs.Prelude.{◌≡◌, ℕ, ◌+◌, if◌then◌else◌}
 use Rattle.dump_history.specs.Findings.{Finding}
 use Rattle.dump_survey.specs.declared.counts.Counts.{Counts}
@@ -25,7 +25,7 @@ no_counts = record {
   text_comes_in = 0;
 }
 
--- how often this was told
+-- how often this was reported
 abbrev pub count_in : Counts → Finding → ℕ
 count_in counts Finding.UnreadBlock = counts.unread_block
 count_in counts Finding.Delta = counts.delta

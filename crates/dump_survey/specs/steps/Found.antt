@@ -28,7 +28,7 @@ has_found found Finding.FolderTakes = found.losses.folder_takes
 has_found found Finding.FolderBrings = found.losses.folder_brings
 has_found found Finding.TextComesIn = found.losses.text_comes_in
 
--- the prefix that is told with this, if one is
+-- the prefix that is reported with this, if one is
 abbrev pub found_prefix : Found → Finding → Option (List ℕ)
 found_prefix found Finding.CopyLoses = option_copied found.losses.copy_loses
 found_prefix found Finding.CopyLetsIn = option_copied found.losses.copy_lets_in
@@ -39,7 +39,7 @@ abbrev pub node_faults : Refused → NodeFaults
 node_faults f =
     record { copy_revision = f.copy_revision; unread = f.unread; missing = f.missing; outside = f.outside }
 
--- the node's faults are these, by these numbers, whatever stands before it
+-- the node's faults are these, by these numbers, whatever comes before it
 abbrev pub AreFaultsBy : Settings → Numbers → DumpRecord → NodeFaults → Type 0
 AreFaultsBy settings numbers r m = (before : List DumpRecord) → AreNumbersBehind settings before r numbers →
     AreNodeFaultsOf settings before r m

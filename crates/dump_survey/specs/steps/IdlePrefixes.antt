@@ -36,12 +36,12 @@ abbrev pub AreIdle : List DumpRecord → List (List ℕ) → List (List ℕ) →
 AreIdle records prefixes idle =
     AreWithout (λ bare. list_any (λ r. is_touched_by r bare) records) (map bare_prefix prefixes) idle
 
--- what is found in the prefix where these are idle
+-- what is found in the prefix if these are idle
 abbrev pub finding_by : List (List ℕ) → List ℕ → Option PrefixFinding
 finding_by idle prefix =
     if is_short_prefix prefix then (if is_among (bare_prefix prefix) idle then Some Idle else None) else Some NotShort
 
--- what is told of the prefix then
+-- what is reported of the prefix then
 abbrev pub told_by : List (List ℕ) → List ℕ → Option PrefixTold
 told_by idle prefix = option_map (λ finding. record { prefix = prefix; finding = finding }) (finding_by idle prefix)
 

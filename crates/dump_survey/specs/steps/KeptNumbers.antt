@@ -10,12 +10,12 @@ use Rattle.dump_survey.specs.declared.map.KeptNumbers.{KeptNumbers}
 use Rattle.dump_survey.specs.declared.tally.Present.{Present}
 use Rattle.dump_survey.specs.steps.Tally.{keeps_open}
 
--- the present revision, if it is kept, where it has no more nodes
+-- the present revision, which has no more nodes, if it is kept
 abbrev pub ended_numbers : Settings → Option Present → List ℕ
 ended_numbers settings None = []
 ended_numbers settings (Some p) = if keeps_open settings (Some p) then p.number ∷ [] else []
 
--- the same, where this record comes next
+-- the same, if this record comes next
 abbrev pub numbers_before : Settings → Option Present → DumpRecord → List ℕ
 numbers_before settings p r = if is_node r then [] else ended_numbers settings p
 
@@ -23,7 +23,7 @@ numbers_before settings p r = if is_node r then [] else ended_numbers settings p
 abbrev pub kept_view : KeptNumbers → KeptRevisions
 kept_view k = record { first = k.first; numbers = k.numbers.items }
 
--- these are the dump's kept revisions, up to where its list of records ends
+-- these are the dump's kept revisions, up to the end of its list of records
 pub record AreKeptIn (settings : Settings) (dump : List ℕ) (kept : KeptRevisions) : Type 0 where
   pub records : List DumpRecord
   pub ending : Ending

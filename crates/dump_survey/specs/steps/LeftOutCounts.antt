@@ -1,4 +1,4 @@
--- How many lines of mergeinfo are left out, as the program counts them along the text.
+-- How many lines of mergeinfo are omitted, as the program counts them along the text.
 use Rattle.std.specs.Prelude.{ℕ, List, count_by, sum_by, if◌then◌else◌}
 use Rattle.dump_text.specs.PropertyList.{Property}
 use Rattle.dump_rules.specs.Settings.{Settings}
@@ -10,7 +10,7 @@ use Rattle.dump_digest.specs.RecordParts.{is_mergeinfo, value_of}
 abbrev pub text_lines_count : Settings → List ℕ → ℕ
 text_lines_count settings text = count_by (line_misses settings) (text_lines text)
 
--- of a value, none where it can't be read
+-- of a value, none if it can't be read
 abbrev pub value_count : Settings → List ℕ → ℕ
 value_count settings value = if value_reads value then text_lines_count settings (without_lf value) else 0
 

@@ -1,4 +1,4 @@
--- The words that the program has for the findings in a dump as a whole, and for what the lines of kinds say.
+-- The values that the program has for the findings in a dump as a whole, and for what the lines of kinds say.
 use Rattle.dump_history.specs.Findings.{DumpFinding}
 use Rattle.dump_survey.specs.declared.kind_lines.Kind.{Kind}
 use Rattle.dump_survey.specs.declared.whole_finding.WholeFinding.{WholeFinding}

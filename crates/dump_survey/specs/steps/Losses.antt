@@ -1,4 +1,4 @@
--- What keeps a node from making a change that can be told, and what the filter's cut does to it.
+-- What keeps a node from making a change that the definitions describe, and what the filter's cut does to it.
 use Rattle.std.specs.Prelude.{◌≡◌, not, List, [], Option, None, option_copied, unwrap_or, is_none, is_some, IsTrue}
 use Rattle.dump_text.specs.PropertyList.{Property}
 use Rattle.dump_records.specs.RecordText.{DumpRecord}

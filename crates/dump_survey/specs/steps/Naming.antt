@@ -1,4 +1,4 @@
--- Whether a kept node names a revision behind a dropped one, record by record.
+-- Whether a kept node names a revision after a dropped one, record by record.
 use Rattle.std.specs.Prelude.{◌≡◌, Bool, false, not, ◌&&◌, ◌||◌, List, [], ◌∷◌, is_some}
 use Rattle.dump_records.specs.RecordText.{DumpRecord}
 use Rattle.dump_rules.specs.Settings.{Settings}
@@ -11,7 +11,7 @@ use Rattle.dump_survey.specs.steps.Tally.{no_tally, next_tally}
 abbrev pub is_behind_dropped : Tally → Bool
 is_behind_dropped t = is_some t.present && not t.all_kept
 
--- whether this record, behind those of the tally, is a kept node that names a revision by a test of nodes, while one is
+-- whether this record, after those of the tally, is a kept node that names a revision by a test of nodes, while one is
 -- dropped before it and the others keep their numbers
 abbrev pub leaves_number : Settings → (DumpRecord → Bool) → Tally → DumpRecord → Bool
 leaves_number settings names t r =

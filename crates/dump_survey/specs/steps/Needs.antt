@@ -1,4 +1,4 @@
--- Copies that can't stand without their source, as the search for what to keep as well has them.
+-- Copies that need their source, as the search for the prefixes to add has them.
 use Rattle.std.specs.Prelude.{◌≡◌, ◌<◌, ℕ, Bool, true, false, not, ◌&&◌, List, [], ◌∷◌, ◌++◌, Option, Some, None, length, filter, bytes_eq, if◌then◌else◌, IsTrue, ⊤}
 use Rattle.std.specs.List.{list_any, filter_map}
 use Rattle.dump_records.specs.RecordText.{DumpRecord}
@@ -11,7 +11,7 @@ use Rattle.dump_history.specs.RecordChanges.{copy_path}
 use Rattle.dump_survey.specs.declared.needs.Need.{Need}
 use Rattle.dump_survey.specs.KeepAsWell.{wanted_path, matches_itself}
 
--- where a prefix matches the first path, one has to match the second, which matches itself
+-- if a prefix matches the first path, one has to match the second, which matches itself
 pub record PathNeed : Type 0 where
   pub matched : List ℕ
   pub wanted : List ℕ
@@ -25,7 +25,7 @@ abbrev pub other_path : Side → DumpRecord → List ℕ
 other_path Include r = node_path r
 other_path Exclude r = copy_path r
 
--- whether the record is a copy that can't stand without its source
+-- whether the record is a copy that needs its source
 abbrev pub can_not_stand : DumpRecord → Bool
 can_not_stand r = is_node r && is_copy r && not (is_whole_file r)
 
@@ -33,7 +33,7 @@ can_not_stand r = is_node r && is_copy r && not (is_whole_file r)
 abbrev pub copy_need : Side → DumpRecord → PathNeed
 copy_need side r = record { matched = other_path side r; wanted = wanted_path side r }
 
--- what the record needs, where it is such a copy
+-- what the record needs, if it is such a copy
 abbrev pub need_of : Side → DumpRecord → Option PathNeed
 need_of side r = if can_not_stand r && matches_itself (wanted_path side r) then Some (copy_need side r) else None
 
@@ -65,7 +65,7 @@ AreNeeded needs prefixes (path ∷ paths) =
     IsTrue (list_any (λ (n : PathNeed). is_unmet prefixes n && bytes_eq n.wanted path) needs)
     × IsTrue (matches_itself path) × AreNeeded needs (prefixes ++ path ∷ []) paths
 
--- how many of the needs want a path that isn't matched
+-- how many of the needs have a path that isn't matched
 abbrev pub unmatched : List PathNeed → List (List ℕ) → ℕ
 unmatched needs prefixes = length (filter (λ (n : PathNeed). not (is_matched prefixes n.wanted)) needs)
 
@@ -73,7 +73,7 @@ unmatched needs prefixes = length (filter (λ (n : PathNeed). not (is_matched pr
 abbrev pub each_matches_itself : List PathNeed → Bool
 each_matches_itself needs = not (list_any (λ (n : PathNeed). not (matches_itself n.wanted)) needs)
 
--- a pass over the needs added what is needed; where it added nothing, no need is open; where it did, fewer are unmatched
+-- a pass over the needs added what is needed; if it added nothing, each need is met; if it did, fewer are unmatched
 pub record IsPass (needs : List PathNeed) (old new : Grown) (grew : Bool) : Type 0 where
   pub given : new.given ≡ old.given
   pub more : List (List ℕ)

@@ -1,4 +1,4 @@
--- Where what is found in a dump as a whole comes up first, record by record.
+-- The first record that causes each finding in a dump as a whole, record by record.
 use Rattle.std.specs.Prelude.{◌≡◌, Bool, Option, Some, None, IsTrue, if◌then◌else◌}
 use Rattle.dump_history.specs.Findings.{DumpFinding}
 use Rattle.dump_survey.specs.declared.places.DumpPlaces.{DumpPlaces}
@@ -19,7 +19,7 @@ no_places = record {
   numbers_left = None;
 }
 
--- the place of a finding that came up there, if it did, and is found with the record here or not
+-- the place of a finding that was caused there, if it was, and is found with the record here or not
 abbrev pub first_place : Option Place → Bool → Place → Option Place
 first_place (Some p) found here = Some p
 first_place None found here = if found then Some here else None

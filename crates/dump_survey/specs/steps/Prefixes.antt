@@ -4,7 +4,7 @@ use Rattle.std.specs.List.{starts_with}
 use Rattle.dump_rules.specs.Settings.{Settings, keeps_path}
 use Rattle.dump_trees.specs.Paths.{path_of, path_text}
 
--- what stands in the text behind the front and a slash
+-- what follows the text and a slash in the other one
 abbrev pub behind_slash : List ℕ → List ℕ → Option (List ℕ)
 behind_slash [] [] = None
 behind_slash [] (c ∷ text) = if c == 47 then Some text else None

@@ -34,7 +34,7 @@ abbrev pub is_missing : Numbers → Option ℕ → Bool
 is_missing numbers None = false
 is_missing numbers (Some number) = not (reaches numbers number) || nat_lt numbers.present number
 
--- whether the filter refuses the revision that the node is copied from
+-- whether the filter rejects the revision that the node is copied from
 abbrev pub misses_revision : Settings → Numbers → DumpRecord → Bool
 misses_revision settings numbers r = (settings.renumber && is_kept_node settings r && stays_copy settings r)
     && is_missing numbers (header_number copy_revision_name r.headers)

@@ -23,7 +23,7 @@ use Rattle.dump_survey.specs.SurveyEnds.{survey_ending}
 use Rattle.dump_survey.specs.steps.Surveying.{Surveying}
 use Rattle.dump_survey.specs.steps.Tally.{numbers_of, tally_findings}
 
--- the step is that of this record, behind those of the tally
+-- the step is that of this record, after those of the tally
 abbrev pub IsStepOf : Settings → Record → Tally → Step → Type 0
 IsStepOf settings item tally (Node node) = (node.item ≡ item)
     × (is_node (record_item item) ≡ true)
@@ -32,13 +32,13 @@ IsStepOf settings item tally (Node node) = (node.item ≡ item)
 IsStepOf settings item tally Other = (tally.present ≡ None) ⊎ (is_node (record_item item) ≡ false)
 IsStepOf settings item tally (Finished end) = ⊥
 
--- this end is told, and what is found behind the records of the tally, which leave numbers or not, and have a revision
+-- this end is given, and what is found after the records of the tally, which leave numbers or not, and have a revision
 -- whose properties can't be read or none, with these places
 abbrev pub TellsEnd : Tally → (left unread : Bool) → DumpPlaces → End → SurveyEnd → Type 0
 TellsEnd tally left unread places end told =
     (told.end ≡ end) × (told.places ≡ places) × (listed_findings told.dump ≡ tally_findings tally left unread)
 
--- the revision that a node belongs to which comes behind these records, where it would have belonged to this one
+-- the revision that a node belongs to which comes after these records, if it would have belonged to this one
 abbrev pub open_behind : Option ℕ → List DumpRecord → Option ℕ
 open_behind present [] = present
 open_behind present (r ∷ records) = open_behind (present_after present r) records
@@ -49,7 +49,7 @@ pub record ComesNext (old : Surveying) (before : List DumpRecord) (r : DumpRecor
   pub count : length before ≡ old.number
   pub next : new ≡ record old { number = old.number + 1 }
 
--- a surveyor tells what is found in the next record, or again what is known at the end
+-- a surveyor gives what is found in the next record, or again what is known at the end
 abbrev pub SurveyStep : Surveying → Step → Surveying → Type 0
 SurveyStep old (Node node) new = (before : List DumpRecord) × ComesNext old before (record_item node.item) new
     × (record_number node.item ≡ old.number) × (is_node (record_item node.item) ≡ true)
@@ -61,7 +61,7 @@ SurveyStep old (Finished end) new = (records : List DumpRecord) × HasRecords ol
     × AreDumpTold old.settings records (told_at_end end) × ArePlaces old.settings records end.places
     × (new ≡ old)
 
--- this is told of the prefixes by the records that the surveyor has given
+-- this is reported of the prefixes by the records that the surveyor has given
 abbrev pub ArePrefixesTold : Surveying → List PrefixTold → Type 0
 ArePrefixesTold state told = (before : List DumpRecord) × BeginsWithRecords state.dump before
     × (length before ≡ state.number) × (told ≡ told_prefixes before state.settings.prefixes)

@@ -6,11 +6,11 @@ use Rattle.dump_history.specs.Findings.{Finding}
 use Rattle.dump_survey.specs.steps.Found.{found_prefix, listed}
 use Rattle.dump_survey.specs.Told.{NodeTold, told_naming}
 
--- a finding as it is told of the node
+-- a finding as it is reported of the node
 abbrev pub told_of_finding : SurveyedNode → Finding → NodeTold
 told_of_finding node finding =
     told_naming (found_prefix node.found finding) (record_number node.item) node.revision (record_item node.item) finding
 
--- what is told of the node
+-- what is reported of the node
 abbrev pub told_of_node : SurveyedNode → List NodeTold
 told_of_node node = map (told_of_finding node) (listed node.found)

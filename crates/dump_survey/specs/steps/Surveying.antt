@@ -20,8 +20,8 @@ pub record Surveying : Type 0 where
   pub number : ℕ
 
 -- it holds the options' prefixes, those of them that the records that the cutter has given leave idle, their tally,
--- whether they leave numbers, and have a revision whose properties can't be read, and with which of them what is found
--- in the dump as a whole comes up
+-- whether they leave numbers, and have a revision whose properties can't be read, and which of them causes each finding
+-- in the dump as a whole
 pub record Surveys (settings : Settings) (prefixes idle : List (List ℕ)) (tally : Tally) (left unread : Bool)
     (places : DumpPlaces) (cutter : CutterState) : Type 0 where
   pub prefixes_are : prefixes ≡ map bare_prefix settings.prefixes

@@ -25,12 +25,12 @@ no_tally = record {
   present = None;
 }
 
--- whether the present revision is kept, where it has no more nodes
+-- whether the present revision is kept, if it has no more nodes
 abbrev pub keeps_open : Settings → Option Present → Bool
 keeps_open settings None = true
 keeps_open settings (Some p) = p.number == 0 || p.kept || keeps_empty settings.empty p.bare
 
--- whether each revision is kept, where the present one has no more nodes
+-- whether each revision is kept, if the present one has no more nodes
 abbrev pub keeps_present : Settings → Tally → Bool
 keeps_present settings t = t.all_kept && keeps_open settings t.present
 
@@ -39,7 +39,7 @@ abbrev pub lesser : Option ℕ → ℕ → ℕ
 lesser None number = number
 lesser (Some least) number = if nat_le least number then least else number
 
--- the least number of the kept revisions, where the present one has no more nodes and this is the least of those before
+-- the least number of the kept revisions, if the present one has no more nodes and this is the least of those before
 abbrev pub least_behind : Settings → Option ℕ → Option Present → Option ℕ
 least_behind settings least None = least
 least_behind settings least (Some p) = if keeps_open settings (Some p) then Some (lesser least p.number) else least
@@ -48,7 +48,7 @@ least_behind settings least (Some p) = if keeps_open settings (Some p) then Some
 abbrev pub numbers_of : Tally → ℕ → Numbers
 numbers_of t present = record { first = t.first; least = t.least; present = present }
 
--- the number of the first revision, where one of this number comes
+-- the number of the first revision, if one of this number comes next
 abbrev pub first_with : Tally → ℕ → ℕ
 first_with t number = if t.count == 0 then number else t.first
 
@@ -57,7 +57,7 @@ abbrev pub is_above_last : Option ℕ → ℕ → Bool
 is_above_last None number = true
 is_above_last (Some last) number = nat_lt last number
 
--- behind a revision
+-- after a revision
 abbrev pub revision_tally : Settings → Tally → DumpRecord → Tally
 revision_tally settings t r = record {
   count = t.count + 1;
@@ -73,8 +73,8 @@ revision_tally settings t r = record {
   present = Some (record { number = revision_number r; bare = true; kept = false });
 }
 
--- behind a node, which is kept or not, is a copy from before the first revision or not, and stands outside of any
--- revision where none is present
+-- after a node, which is kept or not, is a copy from before the first revision or not, and is outside of any revision
+-- if none is present
 abbrev pub node_tally : Tally → Bool → Bool → Option Present → Tally
 node_tally t kept early None = record t { node_outside = true }
 node_tally t kept early (Some p) = record t {
@@ -83,7 +83,7 @@ node_tally t kept early (Some p) = record t {
   present = Some (record { number = p.number; bare = false; kept = p.kept || kept });
 }
 
--- behind another record
+-- after another record
 abbrev pub other_tally : Settings → Tally → Tally
 other_tally settings t = record t {
   all_kept = keeps_present settings t;
@@ -91,20 +91,20 @@ other_tally settings t = record t {
   present = None;
 }
 
--- behind one more record
+-- after one more record
 abbrev pub next_tally : Settings → Tally → DumpRecord → Tally
 next_tally settings t r =
     if is_revision_record r then revision_tally settings t r
     else if is_node r then node_tally t (is_kept_node settings r) (copies_from_before t.first r) t.present
     else other_tally settings t
 
--- behind these records
+-- after these records
 abbrev pub tally_behind : Settings → Tally → List DumpRecord → Tally
 tally_behind settings t [] = t
 tally_behind settings t (r ∷ records) = tally_behind settings (next_tally settings t r) records
 
--- whether this is found in the dump, where it ends here, numbers are left or not, and the properties of a revision can't
--- be read or all can
+-- whether this is found in the dump if it ends here, by whether numbers are left, and the properties of a revision
+-- can't be read or all can
 abbrev pub is_tallied : Tally → (left unread : Bool) → DumpFinding → Bool
 is_tallied t left unread DumpFinding.NoRevision = t.count == 0
 is_tallied t left unread DumpFinding.OtherNumbers = not t.numbered
@@ -115,6 +115,6 @@ is_tallied t left unread DumpFinding.SourceBefore = t.source_before
 is_tallied t left unread DumpFinding.NodeOutside = t.node_outside
 is_tallied t left unread DumpFinding.NumbersLeft = left
 
--- what is found in the dump, where it ends here
+-- what is found in the dump if it ends here
 abbrev pub tally_findings : Tally → (left unread : Bool) → List DumpFinding
 tally_findings t left unread = filter (λ f. is_tallied t left unread f) every_dump_finding

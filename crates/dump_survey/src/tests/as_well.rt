@@ -1,4 +1,4 @@
-//! What to keep as well, on worked dumps.
+//! The prefixes to add, on example dumps.
 use super::{are_words, one_prefix, rules};
 use crate::{Memory, keep_as_well, write_behind};
 use dump_rules::{Empty, Options, Side};
@@ -28,7 +28,7 @@ const WANTED: [(Side, &str, &[u8], &str); 8] = [
     (Side::Exclude, "t", NESTED, "x "),
 ];
 
-/// Whether a dump wants these paths kept as well, with a blank behind each.
+/// Whether these are the prefixes to add for a dump, with a blank after each.
 fn is_kept_as_well(
     alloc: Global,
     side: Side,
@@ -52,7 +52,7 @@ fn what_copies_want_is_kept_as_well(rt: HostRuntime) -> Result<(), Fail> {
     Ok(())
 }
 
-/// Run with each allocation refused in turn: all is told, or there is no memory.
+/// Run with each allocation failing in turn: all is reported, or there is no memory.
 #[test]
 fn what_to_keep_as_well_or_no_memory(rt: HostRuntime) {
     let Ok(options) = one_prefix(rt.alloc(), Side::Include, b"c") else {
@@ -65,7 +65,7 @@ fn what_to_keep_as_well_or_no_memory(rt: HostRuntime) {
     assert!(rt; answered);
 }
 
-/// So of the lines behind the findings.
+/// The same of the lines after the findings.
 #[test]
 fn lines_behind_the_findings_or_no_memory(rt: HostRuntime) {
     let (side, prefixes) = (Side::Include, [b"x/y".as_slice(), b"c"]);

@@ -1,4 +1,4 @@
-//! The prefix that is told with a copy that is cut.
+//! The prefix that is reported with a copy that is filtered differently.
 use super::{COPIED, rules};
 use crate::{NodeFinding, Told, survey_dump};
 use dump_rules::Side;
@@ -9,7 +9,7 @@ fn names(told: &Told<'_, '_>, finding: NodeFinding, prefix: &[u8]) -> bool {
     told.finding == finding && told.prefix == Some(prefix)
 }
 
-/// Whether two findings are told, of what is lost and of what is let in, with these prefixes.
+/// Whether two findings are reported, of what is lost and of what comes back, with these prefixes.
 fn are_cut(told: &[Told<'_, '_>]) -> bool {
     match told {
         [loses, lets_in] => {

@@ -1,18 +1,18 @@
-//! The folders to make before the load, on worked prefixes.
+//! The parent directories to create before loading, on example prefixes.
 use super::{are_words, rules};
 use crate::folders_to_make;
 use dump_rules::Side;
 use std::alloc::Global;
 use std::test::Fail;
 
-/// Whether these prefixes want these folders, with a blank behind each.
+/// Whether these prefixes need these directories, with a blank after each.
 fn is_made_first(alloc: Global, side: Side, words: &str, wanted: &str) -> Result<bool, Fail> {
     let options = rules(alloc, side, words)?;
     let folders = folders_to_make(alloc, &options)?;
     Ok(are_words(&folders, wanted))
 }
 
-/// Each row has the prefixes, with blanks between them, and the folders.
+/// Each row has the prefixes, with blanks between them, and the directories.
 const MADE: [(Side, &str, &str); 7] = [
     (Side::Include, "a/b/c", "a a/b "),
     (Side::Include, "//a/b/ a/c d/e/f", "a d d/e "),

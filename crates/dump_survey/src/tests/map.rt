@@ -54,7 +54,7 @@ fn a_sink_that_fails_has_the_first_bytes_of_a_map(rt: HostRuntime) -> Result<(),
     Ok(())
 }
 
-/// Run with each allocation refused in turn: all is written, or there is no memory.
+/// Run with each allocation failing in turn: all is written, or there is no memory.
 #[test]
 fn a_map_or_no_memory(rt: HostRuntime) {
     let Ok(options) = renumbering(rt.alloc()) else {

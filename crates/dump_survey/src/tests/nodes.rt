@@ -6,7 +6,7 @@ use std::alloc::Global;
 use std::process::Abort;
 use std::test::Fail;
 
-/// Whether these are the findings that are told.
+/// Whether these are the findings that are reported.
 fn are_told(told: &[Told<'_, '_>], wanted: &[NodeFinding]) -> bool {
     for (told, finding) in told.iter().zip(wanted) {
         if told.finding != *finding {
@@ -91,7 +91,7 @@ fn nodes_that_make_no_change_are_found(rt: HostRuntime) -> Result<(), Fail> {
     Ok(())
 }
 
-/// Nodes that are copied from `o/f`: a folder, and files without and with properties.
+/// Nodes that are copied from `o/f`: a directory, and files without and with properties.
 const LOST_FOLDER: &str =
     "Node-path: trunk/f\nNode-action: add\nNode-copyfrom-rev: 0\nNode-copyfrom-path: o/f\n\
 Node-kind: dir\nProp-content-length: 10\nContent-length: 10\n\nPROPS-END\n";
@@ -139,7 +139,7 @@ fn copies_that_lose_or_let_in_something_are_found(rt: HostRuntime) -> Result<(),
     Ok(())
 }
 
-/// A node with mergeinfo of this path, and of no revision where there is no colon.
+/// A node with mergeinfo of this path, and of no revision if there is no colon.
 const MERGED_FROM_TRUNK: &str =
     "Node-path: trunk\nNode-action: change\nProp-content-length: 42\nContent-length: 42\n\n\
     K 13\nsvn:mergeinfo\nV 8\n/trunk:1\nPROPS-END\n";
@@ -202,7 +202,7 @@ fn left_out_folders_and_mergeinfo_are_found(rt: HostRuntime) -> Result<(), Fail>
     Ok(())
 }
 
-/// The same of the last node of a part of a history that is renumbered.
+/// The same of the last node of a partial dump that is renumbered.
 fn assert_found_in_part(
     rt: &impl Abort,
     alloc: Global,

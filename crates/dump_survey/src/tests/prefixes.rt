@@ -1,11 +1,11 @@
-//! What is found in prefixes, on a worked dump.
+//! What is found in prefixes, on an example dump.
 use super::rules;
 use crate::{PrefixFinding, ToldPrefix, survey_dump};
 use dump_rules::Side;
 use std::alloc::Global;
 use std::test::Fail;
 
-/// A folder, a copy of it, and a copy of what stands in that one.
+/// A directory, a copy of it, and a copy of what is in that one.
 const COPIES: &[u8] = b"SVN-fs-dump-format-version: 2\n\n\
 Revision-number: 0\n\n\
 Revision-number: 1\n\n\
@@ -14,7 +14,7 @@ Revision-number: 2\n\n\
 Node-path: /b\nNode-kind: dir\nNode-action: add\nNode-copyfrom-rev: 1\nNode-copyfrom-path: t\n\n\n\
 Node-path: g\nNode-kind: dir\nNode-action: add\nNode-copyfrom-rev: 1\nNode-copyfrom-path: b/f\n\n\n";
 
-/// Whether this is found in these prefixes and no others, which stand in a text with a blank behind each.
+/// Whether this is found in these prefixes and no others, which are in a text with a blank after each.
 fn are_told(told: &[ToldPrefix<'_>], finding: PrefixFinding, words: &str) -> bool {
     let mut rest = words.as_bytes();
     for one in told {
@@ -28,7 +28,7 @@ fn are_told(told: &[ToldPrefix<'_>], finding: PrefixFinding, words: &str) -> boo
     rest.is_empty()
 }
 
-/// Whether of these prefixes those aren't in their short form, and those are idle.
+/// Whether of these prefixes those aren't canonical, and those are idle.
 fn tells(alloc: Global, words: &str, not_short: &str, idle: &str) -> Result<bool, Fail> {
     let options = rules(alloc, Side::Exclude, words)?;
     let survey = survey_dump(alloc, COPIES, &options)?;
@@ -38,7 +38,7 @@ fn tells(alloc: Global, words: &str, not_short: &str, idle: &str) -> Result<bool
     )
 }
 
-/// Each row has the prefixes, with blanks between them, those that aren't in their short form, and those that are idle.
+/// Each row has the prefixes, with blanks between them, those that aren't canonical, and those that are idle.
 #[test]
 fn prefixes_are_told_in_their_order(rt: HostRuntime) -> Result<(), Fail> {
     let rows = [

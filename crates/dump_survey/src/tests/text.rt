@@ -50,7 +50,7 @@ prefix t/f: no node has a path at or below it, and none is copied from there or 
 total 1: copies that may lack paths that are excluded at their source: exclude these paths below the copy too, or not below the source\n\
 total 1: prefixes that match nothing in the dump: check that they are spelled as in the dump\n";
 
-/// Run with each allocation refused in turn: all is written, or there is no memory.
+/// Run with each allocation failing in turn: all is written, or there is no memory.
 #[test]
 fn a_text_or_no_memory(rt: HostRuntime) {
     let Ok(options) = one_prefix(rt.alloc(), Side::Exclude, b"t/f") else {

@@ -1,4 +1,4 @@
--- What is told of a survey, and what its writer took.
+-- What is known of a survey, and what its writer took.
 use Rattle.std.specs.Prelude.{◌⊎◌, ℕ, Bool, List, [], Option, Result, Ok, Err}
 use Rattle.std.specs.Io.KnownBytes.{Appends}
 use Rattle.dump_rules.specs.Settings.{Settings}
@@ -7,7 +7,7 @@ use Rattle.dump_survey.specs.SurveyText.{IsSurveyText}
 use Rattle.survey_cli.specs.Drive.{IsCallText, IsMapAskedFor, IsText, IsWholeText, TakesFirst, finding_status}
 use Rattle.survey_cli.specs.declared.words.Call.{Call}
 
--- the writer took a first part of the text of a survey with the lines behind its findings, or of the survey alone
+-- the writer took a first part of the text of a survey with the lines after its findings, or of the survey alone
 abbrev pub FrontBreaksOff : Settings → List ℕ → Option (List ℕ) → Option (List ℕ) → Type 0
 FrontBreaksOff settings dump old new = (text : List ℕ) × (found : Bool)
     × (IsSurveyText settings dump text found ⊎ IsWholeText settings dump text found) × TakesFirst old new text
@@ -22,13 +22,13 @@ abbrev pub SurveyBreaksOff : Call → List ℕ → Option (List ℕ) → Option 
 SurveyBreaksOff call dump old new =
     (text : List ℕ) × (found : Bool) × IsText call dump text found × TakesFirst old new text
 
--- of a text that was written whole it is told whether something is found; another one broke off
+-- of a text that was written whole it is known whether something is found; another one broke off
 abbrev pub Arrives : {E : Type 0} → Call → List ℕ → Option (List ℕ) → Option (List ℕ) → Result Bool E → Type 0
 Arrives call dump old new (Ok found) =
     (text : List ℕ) × IsCallText call dump text found × Appends old new text
 Arrives call dump old new (Err failure) = SurveyBreaksOff call dump old new
 
--- the status that is told
+-- the status that is given
 abbrev pub told_status : {E : Type 0} → Result Bool E → ℕ
 told_status (Ok found) = finding_status found
 told_status (Err failure) = 3

@@ -4,7 +4,7 @@ use Rattle.clap.specs.Words.{Text}
 use Rattle.cli_support.specs.steps.LineReading.{is_call_of, is_taken_by}
 use Rattle.survey_cli.specs.CommandLine.{flags}
 
--- the words name a side, and what stands behind it is what the command takes
+-- the arguments name a subcommand, and what follows it is what the command takes
 abbrev pub is_survey_call : List Text → Bool
 is_survey_call words = is_call_of flags words
 

@@ -45,7 +45,7 @@ impl Write for Broken {
     }
 }
 
-/// Whether a survey under these words has this status, and leaves these lines and this on the streams.
+/// Whether a survey under these arguments has this status, and leaves these lines and this on the streams.
 fn is_survey<'a>(alloc: Global, words: &'a [&'a str], wanted: (u8, &[u8], &[u8])) -> bool {
     let mut reader = COPIED;
     let mut output = Vec::new(alloc);

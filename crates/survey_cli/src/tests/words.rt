@@ -1,4 +1,4 @@
-//! Worked words.
+//! Example arguments.
 
 use crate::words::{Call, call_of};
 use cli_support::Usage;
@@ -48,7 +48,7 @@ fn has_prefixes(options: &Options, prefixes: &[&str]) -> bool {
     options.prefix(prefixes.len()).is_none()
 }
 
-/// Whether words give these options. The words and the prefixes stand in one text each, with spaces between them.
+/// Whether arguments give these options. The arguments and the prefixes are in one text each, with spaces between them.
 fn is_read(alloc: Global, line: &str, prefixes: &str, wanted: Wanted) -> Result<bool, Fail> {
     let words: Vec<&str> = line.split(' ').collect(alloc)?;
     let prefixes: Vec<&str> = prefixes.split(' ').collect(alloc)?;
@@ -139,7 +139,7 @@ fn is_refused<'a>(alloc: Global, words: &'a [&'a str], usage: Usage) -> bool {
     }
 }
 
-/// The same of words with spaces between them.
+/// The same of arguments with spaces between them.
 fn is_line_refused(alloc: Global, line: &str, usage: Usage) -> Result<bool, Fail> {
     let words: Vec<&str> = line.split(' ').collect(alloc)?;
     Ok(is_refused(alloc, words.as_slice(), usage))
@@ -195,7 +195,7 @@ fn is_two_prefixes_renumbered(options: &Options) -> bool {
         && options.renumber()
 }
 
-/// Run with each allocation refused in turn: there are options, or no memory.
+/// Run with each allocation failing in turn: there are options, or no memory.
 #[test]
 fn options_or_no_memory(rt: HostRuntime) {
     let words = ["svndumpsurvey", "exclude", "--renumber-revs", "a", "b"];
