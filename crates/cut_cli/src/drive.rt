@@ -132,7 +132,7 @@ fn answer_files<
     }
 }
 
-/// The same, where the call has all prefixes.
+/// The same if the call has all prefixes.
 fn answer_whole<H: Threads + Wait + Sync, R: Read, W: Write, M: NamedOutput, E: Write>(
     rt: &H,
     alloc: Global,
@@ -179,7 +179,7 @@ fn answer_call<H: Threads + Wait + Sync, R: Read, W: Write, M: NamedOutput, E: W
     }
 }
 
-/// Cuts the whole input, where the file of the map is there.
+/// Cuts the whole input, if the file of the map is there.
 fn cut_input<H: Threads + Wait + Sync, R: Read, W: Write, M: NamedOutput, E: Write>(
     rt: &H,
     alloc: Global,
@@ -229,7 +229,7 @@ fn cut<H: Threads + Wait + Sync, W: Write, M: NamedOutput, E: Write>(
     }
 }
 
-/// The status where nothing is written.
+/// The status if nothing is written.
 fn obstacle_status(obstacle: Obstacle) -> u8
     ensures { result ≡ obstacle_status obstacle }
 {
@@ -239,7 +239,7 @@ fn obstacle_status(obstacle: Obstacle) -> u8
     }
 }
 
-/// Filters a dump that is ready, writes the map behind it, and says how it ended.
+/// Filters a dump that is ready, writes the map after it, and says how it ended.
 fn write_cut<H: Threads + Wait + Sync, W: Write, M: NamedOutput, E: Write>(
     rt: &H,
     alloc: Global,
@@ -308,7 +308,7 @@ fn run_and_flush<H: Threads + Wait + Sync, W: Write>(
     flush_after(sink, answer, ending)
 }
 
-/// The line that ends the output where the filter found a fault. No reader of dumps takes it for a record.
+/// The line that ends the output if the filter found a fault. No reader of dumps takes it for a record.
 pub(crate) fn ending(alloc: Global, kind: FaultKind) -> Result<Vec<u8>, io::Error>
     ensures { IfOk result (λ line. line.items ≡ stop_line kind) }
 {
@@ -318,7 +318,7 @@ pub(crate) fn ending(alloc: Global, kind: FaultKind) -> Result<Vec<u8>, io::Erro
     Ok(line)
 }
 
-/// Writes that line, where the filter found a fault.
+/// Writes that line, if the filter found a fault.
 fn write_ending<S: Sink>(alloc: Global, answer: Answer, sink: &mut S) -> Result<(), Failure>
     ensures whole { OnOk result (Appends (S.taken sink.old) (S.taken sink.new) (stop_line_of answer)) }
     ensures part { OnErr result (TakesPart (S.taken sink.old) (S.taken sink.new) (stop_line_of answer)) }
@@ -413,7 +413,7 @@ fn youngest(dump: &[u8], kept: u64) -> u64 {
     }
 }
 
-/// How many paths are deleted behind copies.
+/// How many paths are deleted after copies.
 fn count_deletes(deletes: &Option<Deletes>) -> usize {
     let mut count: usize = 0;
     if let Some(deletes) = deletes {

@@ -37,7 +37,7 @@ pub enum Obstacle {
     Refused(Refused),
     /// Copies would bring excluded content back.
     ComesBack,
-    /// The change at this place is a copy, behind which a path would have to be deleted that no line of a dump can hold.
+    /// The change at this place is a copy, after which a path would have to be deleted that no line of a dump can hold.
     OddDelete(usize),
 }
 
@@ -46,7 +46,7 @@ pub enum Obstacle {
 pub struct Ready {
     /// The options of the filter that writes the cut.
     pub options: Options,
-    /// The paths to delete behind each node that the filter keeps; none, where it has to delete nothing.
+    /// The paths to delete after each node that the filter keeps; none if it has to delete nothing.
     pub deletes: Option<Deletes>,
     /// How many revisions stay that have changes, and all of them at excluded paths.
     pub emptied: u64,
@@ -127,7 +127,7 @@ fn brings_back<E: Write>(
     Ok(true)
 }
 
-/// The paths that the call excludes; none, where copies would bring some of it back. It reports what copies bring.
+/// The paths that the call excludes; none if copies would bring some of it back. It reports what copies bring.
 fn exclude<E: Write>(
     alloc: Global,
     dump: &[u8],
@@ -151,7 +151,7 @@ fn exclude<E: Write>(
     Ok(Some(excluded))
 }
 
-/// The paths to delete behind each kept change; none, where each copy loses nothing. It reports them.
+/// The paths to delete after each kept change; none if each copy loses nothing. It reports them.
 fn look_for_deletes<E: Write>(
     alloc: Global,
     index: &ChangeIndex<'_>,
@@ -180,7 +180,7 @@ fn look_for_deletes<E: Write>(
     }
 }
 
-/// How a filter that excludes these paths, and deletes behind copies, writes the cut.
+/// How a filter that excludes these paths, and deletes after copies, writes the cut.
 fn prepare<E: Write>(
     alloc: Global,
     index: &ChangeIndex<'_>,
@@ -229,7 +229,8 @@ fn examine_changes<E: Write>(
     }
 }
 
-/// Looks at the changes of a dump up to where its reading stops: the first change that a load would reject comes before that.
+/// Looks at the changes of a dump up to the record at which its reading stops: the first change that a load would
+/// reject comes before that.
 fn examine_front<E: Write>(
     alloc: Global,
     dump: &[u8],

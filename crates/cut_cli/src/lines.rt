@@ -261,7 +261,7 @@ fn write_copy<E: Write>(
     write_source(errors, source, b"")
 }
 
-/// Lists the copies behind which paths are deleted: these behind each change at a path that isn't excluded.
+/// Lists the copies after which paths are deleted: these after each change at a path that isn't excluded.
 pub fn write_deletes<E: Write>(
     errors: &mut E,
     changes: &[NodeChange<'_>],
@@ -290,7 +290,7 @@ pub fn write_deletes<E: Write>(
     Ok(())
 }
 
-/// Says that behind the copy at this place a path would have to be deleted that no line can hold.
+/// Says that after the copy at this place a path would have to be deleted that no line can hold.
 pub fn write_odd_delete<E: Write>(
     errors: &mut E,
     changes: &[NodeChange<'_>],

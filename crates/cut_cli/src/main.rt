@@ -40,7 +40,7 @@ fn main(rt: HostRuntime) -> ExitCode {
     ExitCode::from(status)
 }
 
-/// The whole program on the words and the streams of the process.
+/// The whole program on the arguments and the streams of the process.
 fn run_words<H: Threads + Wait + Sync>(threads: &H, rt: &HostRuntime) -> Result<u8, Usage> {
     let alloc = rt.alloc();
     let words = arguments(rt)?;

@@ -34,7 +34,7 @@ pub fn begin_map<M: NamedOutput, E: Write>(
     true
 }
 
-/// The number that a load gives a kept revision, where the last one that it gave is this.
+/// The number that a load gives a kept revision, if the last one that it gave is this.
 fn loaded_number(last: Option<u64>, number: u64) -> u64
     requires { unwrap_or last 0 + 1 < 2 ^ 64 }
     ensures { result ≡ loaded_number last number }
@@ -48,7 +48,7 @@ fn loaded_number(last: Option<u64>, number: u64) -> u64
     }
 }
 
-/// Adds the line of a revision, where the last number that a load gave is this. It gives the last number behind it.
+/// Adds the line of a revision, if the last number that a load gave is this. It gives the last number after it.
 fn push_line(text: &mut Vec<u8>, last: Option<u64>, fate: RevisionFate) -> io::Result<Option<u64>>
     requires { unwrap_or last 0 + 1 < 2 ^ 64 }
     ensures line { OnOk result (text.new.items ≡ text.old.items ++ fate_line last fate) }
@@ -94,7 +94,8 @@ fn map_text(alloc: Global, dump: &[u8], options: &Options) -> io::Result<Vec<u8>
     }
 }
 
-/// Writes the map behind a whole cut, if one is asked for. It reports a failure. Whether all of it was written.
+/// Writes the map after a whole cut, if one is asked for. It reports a failure. The result is whether all of it was
+/// written.
 pub fn end_map<M: NamedOutput, E: Write>(
     alloc: Global,
     dump: &[u8],

@@ -95,7 +95,7 @@ fn write_message<E: Write>(errors: &mut E, alloc: Global, error: &Error) -> io::
     write_seen(errors, first.as_bytes())
 }
 
-/// Writes the line of arguments that clap refuses.
+/// Writes the line of arguments that clap rejects.
 pub fn write_refused_line<E: Write>(
     errors: &mut E,
     alloc: Global,
@@ -130,7 +130,7 @@ pub fn write_no_map<E: Write>(errors: &mut E, name: &str) -> io::Result<()> {
     writeln!(errors, "'")
 }
 
-/// Says that the map can't be written whole, where the new dump was.
+/// Says that the map can't be written whole, though the new dump was.
 pub fn write_cut_map<E: Write>(errors: &mut E, name: &str) -> io::Result<()> {
     write!(errors, "svndumpcut: cannot write '")?;
     write_seen(errors, name.as_bytes())?;

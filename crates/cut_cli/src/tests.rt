@@ -272,7 +272,7 @@ const MAPPED: [&str; 6] = [
 
 const MAP: &[u8] = b"r0 becomes r0\nr1 becomes r1\nr2 becomes r2\n";
 
-/// How the lines of a cut end that follows copies, where its map can't be written.
+/// How the lines of a cut end that follows copies, if its map can't be written.
 const UNMAPPED_LINES: &[u8] = b"also excluded, as copies of excluded content: 1 path\n  \
 /e/f (r2, copied from /d/f@1)\n\
 svndumpcut: cannot write 'm'; the new dump is whole\n";

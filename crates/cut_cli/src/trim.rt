@@ -1,4 +1,4 @@
-//! The filter's text with deletes behind its nodes.
+//! The filter's text with deletes after its nodes.
 ghost use Rattle.std.specs.Prelude.{◌≡◌, ◌⊎◌, [], IfOk, Some};
 ghost use Rattle.std.specs.Io.KnownBytes.{Keeps};
 ghost use Rattle.dump_writer.specs.steps.SinkStates.{loan_of};
@@ -18,8 +18,8 @@ use std::thread::Threads;
 /// How many bytes the memory takes at once.
 const MOST: usize = 1 << 20;
 
-/// Runs the filter into memory, and hands on what it wrote with the deletes behind its nodes. Where the filter found a
-/// fault, the last line alone is handed on.
+/// Runs the filter into memory, and writes what it wrote with the deletes after its nodes. If the filter found a fault,
+/// it writes the last line alone.
 pub(crate) fn run_and_trim<H: Threads + Wait + Sync, W: Write>(
     rt: &H,
     alloc: Global,
@@ -47,7 +47,7 @@ pub(crate) fn run_and_trim<H: Threads + Wait + Sync, W: Write>(
     flush_after(sink, answer, ending)
 }
 
-/// What is told of a failure before anything is written. Writing into memory fails where there is none.
+/// The answer of a failure before anything is written. Writing into memory fails if there is none.
 fn failed_first(failure: Failure) -> Answer
     ensures { FailsFirst result }
 {
@@ -61,7 +61,7 @@ fn failed_first(failure: Failure) -> Answer
     }
 }
 
-/// What the filter wrote of a whole dump, with the deletes; or the last line, where it found a fault.
+/// What the filter wrote of a whole dump, with the deletes; or the last line, if it found a fault.
 fn trimmed_piece<'t>(
     alloc: Global,
     answer: Answer,

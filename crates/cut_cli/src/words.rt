@@ -85,8 +85,8 @@ fn wrong<'a, E: Write>(errors: &mut E, mistake: Mistake<'_>) -> Result<Call<'a>,
     Err(Usage::Words)
 }
 
-/// What a command finds behind the first argument of a line, which is the side. It says what is wrong with a line that the
-/// command doesn't take.
+/// What a command finds after the first argument of a line, which is the subcommand. It says what is wrong with a line
+/// that the command doesn't take.
 fn read_named<'a, E: Write>(
     alloc: Global,
     command: Command<'a>,
