@@ -159,7 +159,7 @@ CutTextsAreKept = (patched : Patching) (settings : Settings) (included siblings 
     → slice_get trees number ≡ Some tree → TreeIsCut settings included again tree other
     → TextsAreKept settings revisions other
 
--- whether the change's path is kept, and so is its source, where it makes a copy
+-- whether the change's path is kept, and so is its source, if it makes a copy
 abbrev pub tells_kept_paths : Settings → Change → Bool
 tells_kept_paths settings c = keeps settings c.path && not (is_lost settings c.made)
 
@@ -169,8 +169,8 @@ TellsKeptPaths patched settings text = (again : List DumpRecord) × (written : L
     × HasRecords text again Ending.Whole × MakeRevisionsWithGaps patched again written
     × IsTrue (list_all (λ changes. list_all (tells_kept_paths settings) changes) written)
 
--- so does what the filter writes of a dump, be it separated or not: no node is left at an excluded path, also where
--- revisions show none
+-- so does what the filter writes of a dump, whether or not it is separated: no node is left at an excluded path, also
+-- where revisions show none
 abbrev pub FilteredDumpsTellKeptPaths : Type 0
 FilteredDumpsTellKeptPaths = (patched : Patching) (settings : Settings) (dump text : List ℕ)
     (records : List DumpRecord) (revisions : List (List Change)) →

@@ -1,5 +1,5 @@
--- The law of filtered dumps: loading commutes with filtering. What is written, loaded over the parent directories, has the
--- trees that the whole dump has, restricted to the kept paths.
+-- The law of filtered dumps: loading commutes with filtering. What is written, loaded over the parent directories, has
+-- the trees that the whole dump has, restricted to the kept paths.
 use Rattle.std.specs.Prelude.{◌≡◌, ℕ, Bool, not, ◌||◌, List, [], ◌∷◌, ◌++◌, length, drop, take, filter, Some, IsTrue}
 use Rattle.std.specs.List.{AllZip, list_all, list_any}
 use Rattle.dump_text.specs.PropertyList.{Property}
@@ -109,8 +109,8 @@ FilteredDumpFrontRestricts = (patched : Patching) (settings : Settings) (dump te
     → AllRevisionsSeparate settings (root_alone ∷ []) root_alone front
     → FrontLoadsRestricted patched settings records trees text
 
--- the same if the changes of the first revisions are quiet, and none of their copies that lose their source is made over
--- an existing node
+-- the same if the changes of the first revisions are quiet, and none of their copies that lose their source is made
+-- over an existing node
 abbrev pub QuietDumpFrontRestricts : Type 0
 QuietDumpFrontRestricts = (patched : Patching) (settings : Settings) (dump text : List ℕ) (records : List DumpRecord)
     (front rest : List (List Change)) (trees : List Tree) →
@@ -163,15 +163,15 @@ TreesRestrictBehind count settings records trees others =
     ImagesRestrict settings (IsPropertyBehind count settings (kept_revisions settings records))
     (image (kept_revisions settings records)) trees others
 
--- these changes load after these older revisions and one that has the parent directories, and give these trees from that
--- one on
+-- these changes load after these older revisions and one that has the parent directories, and give these trees from
+-- that one on
 abbrev pub LoadBehindGiven : Settings → List Tree → List (List Change) → List Tree → Type 0
 LoadBehindGiven settings older moved others =
     loaded (older ++ given settings ∷ []) (given settings) moved ≡ Some (older ++ others)
 
 -- what is written makes these changes, and is loaded after revision 1, which has the parent directories. If the load
--- raises each copy's number, and mergeinfo, by one, there is a tree for each kept revision, and the trees are these trees,
--- restricted. They begin with that of revision 1, so each is at the image of its number, raised by one
+-- raises each copy's number, and mergeinfo, by one, there is a tree for each kept revision, and the trees are these
+-- trees, restricted. They begin with that of revision 1, so each is at the image of its number, raised by one
 abbrev pub WrittenLoadsBehindFolders : Settings → List DumpRecord → List Tree → List (List Change) → Type 0
 WrittenLoadsBehindFolders settings records trees written =
     (moved : List (List Change)) → AreRevisionsBehind (IsRaised 1) 1 written moved

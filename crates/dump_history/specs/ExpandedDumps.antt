@@ -105,7 +105,7 @@ pub record IsSameRecord (r s : DumpRecord) : Type 0 where
   pub text : s.text ≡ r.text
 
 -- these records are an expanded form of those of a dump that makes these revisions: they are in place of them, and make
--- revisions whose changes are expansions of those of the dump, where it is loaded into a new repository
+-- revisions whose changes are expansions of those of the dump, if it is loaded into a new repository
 pub record IsExpandedDump (patched : Patching) (settings : Settings) (records : List DumpRecord) (steads : List Stead)
     (again : List DumpRecord) (revisions expanded : List (List Change)) : Type 0 where
   pub may : AllZip (λ r stead. IsTrue (may_stand r stead)) records steads
@@ -140,7 +140,7 @@ FilteredExpansionRestricts = (patched : Patching) (settings : Settings) (dump ex
     → KeepsNamedNumbers settings again
     → LoadsRestricted patched settings again trees text
 
--- so it has where it is loaded after the parent directories
+-- the same if it is loaded after the parent directories
 abbrev pub FilteredExpansionRestrictsBehindFolders : Type 0
 FilteredExpansionRestrictsBehindFolders = (patched : Patching) (settings : Settings) (dump expansion text : List ℕ)
     (records : List DumpRecord) (steads : List Stead) (again : List DumpRecord)

@@ -24,8 +24,7 @@ use Rattle.dump_history.specs.ExpandedDumps.{Stead, IsSameRecord, may_stand, exp
 use Rattle.dump_history.specs.ExpandedText.{IsExpandedText, stead_groups, expanded_revisions}
 
 -- these records are an expanded form of those of a part that makes these revisions after that many: they are in place
--- of them, and make revisions whose changes are expansions of those of the part, where it is loaded into a new
--- repository
+-- of them, and make revisions whose changes are expansions of those of the part, if it is loaded into a new repository
 pub record IsExpandedPart (patched : Patching) (settings : Settings) (before : ℕ) (records : List DumpRecord)
     (steads : List Stead) (again : List DumpRecord) (revisions expanded : List (List Change)) : Type 0 where
   pub may : AllZip (λ r stead. IsTrue (may_stand r stead)) records steads
@@ -72,8 +71,8 @@ NoSourceIsMissedInPart = (patched : Patching) (settings : Settings) (before : �
     → (front after : List DumpRecord) (s : DumpRecord) → again ≡ front ++ s ∷ after
     → ¬ HoldsOfRecord settings front s CopySource
 
--- where what is made in place of a part's changes are these revisions, after that many, and they are expansions of
--- those of the part, a text that has what may be in place of its records is a part, an expanded form of it
+-- if what is made in place of a part's changes are these revisions, after that many, and they are expansions of those
+-- of the part, a text that has what may be in place of its records is a part, an expanded form of it
 abbrev pub PartExpansionsAreParts : Type 0
 PartExpansionsAreParts = (patched : Patching) (settings : Settings) (before : ℕ) (dump text : List ℕ)
     (records : List DumpRecord) (steads : List Stead) (revisions expanded : List (List Change)) →

@@ -1,4 +1,5 @@
--- The text of an expanded dump: what is written in place of each record, and the changes that are made in place of each.
+-- The text of an expanded dump: what is written in place of each record, and the changes that are made in place of
+-- each.
 use Rattle.std.specs.Prelude.{◌≡◌, ℕ, true, List, [], ◌∷◌, ◌++◌, drop, map, if◌then◌else◌, IsTrue}
 use Rattle.std.specs.List.{AllZip, list_all}
 use Rattle.dump_records.specs.DumpText.{Ending, HasRecords, line_feeds}
@@ -80,8 +81,8 @@ stead_groups (r ∷ records) (stead ∷ steads) =
 abbrev pub made_in_stead : List DumpRecord → List Stead → List (List Change) → List (List Change)
 made_in_stead records steads revisions = expanded_revisions (drop 1 (stead_groups records steads)) revisions
 
--- where the changes that are made in place of a dump's are expansions of them, such a text is a dump, whose records are
--- an expanded form of those of the dump
+-- if the changes that are made in place of a dump's are expansions of them, such a text is a dump, whose records are an
+-- expanded form of those of the dump
 abbrev pub ExpansionsAreDumps : Type 0
 ExpansionsAreDumps = (patched : Patching) (settings : Settings) (dump text : List ℕ) (records : List DumpRecord)
     (steads : List Stead) (revisions : List (List Change)) →

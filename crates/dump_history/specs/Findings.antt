@@ -83,7 +83,7 @@ makes_copy r = makes r && is_copy r
 abbrev pub cuts : Settings → List ℕ → List ℕ → Bool
 cuts settings path other = not (cuts_alike settings.side settings (path_of path) (path_of other))
 
--- whether a prefix lies below the node's path, where prefixes are included
+-- whether a prefix is below the node's path, if prefixes are included
 abbrev pub is_above_prefix : Settings → DumpRecord → Bool
 is_above_prefix settings r = is_above_some settings.side settings.prefixes (path_of (node_path r))
 
@@ -92,8 +92,8 @@ abbrev pub is_exclude : Side → Bool
 is_exclude Include = false
 is_exclude Exclude = true
 
--- which of these faults the filter has for the node: its copy's revision has no new number; and of its mergeinfo a value
--- can't be read, or names a path that isn't kept, or a revision outside of the dump
+-- which of these faults the filter has for the node: its copy's revision has no new number; and of its mergeinfo a
+-- value can't be read, or names a path that isn't kept, or a revision outside of the dump
 pub record NodeFaults : Type 0 where
   pub copy_revision : Bool
   pub unread : Bool

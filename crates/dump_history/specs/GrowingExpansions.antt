@@ -27,8 +27,8 @@ ExpandedTextsGrow = (records : List DumpRecord) (steads : List Stead) (text own 
 
 -- what is in place of the nodes of each revision
 
--- one more revision begins a group; one more node, where nodes are in revisions, is added to the last one; and any
--- other record leaves them as they are
+-- one more revision begins a group; one more node, if nodes are in revisions, is added to the last one; and any other
+-- record leaves them as they are
 abbrev pub SteadGroupsGrow : Type 0
 SteadGroupsGrow = (dump : List ℕ) (records : List DumpRecord) (steads : List Stead) (r : DumpRecord) (stead : Stead) →
     BeginsWithRecords dump (records ++ r ∷ [])
@@ -63,7 +63,7 @@ ExpansionsBegin = (settings : Settings) (revisions expanded : List (List Change)
     AllRevisionsExpand settings (root_alone ∷ []) root_alone revisions expanded
     → AllRevisionsExpand settings (root_alone ∷ []) root_alone (revisions ++ [] ∷ []) (expanded ++ [] ∷ [])
 
--- where one more change of the last revision is expanded as it is asked there, in the trees up to it, all are
+-- if one more change of the last revision is expanded as it is asked there, in the trees up to it, all are
 abbrev pub ExpansionsGrow : Type 0
 ExpansionsGrow = (settings : Settings) (revisions expanded : List (List Change)) (changes first : List Change)
     (c : Change) (more : List Change) → length expanded ≡ length revisions

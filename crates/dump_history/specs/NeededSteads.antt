@@ -181,8 +181,8 @@ pub record IsCopiedAmong (path : NodePath) (number : ℕ) (source rest : NodePat
   pub at : copy.path ≡ path ++ first
   pub made : copy.made ≡ Some (Made.Copied number (source ++ first))
 
--- whatever is needed in place of a copy, each part of it that the cut takes is copied there from where it was copied, by
--- itself or with more; so it keeps its history
+-- whatever is needed in place of a copy, each part of it that the cut takes is copied there from where it was copied,
+-- by itself or with more; so it keeps its history
 abbrev pub TakenPartsStayCopies : Type 0
 TakenPartsStayCopies = (settings : Settings) (history : History) (before old : Tree) (r : DumpRecord) (stead : Stead)
     (c : Change) (number : ℕ) (source rest : NodePath) (part : Branch) →
@@ -198,8 +198,8 @@ abbrev pub IsKeptText : Settings → List (List Change) → TextChange → Type 
 IsKeptText settings revisions change = SomeKeptDoes settings revisions (λ c. c.text ≡ Some change)
     ⊎ ((text : List ℕ) × (change ≡ TextChange.Replaced text) × IsMadeByKept settings revisions text)
 
--- the change copies from the revision of this number, and a part of the copy, or all of it, is that of the source to the
--- path
+-- the change copies from the revision of this number, and a part of the copy, or all of it, is that of the source to
+-- the path
 abbrev pub CopiesPart : NodePath → ℕ → NodePath → Change → Type 0
 CopiesPart path number source c = (top : NodePath) × (rest : NodePath) × (c.made ≡ Some (Made.Copied number top))
     × (path ≡ c.path ++ rest) × (source ≡ top ++ rest)
@@ -229,8 +229,8 @@ ExpandedChangesAreKept = (patched : Patching) (settings : Settings) (dump filter
     → All (All (λ (d : Change). IsTrue (keeps settings d.path) → ComesOfKept settings revisions IsSameProperty IsSameNumber d))
     (made_in_stead records f.steads revisions)
 
--- so what is written is a dump whose changes, each of them, come of kept changes of the dump, also where revisions
--- don't show it
+-- so what is written is a dump whose changes, each of them, come of kept changes of the dump, also if revisions don't
+-- show it
 abbrev pub WrittenChangesAreKept : Type 0
 WrittenChangesAreKept = (patched : Patching) (settings : Settings) (dump filtered : List ℕ)
     (records again : List DumpRecord) (revisions : List (List Change)) (trees : List Tree)

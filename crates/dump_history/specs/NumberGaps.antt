@@ -1,6 +1,6 @@
 -- Gaps in the numbers of a dump's revisions. A load numbers revisions itself, without gaps, and goes by the numbers in
 -- the dump only to find the revisions that copies and mergeinfo name (svnadmin load of Subversion 1.14,
--- load-fs-vtable.c). So where none is named after a gap, a dump makes the revisions that it would make without it.
+-- load-fs-vtable.c). So if none is named after a gap, a dump makes the revisions that it would make without it.
 use Rattle.std.specs.Prelude.{◌≡◌, ◌⊎◌, ℕ, suc, Bool, true, false, not, ◌&&◌, ◌||◌, ◌==◌, List, [], ◌∷◌, nat_lt, Option, Some, None, Contains, IsTrue, MatchBool, ⊤}
 use Rattle.std.specs.List.{AllZip, list_all, list_any}
 use Rattle.dump_text.specs.PropertyList.{Property}
@@ -92,7 +92,7 @@ HasNamingNodeBehind settings (g ∷ gs) =
 abbrev pub NamesRevisionBehind : Settings → List DumpRecord → Type 0
 NamesRevisionBehind settings records = HasNamingNodeBehind settings (groups records)
 
--- whether what is written names revisions by the numbers that a load gives them, where the whole dump has no gap: they
--- are renumbered, or no kept node after the first dropped one names one
+-- whether what is written names revisions by the numbers that a load gives them, if the whole dump has no gap: they are
+-- renumbered, or no kept node after the first dropped one names one
 abbrev pub KeepsNamedNumbers : Settings → List DumpRecord → Type 0
 KeepsNamedNumbers settings records = MatchBool settings.renumber ⊤ (¬ NamesRevisionBehind settings records)

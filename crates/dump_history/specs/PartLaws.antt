@@ -46,8 +46,8 @@ abbrev pub NoGapIsNeededInPart : Type 0
 NoGapIsNeededInPart = (patched : Patching) (before : ℕ) (records : List DumpRecord) (revisions : List (List Change)) →
     MakePartRevisions patched before records revisions → MakePartRevisionsWithGaps patched before records revisions
 
--- the part is loaded into a repository that has revision 0 alone, with the first tree: it makes these revisions, and then
--- these are the repository's trees, that of revision 0 among them; mergeinfo is as in the dump
+-- the part is loaded into a repository that has revision 0 alone, with the first tree: it makes these revisions, and
+-- then these are the repository's trees, that of revision 0 among them; mergeinfo is as in the dump
 pub record PartLoadsAs (patched : Patching) (before : ℕ) (first : Tree) (records : List DumpRecord)
     (revisions : List (List Change)) (trees : List Tree) : Type 0 where
   pub makes : MakePartRevisions patched before records revisions
@@ -83,8 +83,9 @@ PartTreesRestrict IsLoaded before settings records trees others =
     ImagesRestrict settings (IsPropertyLoaded IsLoaded settings (kept_revisions settings records))
     (image (kept_as_loaded before (kept_revisions settings records))) trees others
 
--- what is written makes these changes, and is loaded after these older revisions and one that has the parent directories.
--- The load raises the number of each copy by their count. Then the trees are those of the loaded part, restricted
+-- what is written makes these changes, and is loaded after these older revisions and one that has the parent
+-- directories. The load raises the number of each copy by their count. Then the trees are those of the loaded part,
+-- restricted
 abbrev pub PartLoadsBehind : NewProperty → List Tree → ℕ → Settings → List DumpRecord → List Tree → List (List Change)
     → Type 0
 PartLoadsBehind IsLoaded older before settings records trees written =
@@ -92,9 +93,10 @@ PartLoadsBehind IsLoaded older before settings records trees written =
     → (others : List Tree) × LoadBehindGiven settings older moved others × HasTreeForEachKept settings records others
     × PartTreesRestrict IsLoaded before settings records trees others
 
--- the text is a partial dump with the same first number, or with a gap in its numbers there or later, or has no revision.
--- It loads into a new repository whose revision 0 has the parent directories, and into one whose revision 1 has them.
--- There is a revision for each kept one of these records, with its properties, and the trees are these trees, restricted
+-- the text is a partial dump with the same first number, or with a gap in its numbers there or later, or has no
+-- revision. It loads into a new repository whose revision 0 has the parent directories, and into one whose revision 1
+-- has them. There is a revision for each kept one of these records, with its properties, and the trees are these trees,
+-- restricted
 abbrev pub PartLoadsRestricted : Patching → ℕ → Settings → List DumpRecord → List Tree → List ℕ → Type 0
 PartLoadsRestricted patched before settings records trees text =
     (again : List DumpRecord) × (written : List (List Change))

@@ -1,5 +1,5 @@
 -- What a load makes of mergeinfo after other revisions (svnadmin load of Subversion 1.14, load-fs-vtable.c): its
--- numbers become higher by as many, and its lines are spelled again. That is so where it names no revision from its own
+-- numbers become higher by as many, and its lines are spelled again. That is so if it names no revision from its own
 -- one on; else the load leaves some numbers as they are.
 use Rattle.std.specs.Prelude.{◌≡◌, ◌↔◌, ℕ, ◌+◌, Bool, List, Some, Contains, MatchBool}
 use Rattle.dump_text.specs.PropertyList.{Property}

@@ -1,4 +1,4 @@
--- The change that a node of a dump makes in a tree (Subversion, notes/dump-load-format.txt; where that says nothing: as
+-- The change that a node of a dump makes in a tree (Subversion, notes/dump-load-format.txt; where that says nothing, as
 -- svnadmin load of Subversion 1.14 takes it, load.c and load-fs-vtable.c). The node's lines break no rule of dumps.
 use Rattle.std.specs.Prelude.{◌≡◌, ℕ, Bool, not, ◌&&◌, ◌||◌, ◌==◌, List, [], ◌∷◌, Option, Some, None, unwrap_or, bytes_eq, codes, if◌then◌else◌, IsTrue}
 use Rattle.std.specs.List.{list_all, list_any}
@@ -56,35 +56,35 @@ copy_revision r = unwrap_or (header_number copy_revision_name r.headers) 0
 abbrev pub copied_from : DumpRecord → Made
 copied_from r = Made.Copied (copy_revision r) (path_of (copy_path r))
 
--- what the node makes; a copy's kind isn't asked, and a copy source counts where something is made
+-- what the node makes; a copy's kind isn't asked, and a copy source counts if something is made
 abbrev pub made_of : DumpRecord → Option Made
 made_of r = if makes r then if is_copy r then Some (copied_from r) else made_by_kind r else None
 
--- what the node makes of properties, where there is a property length: its entries replace the old ones, also where
--- there are none; or under version 3, where they are a delta, they edit the old ones. What the load writes into
--- mergeinfo isn't said here
+-- what the node makes of properties, if there is a property length: its entries replace the old ones, also if there are
+-- none; or under version 3, if they are a delta, they edit the old ones. What the load writes into mergeinfo isn't said
+-- here
 abbrev pub property_change_of : DumpRecord → List Property → Option PropertyChange
 property_change_of r ps =
     if has_header property_length_name r.headers then
     Some (if has_prop_delta r then PropertyChange.Edited ps else PropertyChange.Replaced ps)
     else None
 
--- the text that the node sets, where there is a text length: its bytes, or under version 3, where they are a delta,
--- what they make of the old text
+-- the text that the node sets, if there is a text length: its bytes, or under version 3, if they are a delta, what they
+-- make of the old text
 abbrev pub text_change_of : Patching → DumpRecord → Option TextChange
 text_change_of patched r =
     if has_text r then
     Some (if has_text_delta r then TextChange.Patched (patched r.text) else TextChange.Replaced r.text)
     else None
 
--- whether the node says that its properties or its text are a delta, where version 3 isn't in force; the format has no
+-- whether the node says that its properties or its text are a delta, but version 3 isn't in force; the format has no
 -- deltas there, but the load obeys it
 abbrev pub has_odd_delta : DumpRecord → Bool
 has_odd_delta r =
     not (r.version == 3) && (says_true prop_delta_name r.headers || says_true text_delta_name r.headers)
 
 -- the change of a node with these entries in its property block; none without a known action, which the load rejects,
--- and none of a delta where version 3 isn't in force, which isn't modelled. The load also compares the digests that the
+-- and none of a delta if version 3 isn't in force, which isn't modelled. The load also compares the digests that the
 -- node states of texts, and rejects others; here such a node loads, so more loads here than there
 abbrev pub change_of : Patching → DumpRecord → List Property → Option Change
 change_of patched r ps =

@@ -12,8 +12,8 @@ use Rattle.dump_trees.specs.Expansions.{Expands}
 use Rattle.dump_trees.specs.ExpansionCases.{branch_made, deletion_of, deletions, CoverKept}
 use Rattle.dump_history.specs.WrittenNodes.{replacing}
 
--- where changes lead, among which one deletes what is at a path, and the next one makes something there, those lead too
--- that have one in their place, which replaces
+-- if changes lead, and among them one deletes what is at a path and the next one makes something there, then those lead
+-- too that have in place of these two one that replaces
 abbrev pub ReplacingLeads : Type 0
 ReplacingLeads = (settings : Settings) (history : History) (before after : Tree) (front : List Change) (c : Change)
     (changes : List Change) → IsFalse c.deletes
@@ -49,7 +49,7 @@ LeftCopyReplaces = (settings : Settings) (history : History) (before old : Tree)
     → WritesOut settings history c.path made (first ∷ changes)
     → Expands settings history before c (deletions c.path rests ++ replacing Bool.true first ∷ changes)
 
--- where changes lead, among which one copies over something, those lead too among which it replaces this
+-- if changes lead, and among them one copies over something, then those lead too among which it replaces this
 abbrev pub CopyReplacingLeads : Type 0
 CopyReplacingLeads = (settings : Settings) (history : History) (before after : Tree) (front : List Change) (c : Change)
     (changes : List Change) → IsTrue (is_copied c.made)

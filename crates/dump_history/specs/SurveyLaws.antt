@@ -93,8 +93,8 @@ RestrictsFrom patched settings records text (suc before) =
 abbrev pub DumpRestricts : Patching → Settings → List DumpRecord → List ℕ → Type 0
 DumpRestricts patched settings records text = RestrictsFrom patched settings records text (begins_at records)
 
--- if the filter's answer is clean, and the survey finds nothing in the dump as a whole and no obstacle and no alarm in its
--- nodes, loading commutes with filtering, for a whole dump and for a partial one
+-- if the filter's answer is clean, and the survey finds nothing in the dump as a whole and no obstacle and no alarm in
+-- its nodes, loading commutes with filtering, for a whole dump and for a partial one
 abbrev pub SurveyedDumpRestricts : Type 0
 SurveyedDumpRestricts = (patched : Patching) (settings : Settings) (dump text : List ℕ) (records : List DumpRecord)
     (found : FindingsByGroup) →
@@ -103,8 +103,8 @@ SurveyedDumpRestricts = (patched : Patching) (settings : Settings) (dump text : 
     → IsTrue (none_is is_obstacle found) → IsTrue (none_is is_alarm found)
     → DumpRestricts patched settings records text
 
--- the same of the first revisions of a dump that begins at revision 0, if alarms are found only after them; the first list
--- is what is found in revision 0
+-- the same of the first revisions of a dump that begins at revision 0, if alarms are found only after them; the first
+-- list is what is found in revision 0
 abbrev pub SurveyedDumpFrontRestricts : Type 0
 SurveyedDumpFrontRestricts = (patched : Patching) (settings : Settings) (dump text : List ℕ) (records : List DumpRecord)
     (first : GroupFindings) (found behind : FindingsByGroup) →

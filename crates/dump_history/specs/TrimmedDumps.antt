@@ -44,7 +44,7 @@ abbrev pub may_stand_behind : DumpRecord → List WrittenNode → Bool
 may_stand_behind r [] = true
 may_stand_behind r (w ∷ nodes) = is_node r && list_all can_be_written (w ∷ nodes)
 
--- the text has the records, and after each these nodes, which may be there
+-- the text has the records, and after each these nodes, which may follow it
 pub record IsTrimmedText (records : List DumpRecord) (behind : List (List WrittenNode)) (text : List ℕ) : Type 0 where
   pub may : AllZip (λ r nodes. IsTrue (may_stand_behind r nodes)) records behind
   pub lfs : ℕ

@@ -41,7 +41,7 @@ line name value = record { name = name; value = value }
 abbrev pub number_line : List ℕ → ℕ → Header
 number_line name n = line name (spelled_number n)
 
--- the line of this name, where there is a value
+-- the line of this name, if there is a value
 abbrev pub line_of_some : List ℕ → Option (List ℕ) → List Header
 line_of_some name None = []
 line_of_some name (Some value) = line name value ∷ []
@@ -115,7 +115,7 @@ node_bytes w = block_text (node_lines w) ++ node_props w ++ node_text w
 
 -- what it means
 
--- the change, which deletes first what is at its path where this says so
+-- the change, which deletes first what is at its path if this says so
 abbrev pub replacing : Bool → Change → Change
 replacing replaces c = record {
   path = c.path;

@@ -24,7 +24,7 @@ pub fn each_quiet_dump_restricts()
     ensures { QuietDumpRestricts }
 {}
 
-/// The first revisions of a dump have the law, also where one after them is rejected or isn't separated.
+/// The first revisions of a dump have the law, also if one after them is rejected or isn't separated.
 pub fn each_filtered_front_restricts()
     ensures separated { FilteredDumpFrontRestricts }
     ensures quiet { QuietDumpFrontRestricts }
@@ -165,7 +165,7 @@ pub fn texts_in_cut_dumps_are_kept()
 /// If no more is written in place of a dump's records than is needed, each one whose change the cut takes stays as it
 /// was, each part of a copy that it takes stays a copy, and the same revisions are kept. If nothing comes back either,
 /// all that the changes do which are written comes of kept changes of the dump: each property, each text and each copy,
-/// also where revisions don't show it.
+/// also if revisions don't show it.
 pub fn needed_expansions_keep_records()
     ensures stay { TakenRecordsStay }
     ensures revisions { KeptRevisionsStay }

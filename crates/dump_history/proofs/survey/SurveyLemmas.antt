@@ -183,7 +183,8 @@ module _ (settings : Settings) (records : List DumpRecord) (nothing : AreDumpFin
       (second_false (length (groups records) == 0) _ each_none)))
 
   pub all_read : ¬ HasUnreadRevision records
-  all_read some = both_ways nothing.0.unread (first_false nothing.0.unread _ (second_false (not (rise (revision_numbers records))) _
+  all_read some = both_ways nothing.0.unread (first_false nothing.0.unread _
+      (second_false (not (rise (revision_numbers records))) _
       (second_false (not (counts_from (begins_at records) (revision_numbers records))) _
       (second_false (length (groups records) == 0) _ each_none)))) (nothing.1.unread.1 some)
 
@@ -217,7 +218,8 @@ module _ (settings : Settings) (records : List DumpRecord) (nothing : AreDumpFin
   keeps_numbers : KeepsNamedNumbers settings records
   keeps_numbers = cases settings.renumber none_left
     where
-      cases : (b : Bool) → (not b && nothing.0.named) ≡ false → MatchBool b (Unit {0}) (¬ NamesRevisionBehind settings records)
+      cases : (b : Bool) → (not b && nothing.0.named) ≡ false
+          → MatchBool b (Unit {0}) (¬ NamesRevisionBehind settings records)
       cases true none = tt
       cases false none = λ names. both_ways nothing.0.named none (nothing.1.named.1 names)
 

@@ -22,8 +22,8 @@ is_unread_value p = is_mergeinfo p && not (value_reads (value_of p))
 abbrev pub names_missing_source : Settings → Property → Bool
 names_missing_source settings p = is_mergeinfo p && (value_reads (value_of p) && value_misses settings (value_of p))
 
--- whether it is mergeinfo that can be read and names a revision outside of the dump, which begins with the first of these
--- numbers and has come to the second
+-- whether it is mergeinfo that can be read and names a revision outside of the dump, which begins with the first of
+-- these numbers and has come to the second
 abbrev pub names_outside : Settings → ℕ → ℕ → Property → Bool
 names_outside settings first present p =
     is_mergeinfo p && (value_reads (value_of p) && value_foreign settings first present (value_of p))
@@ -48,7 +48,7 @@ abbrev pub copy_refused : Settings → List DumpRecord → DumpRecord → Bool
 copy_refused settings before r =
     has_missing_revision settings (kept_revisions settings (before ++ r ∷ [])).numbers (present_number before) r
 
--- what is rejected of one of a kept node's properties, where the dump begins and has come so far
+-- what is rejected of one of a kept node's properties, by where the dump begins and how far it has come
 abbrev pub property_faults : Settings → ℕ → ℕ → Property → NodeFaults
 property_faults settings first present p = record {
   copy_revision = false;
