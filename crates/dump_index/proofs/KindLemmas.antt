@@ -50,7 +50,7 @@ kind_text EditsNothing None = refl
 kind_text EditsNothing (Some (Node.Folder props)) = refl
 kind_text EditsNothing (Some (Node.File props text)) = refl
 
-set_kind : (l : Listed) (node : Option Node)
+pub set_kind : (l : Listed) (node : Option Node)
     → option_map node_kind (set_by (placed_of l).change [] node) ≡ kind_with_text (sets l.text) (option_map node_kind node)
 set_kind l node =
     kind_text l.text (node_with_props (plain_props l.props) node) ∙ ap (kind_with_text (sets l.text)) (kind_props l.props node)
@@ -88,18 +88,18 @@ module _ (listed : List Listed) (back : LooksBack (all_placed listed)) (path : L
       cases false = sym (look_back (all_placed listed) back root_alone n (names_of path))
 
   -- what stands there behind the change at this place
-  abbrev kind_left : ℕ → Listed → Option NodePath → Option NodeKind
+  abbrev pub kind_left : ℕ → Listed → Option NodePath → Option NodeKind
   kind_left n l rest =
       option_map node_kind
       (left_at (look root_alone (all_placed listed)) (all_placed listed) n (names_of path) (placed_of l).change rest)
 
-  abbrev kind_step : ℕ → Option Listed → Option NodeKind
+  abbrev pub kind_step : ℕ → Option Listed → Option NodeKind
   kind_step n None = kind_look listed n (names_of path)
   kind_step n (Some l) =
       cond (touches_path (names_of path) (placed_of l).change)
       (kind_left n l (below (names_of l.path) (names_of path))) (kind_look listed n (names_of path))
 
-  kind_next : (n : ℕ) → kind_look listed (suc n) (names_of path) ≡ kind_step n (slice_get listed n)
+  pub kind_next : (n : ℕ) → kind_look listed (suc n) (names_of path) ≡ kind_step n (slice_get listed n)
   kind_next n =
       ap (option_map node_kind) (look_next n
       ∙ ap (λ o. cond (holds_there (touches_path (names_of path)) o)

@@ -20,3 +20,4 @@ pub mod EverLemmas
 pub mod SameNames
 pub mod PlainLemmas
 pub mod ToldLemmas
+pub mod KnownLemmas

@@ -4,4 +4,5 @@ pub mod Below
 pub mod Names
 pub mod Index
 pub mod Looks
+pub mod KnownKinds
 pub mod Trails

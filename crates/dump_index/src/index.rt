@@ -1,5 +1,5 @@
 //! The index of the changes of a dump.
-ghost use Rattle.std.specs.Prelude.{◌≡◌, ◌==◌, ◌||◌, false, ℕ, List, IfOk, IsTrue, Some, length, map, option_copied, option_map, reverse, slice_get, true};
+ghost use Rattle.std.specs.Prelude.{◌≡◌, ◌<◌, ◌==◌, ◌||◌, false, ℕ, suc, List, IfOk, IfSome, IsTrue, Some, length, map, option_copied, option_map, reverse, slice_get, true};
 ghost use Rattle.dump_trees.specs.Paths.{names_of};
 ghost use Rattle.dump_trees.specs.Looking.{end_of, latest, touches_path};
 ghost use Rattle.dump_index.specs.InOrder.{are_in_order, ends_in_slash, is_from_before};
@@ -9,15 +9,17 @@ ghost use Rattle.dump_index.specs.Settings.{IsTrail, latest_for, sets_at};
 ghost use Rattle.dump_index.specs.steps.Touching.{shapes};
 ghost use Rattle.dump_index.specs.steps.Trails.{IsTrailStep};
 ghost use Rattle.dump_index.specs.steps.Looks.{GoesBack, came, is_since, origin_kind, origin_names, kind_with_text};
-ghost use Rattle.dump_index.specs.Listed.{all_placed, listed_of};
+ghost use Rattle.dump_index.specs.steps.KnownKinds.{AreKindsBehind, IsLook, count_through, source_look};
+ghost use Rattle.dump_index.specs.Listed.{Listed, all_placed, listed_of};
 ghost use Rattle.dump_index.specs.Children.{is_child_named};
 ghost use Rattle.dump_trees.specs.Listing.{names_behind, names_look, names_made};
 
 mod children;
 
 use crate::change::{NodeChange, NodeKind, NodeMade};
+use crate::look::{Look, is_since};
 use crate::order::{Effect, PathOrder, later};
-use crate::origin::{Origin, made_origin, with_text};
+use crate::origin::{Origin, kind_made, made_origin, with_text};
 use crate::path_text::{ends_in_slash, joined};
 use crate::trail::{Next, Part, Step, is_place, own_place, push_place, replaces};
 use dump_rules::Memory;
@@ -129,18 +131,6 @@ impl<'a> ChangeIndex<'a> {
         self.moving.latest_above(path, count, here)
     }
 
-    /// Whether one of the first changes, so many, sets a text at the path, and doesn't stand before this place.
-    fn sets_text_since(&self, path: &[u8], shaped: Option<usize>, count: usize) -> bool
-        ensures { result
-            ≡ is_since shaped (latest_place (has_effect_at Effect.Texts self.now path.now) count) }
-    {
-        match (shaped, self.texts.latest_at(path, count)) {
-            (_, None) => false,
-            (None, Some(_)) => true,
-            (Some(shaped), Some(place)) => shaped <= place,
-        }
-    }
-
     /// The change at this place.
     pub fn get(&self, place: usize) -> Option<&NodeChange<'a>>
         ensures { option_map listed_of (option_copied result) ≡ slice_get self.now place }
@@ -193,6 +183,81 @@ impl<'a> ChangeIndex<'a> {
         }
     }
 
+    /// What the change at this place left at the path, if that is known and the path is its own.
+    fn known_at(
+        &self,
+        path: &[u8],
+        place: Option<usize>,
+        known: &[Option<NodeKind>],
+    ) -> Option<Option<NodeKind>>
+        requires { AreKindsBehind self.now known.now }
+        ensures { IfSome result (λ kind. kind ≡ kind_look self.now (count_through place) (names_of path.now)) }
+    {
+        let place = place?;
+        let kind = known.get(place)?;
+        let change = self.changes.get(place)?;
+        if change.path == path {
+            Some(*kind)
+        } else {
+            None
+        }
+    }
+
+    /// What stands at the path after the first changes, so many, or where that is looked up.
+    fn look<'p>(&self, path: &'p [u8], before: usize, known: &[Option<NodeKind>]) -> Look<'p, 'a>
+        requires bare { ends_in_slash path.now ≡ false }
+        requires known { AreKindsBehind self.now known.now }
+        ensures { IsLook self.now before path.now result }
+    {
+        let shaped = self.latest_shaping(path, before);
+        match self.origin(path, shaped) {
+            Origin::Nowhere => Look::Found(None),
+            // a text that is set on a file leaves it one, so none is looked up
+            Origin::New(NodeKind::File) => Look::Found(Some(NodeKind::File)),
+            Origin::New(NodeKind::Folder) => {
+                let set = self.texts.latest_at(path, before);
+                Look::Found(with_text(Some(NodeKind::Folder), is_since(shaped, set)))
+            }
+            Origin::Copied(source, rest) => {
+                let set = self.texts.latest_at(path, before);
+                match self.known_at(path, later(shaped, set), known) {
+                    Some(kind) => Look::Found(kind),
+                    None => Look::Copied(source, rest, is_since(shaped, set)),
+                }
+            }
+        }
+    }
+
+    /// What stands at the path after the first changes, so many. What some of the first of all changes left at their own
+    /// paths is known, each kind right behind its change, as [`ChangeIndex::kind_behind`] says it. Where a look comes to
+    /// such a path, it follows copies no further.
+    pub fn kind_known(
+        &self,
+        alloc: Global,
+        path: &[u8],
+        count: usize,
+        known: &[Option<NodeKind>],
+    ) -> Result<Option<NodeKind>, Memory>
+        requires bare { ends_in_slash path.now ≡ false }
+        requires known { AreKindsBehind self.now known.now }
+        ensures { IfOk result (λ kind. kind ≡ kind_look self.now count (names_of path.now)) }
+    {
+        let mut at = Vec::from_slice(alloc, path)?;
+        let mut before = count;
+        let mut has_text = false;
+        loop {
+            match self.look(&at, before, known) {
+                Look::Found(kind) => return Ok(with_text(kind, has_text)),
+                Look::Copied(source, rest, set) => {
+                    let next = joined(alloc, source.path, rest)?;
+                    before = self.end_of(source.revision);
+                    at = next;
+                    has_text = has_text | set;
+                }
+            }
+        }
+    }
+
     /// What stands at the path after the first changes, so many.
     pub fn kind_at(
         &self,
@@ -203,23 +268,29 @@ impl<'a> ChangeIndex<'a> {
         requires { ends_in_slash path.now ≡ false }
         ensures { IfOk result (λ kind. kind ≡ kind_look self.now count (names_of path.now)) }
     {
-        let mut at = Vec::from_slice(alloc, path)?;
-        let mut before = count;
-        let mut has_text = false;
-        loop {
-            let shaped = self.latest_shaping(&at, before);
-            let since = self.sets_text_since(&at, shaped, before);
-            has_text = has_text | since;
-            match self.origin(&at, shaped) {
-                Origin::Nowhere => return Ok(None),
-                Origin::New(kind) => return Ok(with_text(kind, has_text)),
-                Origin::Copied(source, rest) => {
-                    let next = joined(alloc, source.path, rest)?;
-                    before = self.end_of(source.revision);
-                    at = next;
-                }
-            }
-        }
+        self.kind_known(alloc, path, count, &[])
+    }
+
+    /// What the change at this place leaves at its path, where these kinds of node stand there before it, and at its
+    /// copy's source, if it makes one. At a path with less bytes it changes nothing.
+    pub fn kind_behind(
+        &self,
+        place: usize,
+        here: Option<NodeKind>,
+        source: Option<NodeKind>,
+    ) -> Option<NodeKind>
+        requires inside { place < length self.now }
+        requires here { (l : Listed) → slice_get self.now place ≡ Some l
+            → here ≡ kind_look self.now place (names_of l.path) }
+        requires source { (l : Listed) → slice_get self.now place ≡ Some l
+            → source ≡ source_look self.now l.revision l.made }
+        ensures own { (l : Listed) → slice_get self.now place ≡ Some l
+            → result ≡ kind_look self.now (suc place) (names_of l.path) }
+        ensures shorter { (l : Listed) (path : List ℕ) → slice_get self.now place ≡ Some l → length path < length l.path
+            → kind_look self.now (suc place) (names_of path) ≡ kind_look self.now place (names_of path) }
+    {
+        let change = &self.changes[place];
+        with_text(kind_made(change, here, source), change.text.sets())
     }
 
     /// The place of the latest of the first changes, so many, that sets the part at the path.

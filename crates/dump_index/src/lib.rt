@@ -5,6 +5,10 @@
 //! properties or its text, [`ChangeIndex::children`] the names in a directory, and [`ChangeIndex::names_ever`] those that
 //! can ever be in it. [`ChangeIndex::end_of`] says how many changes are in the revisions up to a number.
 //!
+//! A caller that looks at the changes one after the other can collect what each leaves at its path, as
+//! [`ChangeIndex::kind_behind`] says it, and hand that to [`ChangeIndex::kind_known`]: then long chains of copies aren't
+//! followed again at each look.
+//!
 //! ```
 //! if are_in_order(&changes) {
 //!     let index = ChangeIndex::new(alloc, changes)?;
@@ -28,6 +32,7 @@
 mod change;
 mod index;
 pub mod laws;
+mod look;
 mod order;
 mod origin;
 mod path_text;

@@ -29,7 +29,7 @@ pub(crate) enum Effect {
 
 impl Setting {
     /// Whether something is set.
-    fn sets(self) -> bool
+    pub(crate) fn sets(self) -> bool
         ensures { result ≡ sets self }
     {
         !matches!(self, Setting::Keeps)

@@ -1,6 +1,8 @@
 //! Where what stands at a path comes from.
-ghost use Rattle.std.specs.Prelude.{◌≡◌, Some};
+ghost use Rattle.std.specs.Prelude.{◌≡◌, option_map};
+ghost use Rattle.dump_index.specs.Listed.{listed_made};
 ghost use Rattle.dump_index.specs.steps.Looks.{IsMadeBy, kind_with_text};
+ghost use Rattle.dump_index.specs.steps.KnownKinds.{left_kind, made_kind};
 
 use crate::change::{NodeChange, NodeKind, NodeMade, Source};
 use crate::path_text::rest_behind;
@@ -29,12 +31,30 @@ pub(crate) fn made_origin<'p, 'a>(change: &NodeChange<'a>, path: &'p [u8]) -> Or
     }
 }
 
-/// What is left of a new node, where a text is set or not: a folder has none, so no load takes one.
-pub(crate) fn with_text(kind: NodeKind, has_text: bool) -> Option<NodeKind>
-    ensures { result ≡ kind_with_text has_text (Some kind) }
+/// What is left of a node, where a text is set or not: a folder has none, so no load takes one.
+pub(crate) fn with_text(kind: Option<NodeKind>, has_text: bool) -> Option<NodeKind>
+    ensures { result ≡ kind_with_text has_text kind }
 {
     match kind {
-        NodeKind::Folder if has_text => None,
-        _ => Some(kind),
+        Some(NodeKind::Folder) if has_text => None,
+        _ => kind,
+    }
+}
+
+/// What the change leaves at its path, but for a text, where these kinds of node stand there before it, and at its copy's
+/// source.
+pub(crate) fn kind_made(
+    change: &NodeChange<'_>,
+    here: Option<NodeKind>,
+    source: Option<NodeKind>,
+) -> Option<NodeKind>
+    ensures { result ≡ made_kind (option_map listed_made change.now.made) (left_kind change.now.deletes here) source }
+{
+    match change.made {
+        None if change.deletes => None,
+        None => here,
+        Some(NodeMade::Folder) => Some(NodeKind::Folder),
+        Some(NodeMade::File) => Some(NodeKind::File),
+        Some(NodeMade::CopyOf(_)) => source,
     }
 }

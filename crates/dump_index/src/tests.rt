@@ -191,6 +191,48 @@ fn directories_are_listed(rt: HostRuntime) -> Result<(), Fail> {
     Ok(())
 }
 
+/// Whether this stands, behind all changes, at the path of the first, where what that leaves there is known. It is a copy.
+fn first_leaves(alloc: Global, index: &ChangeIndex<'_>, kind: NodeKind) -> Result<bool, Memory> {
+    let Some(first) = index.get(0) else {
+        return Ok(false);
+    };
+    let Some(NodeMade::CopyOf(source)) = first.made else {
+        return Ok(false);
+    };
+    if source.revision >= first.revision {
+        return Ok(false);
+    }
+    if ends_in_slash(first.path) || ends_in_slash(source.path) {
+        return Ok(false);
+    }
+    let here = index.kind_at(alloc, first.path, 0)?;
+    let there = index.kind_at(alloc, source.path, index.end_of(source.revision))?;
+    let known = [index.kind_behind(0, here, there)];
+    let found = index.kind_known(alloc, first.path, index.len(), &known)?;
+    Ok(found == Some(kind))
+}
+
+/// A copy of the root, and a file in it.
+#[test]
+fn what_is_known_is_found(rt: HostRuntime) -> Result<(), Fail> {
+    let alloc = rt.alloc();
+    let root = Source {
+        revision: 0,
+        path: b"",
+    };
+    let mut changes = Vec::new(alloc);
+    changes.push(copy(1, b"b", root))?;
+    changes.push(change(1, b"b/a", FILE))?;
+    if are_in_order(&changes) {
+        let index = ChangeIndex::new(alloc, changes)?;
+        let leaves = first_leaves(alloc, &index, NodeKind::Folder)?;
+        assert!(rt; leaves);
+        return Ok(());
+    }
+    assert!(rt; false, "the changes are in order");
+    Ok(())
+}
+
 fn finds_ever_or_lacks_memory(alloc: Global, index: &ChangeIndex<'_>) -> bool {
     let names: &[&[u8]] = &[b"s", b"s.txt", b"t", b"u"];
     match index.names_ever(alloc, b"e") {

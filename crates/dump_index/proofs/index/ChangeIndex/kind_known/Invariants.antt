@@ -3,14 +3,14 @@ use Rattle.dump_trees.specs.Paths.{names_of}
 use Rattle.dump_index.specs.InOrder.{ends_in_slash}
 use Rattle.dump_index.specs.Kinds.{kind_look}
 use Rattle.dump_index.specs.steps.Looks.{kind_with_text}
-use Rattle.dump_index.proofs.index.ChangeIndex.kind_at.Given as goal
+use Rattle.dump_index.proofs.index.ChangeIndex.kind_known.Given as goal
 
-abbrev pub invariant-loop-at : goal.invariant-loop-at
-invariant-loop-at l = record {
+abbrev pub invariant-loop-kind : goal.invariant-loop-kind
+invariant-loop-kind l = record {
   bare : ends_in_slash l.at.items ≡ false;
   same : kind_look l.self l.count (names_of l.path)
       ≡ kind_with_text l.has_text (kind_look l.self l.before (names_of l.at.items));
 }
 
-abbrev pub decreases-loop-at : goal.decreases-loop-at
-decreases-loop-at l = l.before
+abbrev pub decreases-loop-kind : goal.decreases-loop-kind
+decreases-loop-kind l = l.before
