@@ -13,6 +13,7 @@ pub mod ParentLemmas
 pub mod RangeLemmas
 pub mod RefusalLemmas
 pub mod ReturnedLemmas
+pub mod SeenLemmas
 pub mod SourceLemmas
 pub mod TakenLemmas
 pub mod TakenLaw

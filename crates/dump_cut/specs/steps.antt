@@ -3,6 +3,7 @@ pub mod ExcludedPaths
 pub mod ExcludedTexts
 pub mod FollowedPaths
 pub mod KindViews
+pub mod KindsBefore
 pub mod NameTexts
 pub mod OpenRevisions
 pub mod ParentTexts

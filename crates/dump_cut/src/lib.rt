@@ -61,6 +61,7 @@ mod load_check;
 mod parent_path;
 mod refusal;
 mod returns;
+mod seen_parent;
 mod taken;
 mod trimming;
 

@@ -1,21 +1,20 @@
 //! Whether `svnadmin load` takes a dump, and where it would stop.
-ghost use Rattle.std.specs.Prelude.{◌≡◌, List, IfOk, IsTrue, option_and_then, option_map};
-ghost use Rattle.std.specs.List.{AllZip, list_all};
-ghost use Rattle.dump_trees.specs.LoadCheck.{kinds_told, source_told};
-ghost use Rattle.dump_trees.specs.Looking.{Placed};
+ghost use Rattle.std.specs.Prelude.{◌≡◌, IfOk, IsTrue, length, option_and_then, option_map};
+ghost use Rattle.std.specs.List.{list_all};
 ghost use Rattle.dump_trees.specs.Paths.{names_of, parent_of};
 ghost use Rattle.dump_trees.specs.Siblings.{has_node_names};
-ghost use Rattle.dump_index.specs.IndexLaws.{IsListed};
+ghost use Rattle.dump_index.specs.Kinds.{kind_look};
 ghost use Rattle.dump_index.specs.Listed.{listed_made, listed_of};
-ghost use Rattle.dump_index.specs.ToldKinds.{kind_meant, kinds_told_by};
+ghost use Rattle.dump_index.specs.steps.KnownKinds.{AreKindsBehind, source_look};
 ghost use Rattle.dump_cut.specs.LoadChecks.{IsFirstRefused};
 ghost use Rattle.dump_cut.specs.NamedPaths.{has_named_paths};
-ghost use Rattle.dump_cut.specs.steps.KindViews.{kinds_meant};
+ghost use Rattle.dump_cut.specs.steps.KindsBefore.{AreKindsBefore, AreSeen};
 
 use crate::copies::source_of;
 use crate::kinds::Kinds;
 use crate::parent_path::{is_root, parent_text};
 use crate::refusal::{Refusal, refusal_of};
+use crate::seen_parent::{Seen, kind_seen, seen_behind};
 use dump_index::{ChangeIndex, NodeChange, NodeKind};
 use dump_rules::Memory;
 use std::alloc::Global;
@@ -28,32 +27,41 @@ pub struct Refused {
     pub refusal: Refusal,
 }
 
-/// What exists at the directory that the path is in, after the first changes, so many.
+/// What exists at the directory that the path is in, behind the changes that are known.
 fn parent_kind(
     alloc: Global,
     index: &ChangeIndex<'_>,
+    known: &[Option<NodeKind>],
+    seen: &Seen<'_>,
     path: &[u8],
-    count: usize,
 ) -> Result<Option<NodeKind>, Memory>
-    requires { IsTrue (has_node_names (names_of path.now)) }
-    ensures { IfOk result (λ kind. option_map kind_meant kind
-        ≡ option_and_then (λ parent. kinds_told_by index.now count parent) (parent_of (names_of path.now))) }
+    requires named { IsTrue (has_node_names (names_of path.now)) }
+    requires known { AreKindsBehind index.now known.now }
+    requires seen { AreSeen index.now (length known.now) seen.now }
+    ensures { IfOk result (λ kind. kind
+        ≡ option_and_then (kind_look index.now (length known.now)) (parent_of (names_of path.now))) }
 {
     if is_root(path) {
         return Ok(None);
     }
-    index.kind_at(alloc, parent_text(path), count)
+    let parent = parent_text(path);
+    match kind_seen(seen, parent) {
+        Some(kind) => Ok(kind),
+        None => index.kind_known(alloc, parent, known.len(), known),
+    }
 }
 
 /// What exists at the source of the change, if it makes a copy of an earlier revision.
 fn source_kind(
     alloc: Global,
     index: &ChangeIndex<'_>,
+    known: &[Option<NodeKind>],
     change: &NodeChange<'_>,
 ) -> Result<Option<NodeKind>, Memory>
-    requires { IsTrue (has_named_paths (listed_of change.now)) }
-    ensures { IfOk result (λ kind. (placed : List Placed) → AllZip IsListed index.now placed → option_map kind_meant kind
-        ≡ source_told (kinds_told_by index.now) placed change.now.revision (option_map listed_made change.now.made)) }
+    requires named { IsTrue (has_named_paths (listed_of change.now)) }
+    requires known { AreKindsBehind index.now known.now }
+    ensures { IfOk result (λ kind. kind
+        ≡ source_look index.now change.now.revision (option_map listed_made change.now.made)) }
 {
     let Some(source) = source_of(change) else {
         return Ok(None);
@@ -61,24 +69,26 @@ fn source_kind(
     if source.revision >= change.revision {
         return Ok(None);
     }
-    index.kind_at(alloc, source.path, index.end_of(source.revision))
+    let end = index.end_of(source.revision);
+    index.kind_known(alloc, source.path, end, known)
 }
 
-/// What exists where the change at this place asks for it, before it is made.
+/// What exists where the change behind those that are known asks for it, before it is made.
 fn kinds_before(
     alloc: Global,
     index: &ChangeIndex<'_>,
-    place: usize,
+    known: &[Option<NodeKind>],
+    seen: &Seen<'_>,
     change: &NodeChange<'_>,
 ) -> Result<Kinds, Memory>
-    requires { IsTrue (has_named_paths (listed_of change.now)) }
-    ensures { IfOk result (λ kinds. (placed : List Placed) (p : Placed) → AllZip IsListed index.now placed
-        → IsListed (listed_of change.now) p
-        → kinds_meant kinds ≡ kinds_told (kinds_told_by index.now) placed place p) }
+    requires named { IsTrue (has_named_paths (listed_of change.now)) }
+    requires known { AreKindsBehind index.now known.now }
+    requires seen { AreSeen index.now (length known.now) seen.now }
+    ensures { IfOk result (λ kinds. AreKindsBefore index.now (length known.now) (listed_of change.now) kinds) }
 {
-    let here = index.kind_at(alloc, change.path, place)?;
-    let parent = parent_kind(alloc, index, change.path, place)?;
-    let source = source_kind(alloc, index, change)?;
+    let here = index.kind_known(alloc, change.path, known.len(), known)?;
+    let parent = parent_kind(alloc, index, known, seen, change.path)?;
+    let source = source_kind(alloc, index, known, change)?;
     Ok(Kinds {
         here,
         parent,
@@ -93,11 +103,18 @@ pub fn first_refused(alloc: Global, index: &ChangeIndex<'_>) -> Result<Option<Re
     ensures { IfOk result (λ found. IsFirstRefused index.now found) }
 {
     let changes = index.changes();
+    let mut known = Vec::new(alloc);
+    let mut seen = Seen {
+        last: None,
+        other: None,
+    };
     for (place, change) in changes.iter().enumerate() {
-        let kinds = kinds_before(alloc, index, place, change)?;
+        let kinds = kinds_before(alloc, index, &known, &seen, change)?;
         if let Some(refusal) = refusal_of(change, &kinds) {
             return Ok(Some(Refused { place, refusal }));
         }
+        seen = seen_behind(&seen, change, kinds.parent);
+        known.push(index.kind_behind(place, kinds.here, kinds.source))?;
     }
     Ok(None)
 }

@@ -7,7 +7,7 @@ use Rattle.dump_cut.specs.NamedPaths.{has_named_source}
 use Rattle.dump_cut.proofs.ParentLemmas.{ends_named}
 use Rattle.dump_cut.proofs.load_check.kinds_before.Goals as goal
 
-pub kind_at-requires : goal.kind_at-requires
-kind_at-requires c =
+pub kind_known-requires-clause-bare : goal.kind_known-requires-clause-bare
+kind_known-requires-clause-bare c =
     ends_named c.args.change.now.path.now
-    (and_parts (has_node_names (names_of c.args.change.now.path.now)) (has_named_source (option_map listed_made c.args.change.now.made)) c.requires).0
+    (and_parts (has_node_names (names_of c.args.change.now.path.now)) (has_named_source (option_map listed_made c.args.change.now.made)) c.requires.named).0
