@@ -14,3 +14,4 @@ pub mod KeptPathsTold
 pub mod CutMergeinfo
 pub mod CutDumpLines
 pub mod RenumberedLaw
+pub mod KeptChanges

@@ -6,6 +6,7 @@ ghost use Rattle.dump_history.specs.ExpandedDumps.{ExpandedDumpLoads, FilteredEx
 ghost use Rattle.dump_history.specs.ExpandedParts.{ExpandedPartLoads, FilteredExpandedPartRestricts, FirstPartExpansionsAreParts, NoSourceIsMissedInPart, PartExpansionsAreParts};
 ghost use Rattle.dump_history.specs.ExpandedText.{ExpansionsAreDumps, FilteredTextsRestrict, NoSourceIsMissedInText};
 ghost use Rattle.dump_history.specs.GrowingExpansions.{ExpandedChangesGrow, ExpandedRevisionsGrow, ExpandedTextsBegin, ExpandedTextsGrow, ExpansionsBegin, ExpansionsGrow, PlacesAreLoaded, SteadGroupsGrow};
+ghost use Rattle.dump_history.specs.KeptChanges.{FilteredChangesAreKept, RenumberedChangesAreKept, TrimmedChangesAreKept};
 ghost use Rattle.dump_history.specs.NeededSteads.{ExpandedChangesAreKept, KeptRevisionsStay, TakenPartsStayCopies, TakenRecordsStay, WrittenChangesAreKept};
 ghost use Rattle.dump_history.specs.PartLaws.{FilteredPartRestricts, NoGapIsNeededInPart, QuietPartRestricts};
 ghost use Rattle.dump_history.specs.Replacing.{CopyReplacingLeads, KeptCopyReplaces, LeftCopyReplaces, LeftStayingCopyReplaces, ReplacingExpands, ReplacingLeads, StayingCopyReplaces};
@@ -191,4 +192,12 @@ pub fn each_trimmed_dump_loads()
     ensures renumbered_cut { TrimmedCutDumpLoadsRenumbered }
     ensures renumbered_expanded { TrimmedExpansionLoadsRenumbered }
     ensures renumbered_expanded_cut { TrimmedCutExpansionLoadsRenumbered }
+{}
+
+/// What the filter writes of a dump comes of its kept changes, where it leaves no gap in the numbers: each property, but for
+/// mergeinfo, each text, and each copy, but for its number. So does what it writes with the deletions behind its copies.
+pub fn filtered_changes_come_of_kept_ones()
+    ensures filtered { FilteredChangesAreKept }
+    ensures trimmed { TrimmedChangesAreKept }
+    ensures renumbered { RenumberedChangesAreKept }
 {}

@@ -389,7 +389,7 @@ module _ (settings : Settings) (revisions : List (List Change)) (IsNew : NewProp
           (change_written c new is_new (All-head IsKeptSet c changes sets kept)) (later rest more))
       sides later false left = later written (MatchBool-at_false _ _ left are)
 
-  revisions_written : (rule : EmptyRule) (expanded written : List (List Change)) → All (All IsKeptSet) expanded
+  pub revisions_written : (rule : EmptyRule) (expanded written : List (List Change)) → All (All IsKeptSet) expanded
       → AreNewRevisions settings IsNew IsNumber rule expanded written
       → All (All (ComesOfKept settings revisions IsNew IsNumber)) written
   revisions_written rule [] written sets none =
