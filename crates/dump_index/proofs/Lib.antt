@@ -20,4 +20,5 @@ pub mod EverLemmas
 pub mod SameNames
 pub mod PlainLemmas
 pub mod ToldLemmas
+pub mod OrderedLemmas
 pub mod KnownLemmas

@@ -18,10 +18,11 @@ is_from_before revision (Some Folder) = true
 is_from_before revision (Some File) = true
 is_from_before revision (Some (CopyOf source)) = nat_lt source.revision revision && not (ends_in_slash source.path.now)
 
--- whether the numbers of the revisions don't fall, from this one on, no path ends in a slash, and each copy is of an
--- earlier revision
+-- whether the revision isn't below this one, the path doesn't end in a slash, and a copy is of an earlier revision
+abbrev pub comes_in_order : ℕ → NodeChange → Bool
+comes_in_order least c = (nat_le least c.revision && is_from_before c.revision c.made) && not (ends_in_slash c.path.now)
+
+-- whether that is so of each change, where the numbers of the revisions don't fall, from this one on
 abbrev pub are_in_order : ℕ → List NodeChange → Bool
 are_in_order least [] = true
-are_in_order least (c ∷ changes) =
-    ((nat_le least c.revision && is_from_before c.revision c.made) && not (ends_in_slash c.path.now))
-    && are_in_order c.revision changes
+are_in_order least (c ∷ changes) = comes_in_order least c && are_in_order c.revision changes

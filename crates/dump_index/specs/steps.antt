@@ -6,3 +6,4 @@ pub mod Index
 pub mod Looks
 pub mod KnownKinds
 pub mod Trails
+pub mod OutOfOrder

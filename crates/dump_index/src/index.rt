@@ -2,7 +2,8 @@
 ghost use Rattle.std.specs.Prelude.{◌≡◌, ◌<◌, ◌==◌, ◌||◌, false, ℕ, suc, List, IfOk, IfSome, IsTrue, Some, length, map, option_copied, option_map, reverse, slice_get, true};
 ghost use Rattle.dump_trees.specs.Paths.{names_of};
 ghost use Rattle.dump_trees.specs.Looking.{end_of, latest, touches_path};
-ghost use Rattle.dump_index.specs.InOrder.{are_in_order, ends_in_slash, is_from_before};
+ghost use Rattle.dump_index.specs.InOrder.{are_in_order, comes_in_order, ends_in_slash, is_from_before};
+ghost use Rattle.dump_index.specs.steps.OutOfOrder.{IsFirstOutOfOrder};
 ghost use Rattle.dump_index.specs.Kinds.{kind_look};
 ghost use Rattle.dump_index.specs.steps.Keys.{has_effect_at, latest_place};
 ghost use Rattle.dump_index.specs.Settings.{IsTrail, latest_for, sets_at};
@@ -52,21 +53,28 @@ impl<'a> Model for ChangeIndex<'a> {
     ghost invariant = { λ index. IsChangeIndex index.changes.items index.shaping index.moving index.props index.texts };
 }
 
-/// Whether the numbers of the revisions don't fall, no path ends in a slash, and each copy is of an earlier revision, and
-/// of a path that doesn't end in one either.
-pub fn are_in_order(changes: &[NodeChange<'_>]) -> bool
-    ensures { result ≡ are_in_order 0 changes.now }
+/// The place of the first of the changes that isn't in order: its revision is below that of the one before, its path ends in
+/// a slash, or it is a copy, and that is of no earlier revision, or of a path that ends in a slash.
+pub fn first_out_of_order(changes: &[NodeChange<'_>]) -> Option<usize>
+    ensures { IsFirstOutOfOrder changes.now result }
 {
     let mut least = 0;
     let mut left = changes;
     while let [change, others @ ..] = left {
-        if change.revision < least || !is_from_before(change) || ends_in_slash(change.path) {
-            return false;
+        if !comes_in_order(least, change) {
+            return Some(changes.len() - left.len());
         }
         least = change.revision;
         left = others;
     }
-    true
+    None
+}
+
+/// Whether the change is in order behind one of this revision.
+fn comes_in_order(least: u64, change: &NodeChange<'_>) -> bool
+    ensures { result ≡ comes_in_order least change.now }
+{
+    change.revision >= least && is_from_before(change) && !ends_in_slash(change.path)
 }
 
 /// Whether the change is no copy, or one of an earlier revision, and of a path that doesn't end in a slash.

@@ -1,7 +1,7 @@
 //! What exists at a path of a repository after the first changes of a dump, found without building trees.
 //!
-//! A [`ChangeIndex`] is made of the changes of a dump in their order. [`are_in_order`] tests that each copy is of an earlier
-//! revision. [`ChangeIndex::kind_at`] says what exists at a path, [`ChangeIndex::settings_at`] which changes set its
+//! A [`ChangeIndex`] is made of the changes of a dump in their order. [`first_out_of_order`] finds the first copy that isn't
+//! of an earlier revision. [`ChangeIndex::kind_at`] says what exists at a path, [`ChangeIndex::settings_at`] which changes set its
 //! properties or its text, [`ChangeIndex::children`] the names in a directory, and [`ChangeIndex::names_ever`] those that
 //! can ever be in it. [`ChangeIndex::end_of`] says how many changes are in the revisions up to a number.
 //!
@@ -10,7 +10,7 @@
 //! followed again at each look.
 //!
 //! ```
-//! if are_in_order(&changes) {
+//! if first_out_of_order(&changes).is_none() {
 //!     let index = ChangeIndex::new(alloc, changes)?;
 //!     // ..
 //!     return Ok(());
@@ -40,7 +40,7 @@ mod trail;
 
 pub use change::{NodeChange, NodeKind, NodeMade, Setting, Source};
 pub use dump_rules::Memory;
-pub use index::{ChangeIndex, are_in_order};
+pub use index::{ChangeIndex, first_out_of_order};
 pub use path_text::{ends_in_slash, joined, rest_behind, top_of};
 pub use trail::Part;
 

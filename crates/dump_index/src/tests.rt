@@ -1,7 +1,7 @@
 //! What no clause says: a worked history, asked at each path, and memory that is refused.
 use crate::{
-    ChangeIndex, Memory, NodeChange, NodeKind, NodeMade, Part, Setting, Source, are_in_order,
-    ends_in_slash,
+    ChangeIndex, Memory, NodeChange, NodeKind, NodeMade, Part, Setting, Source, ends_in_slash,
+    first_out_of_order,
 };
 use std::alloc::Global;
 use std::process::Abort;
@@ -133,7 +133,7 @@ fn assert_found(rt: &impl Abort, alloc: Global, index: &ChangeIndex<'_>) {
 fn history_is_found(rt: HostRuntime) -> Result<(), Fail> {
     let alloc = rt.alloc();
     let changes = history(alloc)?;
-    if are_in_order(&changes) {
+    if first_out_of_order(&changes).is_none() {
         let index = ChangeIndex::new(alloc, changes)?;
         assert_found(&rt, alloc, &index);
         return Ok(());
@@ -182,7 +182,7 @@ fn assert_listed(rt: &impl Abort, alloc: Global, index: &ChangeIndex<'_>) {
 fn directories_are_listed(rt: HostRuntime) -> Result<(), Fail> {
     let alloc = rt.alloc();
     let changes = nested(alloc)?;
-    if are_in_order(&changes) {
+    if first_out_of_order(&changes).is_none() {
         let index = ChangeIndex::new(alloc, changes)?;
         assert_listed(&rt, alloc, &index);
         return Ok(());
@@ -223,7 +223,7 @@ fn what_is_known_is_found(rt: HostRuntime) -> Result<(), Fail> {
     let mut changes = Vec::new(alloc);
     changes.push(copy(1, b"b", root))?;
     changes.push(change(1, b"b/a", FILE))?;
-    if are_in_order(&changes) {
+    if first_out_of_order(&changes).is_none() {
         let index = ChangeIndex::new(alloc, changes)?;
         let leaves = first_leaves(alloc, &index, NodeKind::Folder)?;
         assert!(rt; leaves);
@@ -256,7 +256,7 @@ fn a_directory_or_no_memory(rt: HostRuntime) {
     let Ok(changes) = nested(alloc) else {
         return;
     };
-    if !are_in_order(&changes) {
+    if first_out_of_order(&changes).is_some() {
         return;
     }
     let Ok(index) = ChangeIndex::new(alloc, changes) else {
@@ -276,9 +276,9 @@ fn copies_of_later_revisions_are_out_of_order(rt: HostRuntime) {
         revision: 1,
         path: b"trunk/",
     };
-    assert!(rt; !are_in_order(&[copy(2, b"b", own)]));
-    assert!(rt; !are_in_order(&[copy(2, b"b", slash)]));
-    assert!(rt; !are_in_order(&[deleted(2, b"b"), deleted(1, b"b")]));
-    assert!(rt; !are_in_order(&[change(2, b"b/", FOLDER)]));
-    assert!(rt; are_in_order(&[deleted(2, b"b"), copy(3, b"b", own)]));
+    assert!(rt; first_out_of_order(&[copy(2, b"b", own)]) == Some(0));
+    assert!(rt; first_out_of_order(&[copy(2, b"b", slash)]) == Some(0));
+    assert!(rt; first_out_of_order(&[deleted(2, b"b"), deleted(1, b"b")]) == Some(1));
+    assert!(rt; first_out_of_order(&[change(2, b"b/", FOLDER)]) == Some(0));
+    assert!(rt; first_out_of_order(&[deleted(2, b"b"), copy(3, b"b", own)]).is_none());
 }
