@@ -225,6 +225,11 @@ pub numbers_other : (r : DumpRecord) (records : List DumpRecord) → is_revision
 numbers_other r records isnt =
     ap (λ (b : Bool). map group_number (cond b (group_of r records ∷ groups records) (groups records))) isnt
 
+pub numbers_revision : (r : DumpRecord) (records : List DumpRecord) → is_revision_record r ≡ true
+    → revision_numbers (r ∷ records) ≡ revision_number r ∷ revision_numbers records
+numbers_revision r records is =
+    ap (λ (b : Bool). map group_number (cond b (group_of r records ∷ groups records) (groups records))) is
+
 pub rises_revision : (next : ℕ) (r : DumpRecord) (records : List DumpRecord) → is_revision_record r ≡ true
     → rise_from next (revision_numbers (r ∷ records))
     ≡ (nat_le next (revision_number r) && rise_from (suc (revision_number r)) (revision_numbers records))

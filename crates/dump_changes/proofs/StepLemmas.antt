@@ -10,15 +10,16 @@ use Rattle.dump_index.specs.Listed.{Listed, listed_of}
 use Rattle.dump_index.specs.IndexLaws.{IsListed}
 use Rattle.dump_index.specs.declared.change.NodeChange.{NodeChange}
 use Rattle.dump_changes.specs.declared.read.Position.{Position}
-use Rattle.dump_changes.specs.declared.read.Step.TheVariants.{Goes, Makes}
-use Rattle.dump_changes.specs.ListedDumps.{AreListedIn, NodesMake, NoRecord, RevisionRecord, NodeRecord, are_numbered, rise_from}
+use Rattle.dump_changes.specs.declared.read.Step.TheVariants as steps
+use Rattle.dump_changes.specs.ListedDumps.{AreListedIn, IsOutOfPlace, NodesMake, NoRecord, RevisionRecord, NodeRecord, are_numbered, revision_behind, present_behind, rise_from, takes_nodes}
 use Rattle.dump_changes.specs.declared.read.End.{End}
 use Rattle.dump_changes.specs.declared.read.Reading.{Reading}
 use Rattle.dump_changes.specs.steps.DumpReading.{EndsReading, IsNext, IsReadingOfDump}
-use Rattle.dump_changes.specs.steps.Reading.{IsBeforeFirst, IsCountingStep, IsEndAt, IsReadingStep, counts_on}
-use Rattle.std.proofs.Common.{◌||◌, ◌&&◌, ◌==◌, Bool, MatchBool, ap₂, eqb-true, inl, inr, lt-ltb, nat_le, nat_lt, unwrap_or}
+use Rattle.dump_changes.specs.steps.Reading.{CountsTo, EndsAt, GoesOnFrom, IsBeforeNext, IsCountingStep, IsOutOfPlaceAt, IsReadingStep, counts_on}
+use Rattle.std.specs.Global.{Vec}
+use Rattle.std.proofs.Common.{cond, ◌||◌, ◌&&◌, ◌==◌, Bool, MatchBool, ap₂, eqb-true, inl, inr, lt-ltb, nat_le, nat_lt, unwrap_or}
 use Rattle.std.proofs.lemmas.Bool.{cases_Bool, or_parts}
-use Rattle.dump_filter.specs.Groups.{revision_numbers}
+use Rattle.dump_filter.specs.Groups.{revision_number, revision_numbers}
 use Rattle.dump_history.specs.DumpChanges.{counts_from}
 use Rattle.std.proofs.lemmas.List.Folds.{list_any-append}
 use Rattle.std.specs.List.{list_any}
@@ -27,10 +28,11 @@ use Rattle.dump_records.specs.HeaderRules.{header_number}
 use Rattle.dump_records.specs.declared.kind.RecordKind.{RecordKind}
 use Rattle.dump_records.specs.declared.kind.RecordKind.TheVariants as kinds
 use Rattle.dump_filter.proofs.groups.KindLemmas.{IsOfKind}
-use Rattle.dump_changes.proofs.ReadLemmas.{counts_other, counts_revision, numbers_other, rises_revision}
+use Rattle.dump_changes.proofs.ReadLemmas.{counts_other, counts_revision, numbers_other, numbers_revision, rises_revision}
 
 -- what the records that the cutter has given make
-pub record ReadSoFar (dump : List ℕ) (cutter : CutterState) (at : Position) (changes : List NodeChange) : Type 0 where
+pub record ReadSoFar (dump : List ℕ) (cutter : CutterState) (at : Position) (changes : List NodeChange) (numbers : List ℕ)
+    : Type 0 where
   pub dump_is : cutter.dump ≡ dump
   pub before : List DumpRecord
   pub begins : BeginsWithRecords dump before
@@ -38,6 +40,9 @@ pub record ReadSoFar (dump : List ℕ) (cutter : CutterState) (at : Position) (c
   pub no_revision : at.next ≡ 0 → list_any is_revision_record before ≡ false
   pub before_first : list_any is_revision_record before ≡ false → at.next ≡ 0
   pub counts : (records : List DumpRecord) → counts_from 0 (revision_numbers (before ++ records)) ≡ counts_on at records
+  pub numbers_are : (records : List DumpRecord)
+      → revision_numbers (before ++ records) ≡ numbers ++ revision_numbers records
+  pub present : present_behind None before ≡ at.present
   pub rises : (records : List DumpRecord)
       → rise_from 0 (revision_numbers (before ++ records)) ≡ rise_from at.next (revision_numbers records)
   pub reads : (patched : Patching) → (placed : List Placed) × AllZip IsListed (map listed_of changes) placed
@@ -50,10 +55,10 @@ begins_with_none dump =
     let (records, ending, has, once) = each_dump_has_one_list dump in
     begins_prefix dump [] records (has.0, has.1, has.2)
 
-pub none_read : (dump : List ℕ) (cutter : CutterState) (at : Position) (changes : List NodeChange)
+pub none_read : (dump : List ℕ) (cutter : CutterState) (at : Position) (changes : List NodeChange) (numbers : List ℕ)
     → cutter ≡ record { dump = dump; number = 0 } → at ≡ record { next = 0; present = None; numbered = true }
-    → changes ≡ [] → ReadSoFar dump cutter at changes
-none_read dump cutter at changes is first none = record {
+    → changes ≡ [] → numbers ≡ [] → ReadSoFar dump cutter at changes numbers
+none_read dump cutter at changes numbers is first none no_number = record {
   dump_is = ap (λ (c : CutterState). c.dump) is;
   before = [];
   begins = begins_with_none dump;
@@ -61,6 +66,8 @@ none_read dump cutter at changes is first none = record {
   no_revision = λ none. refl;
   before_first = λ none. ap (λ (p : Position). p.next) first;
   counts = λ records. ap (λ p. counts_on p records) (sym first);
+  numbers_are = λ records. ap (λ ns. ns ++ revision_numbers records) (sym no_number);
+  present = sym (ap (λ (p : Position). p.present) first);
   rises = λ records. ap (λ (p : Position). rise_from p.next (revision_numbers records)) (sym first);
   reads = λ patched. (
     [],
@@ -76,8 +83,14 @@ zip_push [] (q ∷ placed) all l p is = absurd all
 zip_push (k ∷ listed) [] all l p is = absurd all
 zip_push (k ∷ listed) (q ∷ placed) all l p is = (all.0, zip_push listed placed all.1 l p is)
 
-module _ (dump : List ℕ) (cutter after : CutterState) (at : Position) (changes : List NodeChange)
-    (so_far : ReadSoFar dump cutter at changes) where
+-- the revision to which nodes belong behind one more record
+present_next : (present : Option ℕ) (before : List DumpRecord) (r : DumpRecord)
+    → present_behind present (before ++ r ∷ []) ≡ revision_behind r (present_behind present before)
+present_next present [] r = refl
+present_next present (b ∷ before) r = present_next (revision_behind b present) before r
+
+module _ (dump : List ℕ) (cutter after : CutterState) (at : Position) (changes : List NodeChange) (numbers : List ℕ)
+    (so_far : ReadSoFar dump cutter at changes numbers) where
   module _ (item : Record) (step : CutStep cutter (cuts.Item item) after) where
     begins_next : BeginsWithRecords dump (so_far.before ++ record_item item ∷ [])
     begins_next =
@@ -119,23 +132,54 @@ module _ (dump : List ℕ) (cutter after : CutterState) (at : Position) (changes
         (sym (list_any-append is_revision_record so_far.before (record_item item ∷ [])) ∙ none) in
         (its.0, (or_parts (is_revision_record (record_item item)) false its.1).0)
 
-    -- a record that makes no change
-    pub read_on : (next : Position) → IsReadingStep (record_item item) at (Goes next)
-        → IsBeforeFirst (record_item item) at (Goes next) → IsCountingStep (record_item item) at (Goes next)
-        → ReadSoFar dump after next changes
-    read_on next goes first counting = record {
+    -- and none out of order
+    pub not_in_order : IsOutOfPlaceAt (record_item item) at → IsOutOfPlace so_far.before (record_item item)
+    not_in_order (inl (node, none)) = inl (node, ap takes_nodes so_far.present ∙ none)
+    not_in_order (inr (revision, below)) =
+        inr (revision, λ number is small. so_far.rises (record_item item ∷ []) ∙ below number is small)
+
+    counts_next : (next : Position) → CountsTo (record_item item) at next → (records : List DumpRecord)
+        → counts_from 0 (revision_numbers ((so_far.before ++ record_item item ∷ []) ++ records)) ≡ counts_on next records
+    counts_next next counting records =
+        ap (λ rs. counts_from 0 (revision_numbers rs)) (append_assoc so_far.before (record_item item ∷ []) records)
+        ∙ so_far.counts (record_item item ∷ records) ∙ (counting records).0
+
+    rises_next : (next : Position) → CountsTo (record_item item) at next → (records : List DumpRecord)
+        → rise_from 0 (revision_numbers ((so_far.before ++ record_item item ∷ []) ++ records))
+        ≡ rise_from next.next (revision_numbers records)
+    rises_next next counting records =
+        ap (λ rs. rise_from 0 (revision_numbers rs)) (append_assoc so_far.before (record_item item ∷ []) records)
+        ∙ so_far.rises (record_item item ∷ records) ∙ (counting records).1
+
+    numbers_next : (records : List DumpRecord)
+        → revision_numbers ((so_far.before ++ record_item item ∷ []) ++ records)
+        ≡ numbers ++ revision_numbers (record_item item ∷ records)
+    numbers_next records =
+        ap revision_numbers (append_assoc so_far.before (record_item item ∷ []) records)
+        ∙ so_far.numbers_are (record_item item ∷ records)
+
+    present_there : (present : Option ℕ) → revision_behind (record_item item) at.present ≡ present
+        → present_behind None (so_far.before ++ record_item item ∷ []) ≡ present
+    present_there present is =
+        present_next None so_far.before (record_item item)
+        ∙ ap (revision_behind (record_item item)) so_far.present ∙ is
+
+    -- a record that makes no change, behind which there are these numbers
+    read_on : (next : Position) (all : List ℕ) → GoesOnFrom (record_item item) at next → IsBeforeNext (record_item item) at next
+        → CountsTo (record_item item) at next → revision_behind (record_item item) at.present ≡ next.present
+        → ((records : List DumpRecord) → numbers ++ revision_numbers (record_item item ∷ records) ≡ all ++ revision_numbers records)
+        → ReadSoFar dump after next changes all
+    read_on next all goes first counting there its = record {
       dump_is = ap (λ (c : CutterState). c.dump) step.3 ∙ so_far.dump_is;
       before = so_far.before ++ record_item item ∷ [];
       begins = begins_next;
       count = count_next;
       no_revision = λ none. let its = first.0 none in none_next its.0 its.1;
       before_first = λ none. let its = neither none in first.1 (so_far.before_first its.0) its.1;
-      counts = λ records.
-          ap (λ rs. counts_from 0 (revision_numbers rs)) (append_assoc so_far.before (record_item item ∷ []) records)
-          ∙ so_far.counts (record_item item ∷ records) ∙ (counting records).0;
-      rises = λ records.
-          ap (λ rs. rise_from 0 (revision_numbers rs)) (append_assoc so_far.before (record_item item ∷ []) records)
-          ∙ so_far.rises (record_item item ∷ records) ∙ (counting records).1;
+      counts = counts_next next counting;
+      numbers_are = λ records. numbers_next records ∙ its records;
+      present = present_there next.present there;
+      rises = rises_next next counting;
       reads = λ patched.
           let front = so_far.reads patched in (
             front.0,
@@ -147,23 +191,39 @@ module _ (dump : List ℕ) (cutter after : CutterState) (at : Position) (changes
           );
     }
 
+    pub read_revision : (number : ℕ) (next : Position) (all : List ℕ)
+        → IsReadingStep (record_item item) at (steps.Revision number next) → IsBeforeNext (record_item item) at next
+        → IsCountingStep (record_item item) at (steps.Revision number next)
+        → revision_behind (record_item item) at.present ≡ next.present
+        → all ≡ numbers ++ number ∷ [] → ReadSoFar dump after next changes all
+    read_revision number next all goes first counting there all_is =
+        read_on next all goes first counting.0 there (λ records.
+        ap (λ ns. numbers ++ ns) (counting.1 records)
+        ∙ sym (append_assoc numbers (number ∷ []) (revision_numbers records))
+        ∙ ap (λ ns. ns ++ revision_numbers records) (sym all_is))
+
+    pub read_other : (next : Position) → IsReadingStep (record_item item) at (steps.Other next)
+        → IsBeforeNext (record_item item) at next → IsCountingStep (record_item item) at (steps.Other next)
+        → revision_behind (record_item item) at.present ≡ next.present → ReadSoFar dump after next changes numbers
+    read_other next goes first counting there =
+        read_on next numbers goes first counting.0 there (λ records. ap (λ ns. numbers ++ ns) (counting.1 records))
+
     -- and one that does
-    pub read_more : (c : NodeChange) (all : List NodeChange) → IsReadingStep (record_item item) at (Makes c)
-        → IsBeforeFirst (record_item item) at (Makes c) → IsCountingStep (record_item item) at (Makes c)
-        → all ≡ changes ++ c ∷ [] → ReadSoFar dump after at all
-    read_more c all makes other counting all_is = record {
+    pub read_more : (c : NodeChange) (all : List NodeChange) → IsReadingStep (record_item item) at (steps.Makes c)
+        → is_revision_record (record_item item) ≡ false → IsCountingStep (record_item item) at (steps.Makes c)
+        → revision_behind (record_item item) at.present ≡ at.present
+        → all ≡ changes ++ c ∷ [] → ReadSoFar dump after at all numbers
+    read_more c all makes other counting there all_is = record {
       dump_is = ap (λ (s : CutterState). s.dump) step.3 ∙ so_far.dump_is;
       before = so_far.before ++ record_item item ∷ [];
       begins = begins_next;
       count = count_next;
       no_revision = λ none. none_next none other;
       before_first = λ none. so_far.before_first (neither none).0;
-      counts = λ records.
-          ap (λ rs. counts_from 0 (revision_numbers rs)) (append_assoc so_far.before (record_item item ∷ []) records)
-          ∙ so_far.counts (record_item item ∷ records) ∙ (counting records).0;
-      rises = λ records.
-          ap (λ rs. rise_from 0 (revision_numbers rs)) (append_assoc so_far.before (record_item item ∷ []) records)
-          ∙ so_far.rises (record_item item ∷ records) ∙ (counting records).1;
+      counts = counts_next at counting.0;
+      numbers_are = λ records. numbers_next records ∙ ap (λ ns. numbers ++ ns) (counting.1 records);
+      present = present_there at.present there;
+      rises = rises_next at counting.0;
       reads = λ patched.
           let front = so_far.reads patched in
           let made = makes patched in
@@ -229,24 +289,18 @@ module _ (dump : List ℕ) (cutter after : CutterState) (at : Position) (changes
       swapped false true = refl
       swapped false false = refl
 
-  pub ends_whole : EndsAfter cutter.dump cutter.number Ending.Whole → (end : End) → IsEndAt at end
-      → EndsReading dump so_far.before end
-  ends_whole ends end is = cases (at.numbered && nat_lt 0 at.next) numbered_is is
-    where
-      cases : (b : Bool) → are_numbered so_far.before ≡ b
-          → MatchBool b (end ≡ End.Numbered) (end ≡ End.OtherNumbers) → EndsReading dump so_far.before end
-      cases true numbered here =
-          subst (EndsReading dump so_far.before) (sym here) (all_records Ending.Whole ends, numbered)
-      cases false other here =
-          subst (EndsReading dump so_far.before) (sym here) (all_records Ending.Whole ends, other)
-
-  pub read_so_far : (end : End) → EndsReading dump so_far.before end → (reading : Reading) → reading.changes.items ≡ changes
-      → reading.end ≡ end → IsReadingOfDump dump reading
-  read_so_far end ends reading its ended = record {
+  pub read_so_far : (all : Vec NodeChange) (its : Vec ℕ) (end : End) (reading : Reading) → all.items ≡ changes
+      → its.items ≡ numbers → EndsAt at all its end reading → EndsReading dump so_far.before end
+      → IsReadingOfDump dump reading
+  read_so_far all its end reading all_are numbers_are (changes_is, numbers_is, numbered, ended) ends = record {
     records = so_far.before;
     begins = so_far.begins;
+    numbers =
+        ap (λ (v : Vec ℕ). v.items) numbers_is ∙ numbers_are ∙ sym (append-nil numbers)
+        ∙ sym (so_far.numbers_are []) ∙ ap revision_numbers (append-nil so_far.before);
+    numbered = numbered ∙ sym numbered_is;
     rise = ap (λ rs. rise_from 0 (revision_numbers rs)) (sym (append-nil so_far.before)) ∙ so_far.rises [];
-    listed = subst (AreListedIn so_far.before) (sym its) nodes_made;
+    listed = subst (AreListedIn so_far.before) (sym (ap (λ (v : Vec NodeChange). v.items) changes_is ∙ all_are)) nodes_made;
     ends = subst (EndsReading dump so_far.before) (sym ended) ends;
   }
 
@@ -302,13 +356,48 @@ revision_rises next number r records is its above =
     ∙ ap (λ n. rise_from n (revision_numbers records)) (let more : suc number ≡ number + 1 = omega arith in more)
 
 -- other records don't count
-pub other_counts : (at : Position) (r : DumpRecord) (records : List DumpRecord) → is_revision_record r ≡ false
-    → (counts_on at (r ∷ records) ≡ counts_on at records)
-    × (rise_from at.next (revision_numbers (r ∷ records)) ≡ rise_from at.next (revision_numbers records))
-other_counts at r records isnt = (
-  ap (λ b. at.numbered && b) (counts_other at.next r records isnt),
-  ap (rise_from at.next) (numbers_other r records isnt),
+pub other_counts : (at : Position) (r : DumpRecord) → is_revision_record r ≡ false
+    → CountsTo r at at × ((records : List DumpRecord) → revision_numbers (r ∷ records) ≡ revision_numbers records)
+other_counts at r isnt = (
+  λ records. (
+    ap (λ b. at.numbered && b) (counts_other at.next r records isnt),
+    ap (rise_from at.next) (numbers_other r records isnt),
+  ),
+  λ records. numbers_other r records isnt,
 )
+
+-- where it is no revision, or one
+pub present_other : (r : DumpRecord) (present : Option ℕ) → is_revision_record r ≡ false → is_node r ≡ false
+    → revision_behind r present ≡ None
+present_other r present isnt no_node =
+    ap₂ (λ a b. cond a (Some (revision_number r)) (cond b present None)) isnt no_node
+
+pub present_node : (r : DumpRecord) (present : Option ℕ) → is_revision_record r ≡ false → is_node r ≡ true
+    → revision_behind r present ≡ present
+present_node r present isnt node =
+    ap₂ (λ a b. cond a (Some (revision_number r)) (cond b present None)) isnt node
+
+pub present_revision : (r : DumpRecord) (present : Option ℕ) (number : ℕ) → is_revision_record r ≡ true
+    → Some number ≡ header_number revision_name r.headers → revision_behind r present ≡ Some number
+present_revision r present number is its =
+    ap (λ a. cond a (Some (revision_number r)) (cond (is_node r) present None)) is
+    ∙ ap Some (sym (ap (λ o. unwrap_or o 0) its))
+
+-- its number
+pub own_number : (number : ℕ) (r : DumpRecord) (records : List DumpRecord) → is_revision_record r ≡ true
+    → Some number ≡ header_number revision_name r.headers
+    → revision_numbers (r ∷ records) ≡ number ∷ revision_numbers records
+own_number number r records is its =
+    numbers_revision r records is ∙ ap (λ n. n ∷ revision_numbers records) (sym (ap (λ o. unwrap_or o 0) its))
+
+-- a revision that isn't above those before
+pub below_next : (next number : ℕ) (r : DumpRecord) → is_revision_record r ≡ true
+    → Some number ≡ header_number revision_name r.headers → nat_le next number ≡ false
+    → rise_from next (revision_numbers (r ∷ [])) ≡ false
+below_next next number r is its below =
+    rises_revision next r [] is
+    ∙ ap (λ n. nat_le next n && rise_from (suc n) []) (sym (ap (λ o. unwrap_or o 0) its))
+    ∙ ap (λ b. b && true) below
 
 -- the kinds of records
 pub is_revision : (r : DumpRecord) (which : RecordKind) → IsOfKind r which → which ≡ kinds.Revision

@@ -1,6 +1,8 @@
 -- The changes of a dump's revisions, as an index lists them.
-use Rattle.std.specs.Prelude.{◌≡◌, ◌<◌, ◌&&◌, ℕ, suc, nat_le, Bool, true, false, List, [], ◌∷◌, Option, Some, None, option_map}
+use Rattle.std.specs.Prelude.{◌≡◌, ◌<◌, ◌&&◌, ◌⊎◌, ℕ, suc, nat_le, nat_lt, Bool, true, false, cond, List, [], ◌∷◌, ◌++◌, Option, Some, None, option_map}
 use Rattle.std.specs.List.{list_any}
+use Rattle.dump_text.specs.Names.{revision_name}
+use Rattle.dump_records.specs.HeaderRules.{header_number}
 use Rattle.dump_records.specs.RecordText.{DumpRecord}
 use Rattle.dump_records.specs.DumpText.{BeginsWithRecords, Ending, HasRecords}
 use Rattle.dump_digest.specs.RecordParts.{is_node, is_revision_record}
@@ -48,15 +50,42 @@ abbrev pub AreListedIn : List DumpRecord → List NodeChange → Type 0
 AreListedIn records changes =
     (patched : Patching) → (placed : List Placed) × NodesMake patched None records placed × AreListed changes placed
 
+-- the revision to which a node behind the record belongs, where one before it would belong to this one, if to any
+abbrev pub revision_behind : DumpRecord → Option ℕ → Option ℕ
+revision_behind r present = cond (is_revision_record r) (Some (revision_number r)) (cond (is_node r) present None)
+
+-- the same behind these records
+abbrev pub present_behind : Option ℕ → List DumpRecord → Option ℕ
+present_behind present [] = present
+present_behind present (r ∷ records) = present_behind (revision_behind r present) records
+
+-- whether a revision is there, and can have nodes: revision 0 can't
+abbrev pub takes_nodes : Option ℕ → Bool
+takes_nodes None = false
+takes_nodes (Some number) = nat_lt 0 number
+
+-- behind these records, the record is a node of revision 0 or of no revision; or it is a revision whose number isn't above
+-- those before, or is the largest that there is
+abbrev pub IsOutOfPlace : List DumpRecord → DumpRecord → Type 0
+IsOutOfPlace records r = ((is_node r ≡ true) × (takes_nodes (present_behind None records) ≡ false))
+    ⊎ ((is_revision_record r ≡ true) × ((number : ℕ) → header_number revision_name r.headers ≡ Some number
+    → number < 18446744073709551615 → rise_from 0 (revision_numbers (records ++ r ∷ [])) ≡ false))
+
 -- the dump is records to its end, whose nodes make these changes; and there is no revision, or they are not numbered 0, 1, 2
 -- and so on, but by rising numbers
 abbrev pub MakesListedByNumbers : List ℕ → List NodeChange → Type 0
 MakesListedByNumbers dump changes = (records : List DumpRecord) × HasRecords dump records Ending.Whole
     × (are_numbered records ≡ false) × (rise_from 0 (revision_numbers records) ≡ true) × AreListedIn records changes
 
--- the dump begins with records whose nodes make these changes
-abbrev pub BeginsWithListed : List ℕ → List NodeChange → Type 0
-BeginsWithListed dump changes = (records : List DumpRecord) × BeginsWithRecords dump records × AreListedIn records changes
+-- whether the change is a copy
+abbrev pub is_listed_copy : Listed → Bool
+is_listed_copy l = is_copied l.made
+  where
+    is_copied : Option Made → Bool
+    is_copied None = false
+    is_copied (Some Made.NewFolder) = false
+    is_copied (Some Made.NewFile) = false
+    is_copied (Some (Made.Copied number source)) = true
 
 -- a change, but for the number of the revision of which it copies
 abbrev pub without_number : Listed → Listed

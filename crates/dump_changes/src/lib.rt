@@ -2,11 +2,11 @@
 //!
 //! [`read_changes`] reads those of a whole dump, and [`node_change`] that of one node. If a node makes no change that is
 //! modelled, or the numbers of the revisions don't rise, the reading ends there and says at which record. Where the revisions
-//! aren't numbered 0, 1, 2 and so on, [`with_loaded_sources`] says of which ones a load takes copies.
+//! aren't numbered 0, 1, 2 and so on, [`with_loaded_source`] says of which one a load takes a copy.
 //!
 //! ```
 //! let none = read_changes(rt.alloc(), b"SVN-fs-dump-format-version: 2\n\n")?;
-//! assert!(rt; none.changes.is_empty() && none.end == End::OtherNumbers);
+//! assert!(rt; none.changes.is_empty() && none.end == End::Whole);
 //! let broken = read_changes(rt.alloc(), b"SVN-fs-dump-format-version: 2\n\nx")?;
 //! let place = End::Broken {
 //!     kind: FaultKind::HeaderCut,
@@ -24,7 +24,7 @@ mod read;
 
 pub use dump_rules::Memory;
 pub use node::node_change;
-pub use numbers::{first_in_gap, revision_numbers, with_loaded_sources};
+pub use numbers::{copies_from_gap, with_loaded_source};
 pub use read::{End, Reading, read_changes};
 
 #[cfg(test)]

@@ -1,38 +1,18 @@
 //! The revisions of which a load takes copies, where those of a dump aren't numbered 0, 1, 2 and so on.
-ghost use Rattle.std.specs.Prelude.{◌≡◌, IfOk, IfSome, map};
+ghost use Rattle.std.specs.Prelude.{◌≡◌, Some, true, MatchOption};
 ghost use Rattle.dump_index.specs.Listed.{listed_of};
-ghost use Rattle.dump_changes.specs.ListedDumps.{without_number};
+ghost use Rattle.dump_changes.specs.ListedDumps.{is_listed_copy, without_number};
 
 use dump_index::{NodeChange, NodeMade, Source};
-use dump_records::{Cut, Cutter, RecordKind};
-use dump_rules::Memory;
-use std::alloc::Global;
 
-/// The numbers of the dump's revisions, in order.
-pub fn revision_numbers(alloc: Global, dump: &[u8]) -> Result<Vec<u64>, Memory> {
-    let mut cutter = Cutter::new(dump);
-    let mut numbers = Vec::new(alloc);
-    // no dump has more records than bytes
-    for _ in 0..=dump.len() {
-        let Cut::Item(item) = cutter.next() else {
-            break;
-        };
-        if let (RecordKind::Revision, Some(number)) = (item.kind(), item.revision()) {
-            numbers.push(number)?;
-        }
-    }
-    Ok(numbers)
-}
-
-/// The first of the changes that copies of a revision that the dump doesn't have. These are the numbers of its revisions.
-pub fn first_in_gap<'c, 'a>(
-    numbers: &[u64],
-    changes: &'c [NodeChange<'a>],
-) -> Option<&'c NodeChange<'a>> {
-    changes.iter().find(|change| match change.made {
+/// Whether the change copies of a revision that the dump doesn't have. These are the numbers of the dump's revisions, in order.
+pub fn copies_from_gap(numbers: &[u64], change: &NodeChange<'_>) -> bool
+    ensures { result ≡ true → is_listed_copy (listed_of change.now) ≡ true }
+{
+    match change.made {
         Some(NodeMade::CopyOf(source)) => numbers.binary_search(&source.revision).is_err(),
         _ => false,
-    })
+    }
 }
 
 /// The revision of which `svnadmin load` takes a copy in the revision `at`, where the dump names this one. It gives the
@@ -70,9 +50,11 @@ fn loaded_source(numbers: &[u64], at: u64, number: u64) -> Option<u64> {
     }
 }
 
-/// The change, with the revision of which a load takes the copy, if it is one.
-fn with_loaded_source<'a>(numbers: &[u64], change: &NodeChange<'a>) -> Option<NodeChange<'a>>
-    ensures { IfSome result (λ loaded. without_number (listed_of loaded) ≡ without_number (listed_of change.now)) }
+/// The change, with the revision of which a load takes the copy, if it is one; none, where the load has no revision for it.
+/// These are the numbers of the dump's revisions, in order.
+pub fn with_loaded_source<'a>(numbers: &[u64], change: &NodeChange<'a>) -> Option<NodeChange<'a>>
+    ensures { MatchOption result (is_listed_copy (listed_of change.now) ≡ true)
+        (λ loaded. without_number (listed_of loaded) ≡ without_number (listed_of change.now)) }
 {
     let Some(NodeMade::CopyOf(source)) = change.made else {
         return Some(*change);
@@ -82,26 +64,4 @@ fn with_loaded_source<'a>(numbers: &[u64], change: &NodeChange<'a>) -> Option<No
         made: Some(NodeMade::CopyOf(Source { revision, ..source })),
         ..*change
     })
-}
-
-/// The changes, where each copy has the revision of which a load takes it; or the number of the record of one for which it
-/// has none. These are the numbers of the dump's revisions.
-pub fn with_loaded_sources<'a>(
-    alloc: Global,
-    numbers: &[u64],
-    changes: &[NodeChange<'a>],
-) -> Result<Result<Vec<NodeChange<'a>>, u64>, Memory>
-    ensures { IfOk result (λ found. IfOk found (λ loaded.
-        map without_number (map listed_of loaded.items) ≡ map without_number (map listed_of changes.now))) }
-{
-    let mut loaded = Vec::new(alloc);
-    let mut left = changes;
-    while let [change, others @ ..] = left {
-        let Some(change) = with_loaded_source(numbers, change) else {
-            return Ok(Err(change.record_number));
-        };
-        loaded.push(change)?;
-        left = others;
-    }
-    Ok(Ok(loaded))
 }

@@ -3,7 +3,7 @@ ghost use Rattle.std.specs.Prelude.{◌≡◌, false, true, IfOk};
 ghost use Rattle.dump_records.specs.steps.RecordViews.{record_item};
 ghost use Rattle.dump_digest.specs.RecordParts.{is_node, is_revision_record};
 ghost use Rattle.dump_changes.specs.steps.DumpReading.{IsReadingOfDump};
-ghost use Rattle.dump_changes.specs.steps.Reading.{IsBeforeFirst, IsCountingStep, IsEndAt, IsReadingStep};
+ghost use Rattle.dump_changes.specs.steps.Reading.{EndsAt, IsBeforeFirst, IsCountingStep, IsPresentStep, IsReadingStep};
 
 use crate::node::node_change;
 use dump_index::NodeChange;
@@ -15,14 +15,12 @@ use std::alloc::Global;
 /// How the reading of a dump ends.
 #[derive(Clone, Copy, Debug, PartialEq, Eq)]
 pub enum End {
-    /// At the dump's end. Its revisions are numbered 0, 1, 2 and so on.
-    Numbered,
-    /// At the dump's end. It has no revision, or they have other numbers, each above the one before.
-    OtherNumbers,
+    /// At the dump's end.
+    Whole,
     /// At the record with this number, a node that makes no change that is told.
     NoChange(u64),
-    /// At the record with this number, a node of no revision behind revision 0, or a revision whose number isn't above the
-    /// one before.
+    /// At the record with this number: a node of revision 0 or of no revision, or a revision whose number isn't above the one
+    /// before, or is the largest that there is.
     OutOfOrder(u64),
     /// At this byte of the dump, where no record stands, for this fault.
     Broken { kind: FaultKind, place: usize },
@@ -34,6 +32,10 @@ pub struct Reading<'a> {
     /// The changes of the nodes up to the end of the reading, in order. Revisions, and those of which nodes are copied, have
     /// the numbers that the dump gives them. No node is in revision 0.
     pub changes: Vec<NodeChange<'a>>,
+    /// The numbers of the revisions up to there. Each is above the one before.
+    pub numbers: Vec<u64>,
+    /// Whether there are some, and they are 0, 1, 2 and so on.
+    pub numbered: bool,
     pub end: End,
 }
 
@@ -55,8 +57,10 @@ pub(crate) enum Step<'a> {
     NoChange,
     /// It has no part in the revisions of a dump.
     OutOfOrder,
-    /// It makes no change, and the reader stands there behind it.
-    Goes(Position),
+    /// It is the revision with this number, and the reader stands there behind it.
+    Revision { number: u64, behind: Position },
+    /// It is neither a revision nor a node, and the reader stands there behind it.
+    Other(Position),
     /// It is a node that makes this change.
     Makes(NodeChange<'a>),
 }
@@ -69,15 +73,20 @@ impl Position {
         ensures reading { IsReadingStep (record_item item.now) self.now result }
         ensures first { IsBeforeFirst (record_item item.now) self.now result }
         ensures counting { IsCountingStep (record_item item.now) self.now result }
+        ensures present { IsPresentStep (record_item item.now) self.now result }
     {
-        match item.revision() {
-            Some(number) if number >= self.next && number < u64::MAX => Step::Goes(Position {
-                next: number + 1,
-                present: Some(number),
-                numbered: self.numbered & (number == self.next),
-            }),
-            _ => Step::OutOfOrder,
+        let Some(number) = item.revision() else {
+            return Step::OutOfOrder;
+        };
+        if number < self.next || number == u64::MAX {
+            return Step::OutOfOrder;
         }
+        let behind = Position {
+            next: number + 1,
+            present: Some(number),
+            numbered: self.numbered & (number == self.next),
+        };
+        Step::Revision { number, behind }
     }
 
     /// What a node is.
@@ -87,6 +96,7 @@ impl Position {
         ensures reading { IsReadingStep (record_item item.now) self.now result }
         ensures first { IsBeforeFirst (record_item item.now) self.now result }
         ensures counting { IsCountingStep (record_item item.now) self.now result }
+        ensures present { IsPresentStep (record_item item.now) self.now result }
     {
         match self.present {
             Some(number) if number > 0 => match node_change(item, number) {
@@ -97,31 +107,33 @@ impl Position {
         }
     }
 
+    /// What was read up to here, where the reading ends so.
+    fn ended<'a>(&self, changes: Vec<NodeChange<'a>>, numbers: Vec<u64>, end: End) -> Reading<'a>
+        ensures { EndsAt self.now changes.entry numbers end result }
+    {
+        Reading {
+            changes,
+            numbers,
+            numbered: self.numbered && self.next > 0,
+            end,
+        }
+    }
+
     /// What the record is.
     fn step<'a>(&self, item: &Record<'a>) -> Step<'a>
         ensures reading { IsReadingStep (record_item item.now) self.now result }
         ensures first { IsBeforeFirst (record_item item.now) self.now result }
         ensures counting { IsCountingStep (record_item item.now) self.now result }
+        ensures present { IsPresentStep (record_item item.now) self.now result }
     {
         match item.kind() {
             RecordKind::Revision => self.revision(item),
             RecordKind::Node => self.node(item),
-            _ => Step::Goes(Position {
+            _ => Step::Other(Position {
                 present: None,
                 ..*self
             }),
         }
-    }
-}
-
-/// How the reading ends, where there are no more records.
-fn end_at(at: Position) -> End
-    ensures { IsEndAt at result }
-{
-    if at.numbered && at.next > 0 {
-        End::Numbered
-    } else {
-        End::OtherNumbers
     }
 }
 
@@ -131,6 +143,7 @@ pub fn read_changes<'a>(alloc: Global, dump: &'a [u8]) -> Result<Reading<'a>, Me
 {
     let mut cutter = Cutter::new(dump);
     let mut changes = Vec::new(alloc);
+    let mut numbers = Vec::new(alloc);
     let mut at = Position {
         next: 0,
         present: None,
@@ -140,23 +153,21 @@ pub fn read_changes<'a>(alloc: Global, dump: &'a [u8]) -> Result<Reading<'a>, Me
         match cutter.next() {
             Cut::Item(item) => match at.step(&item) {
                 Step::NoChange => {
-                    let end = End::NoChange(item.number());
-                    return Ok(Reading { changes, end });
+                    return Ok(at.ended(changes, numbers, End::NoChange(item.number())));
                 }
                 Step::OutOfOrder => {
-                    let end = End::OutOfOrder(item.number());
-                    return Ok(Reading { changes, end });
+                    return Ok(at.ended(changes, numbers, End::OutOfOrder(item.number())));
                 }
-                Step::Goes(behind) => at = behind,
+                Step::Revision { number, behind } => {
+                    numbers.push(number)?;
+                    at = behind;
+                }
+                Step::Other(behind) => at = behind,
                 Step::Makes(change) => changes.push(change)?,
             },
-            Cut::Finished => {
-                let end = end_at(at);
-                return Ok(Reading { changes, end });
-            }
+            Cut::Finished => return Ok(at.ended(changes, numbers, End::Whole)),
             Cut::Fault { kind, place } => {
-                let end = End::Broken { kind, place };
-                return Ok(Reading { changes, end });
+                return Ok(at.ended(changes, numbers, End::Broken { kind, place }));
             }
         }
     }

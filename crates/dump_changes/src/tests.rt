@@ -1,8 +1,8 @@
 //! What no clause says: worked dumps, and memory that is refused.
-use crate::{
-    End, Memory, Reading, first_in_gap, read_changes, revision_numbers, with_loaded_sources,
+use crate::{End, Memory, Reading, copies_from_gap, read_changes, with_loaded_source};
+use dump_index::{
+    ChangeIndex, NodeChange, NodeKind, NodeMade, Setting, Source, first_out_of_order,
 };
-use dump_index::{ChangeIndex, NodeChange, NodeKind, NodeMade, Setting, Source, are_in_order};
 use dump_text::FaultKind;
 use std::alloc::Global;
 use std::process::Abort;
@@ -55,7 +55,7 @@ fn branched() -> [NodeChange<'static>; 4] {
 }
 
 fn reads(reading: &Reading<'_>, changes: &[NodeChange<'_>]) -> bool {
-    reading.end == End::Numbered && reading.changes.as_slice() == changes
+    reading.end == End::Whole && reading.numbered && reading.changes.as_slice() == changes
 }
 
 #[test]
@@ -70,7 +70,7 @@ fn assert_indexed(
     alloc: Global,
     changes: Vec<NodeChange<'_>>,
 ) -> Result<(), Memory> {
-    if !are_in_order(&changes) {
+    if first_out_of_order(&changes).is_some() {
         assert!(rt; false, "the changes are in order");
         return Ok(());
     }
@@ -121,17 +121,17 @@ fn end_of(alloc: Global, dump: &[u8]) -> Result<End, Memory> {
 fn what_makes_no_change_is_told(rt: HostRuntime) -> Result<(), Fail> {
     let alloc = rt.alloc();
     assert!(rt; end_of(alloc, NO_ACTION)? == End::NoChange(3));
-    assert!(rt; end_of(alloc, LEFT_OUT)? == End::OtherNumbers);
+    assert!(rt; end_of(alloc, LEFT_OUT)? == End::Whole);
     assert!(rt; end_of(alloc, FALLEN)? == End::OutOfOrder(3));
     assert!(rt; end_of(alloc, IN_FIRST)? == End::OutOfOrder(2));
-    assert!(rt; end_of(alloc, BRANCHED)? == End::Numbered);
+    assert!(rt; end_of(alloc, BRANCHED)? == End::Whole);
     Ok(())
 }
 
 #[test]
 fn other_ends_are_told(rt: HostRuntime) -> Result<(), Fail> {
     let none = read_changes(rt.alloc(), b"SVN-fs-dump-format-version: 2\n\n")?;
-    assert!(rt; none.changes.is_empty() && none.end == End::OtherNumbers);
+    assert!(rt; none.changes.is_empty() && none.end == End::Whole);
     let broken = read_changes(rt.alloc(), b"SVN-fs-dump-format-version: 2\n\nx")?;
     let place = End::Broken {
         kind: FaultKind::HeaderCut,
@@ -142,49 +142,52 @@ fn other_ends_are_told(rt: HostRuntime) -> Result<(), Fail> {
 }
 
 /// The number of the revision of which a load takes the copy that revision 9 makes of this one.
-fn taken(alloc: Global, numbers: &[u64], number: u64) -> Result<Option<u64>, Memory> {
+fn taken(numbers: &[u64], number: u64) -> Option<u64> {
     let source = Source {
         revision: number,
         path: b"trunk",
     };
-    let copy = [change(b"b", Some(NodeMade::CopyOf(source)), 9, 20)];
-    let Ok(loaded) = with_loaded_sources(alloc, numbers, &copy)? else {
-        return Ok(None);
-    };
-    match loaded[0].made {
-        Some(NodeMade::CopyOf(source)) => Ok(Some(source.revision)),
-        _ => Ok(None),
+    let copy = change(b"b", Some(NodeMade::CopyOf(source)), 9, 20);
+    match with_loaded_source(numbers, &copy)?.made {
+        Some(NodeMade::CopyOf(source)) => Some(source.revision),
+        _ => None,
     }
 }
 
 /// As `svnadmin load` of Subversion 1.14 takes them: it loads 2, 5, 6 and 9 as revisions 2 to 5.
 #[test]
-fn sources_are_those_that_a_load_takes(rt: HostRuntime) -> Result<(), Fail> {
-    let alloc = rt.alloc();
+fn sources_are_those_that_a_load_takes(rt: HostRuntime) {
     let gaps: &[u64] = &[0, 1, 2, 5, 6, 9];
-    assert!(rt; taken(alloc, gaps, 5)? == Some(5));
-    assert!(rt; taken(alloc, gaps, 3)? == Some(2));
-    assert!(rt; taken(alloc, gaps, 4)? == Some(2));
-    assert!(rt; taken(alloc, gaps, 8)? == Some(6));
-    assert!(rt; taken(alloc, gaps, 7)? == Some(5));
-    assert!(rt; taken(alloc, gaps, 9)? == None);
+    assert!(rt; taken(gaps, 5) == Some(5));
+    assert!(rt; taken(gaps, 3) == Some(2));
+    assert!(rt; taken(gaps, 4) == Some(2));
+    assert!(rt; taken(gaps, 8) == Some(6));
+    assert!(rt; taken(gaps, 7) == Some(5));
+    assert!(rt; taken(gaps, 9) == None);
     let later: &[u64] = &[7, 8, 9];
-    assert!(rt; taken(alloc, later, 8)? == Some(8));
-    assert!(rt; taken(alloc, later, 6)? == Some(0));
-    assert!(rt; taken(alloc, later, 5)? == None);
+    assert!(rt; taken(later, 8) == Some(8));
+    assert!(rt; taken(later, 6) == Some(0));
+    assert!(rt; taken(later, 5) == None);
+}
+
+fn has_numbers(reading: &Reading<'_>, numbers: &[u64]) -> bool {
+    reading.numbers.as_slice() == numbers
+}
+
+#[test]
+fn numbers_are_read(rt: HostRuntime) -> Result<(), Fail> {
+    let reading = read_changes(rt.alloc(), LEFT_OUT)?;
+    assert!(rt; has_numbers(&reading, &[0, 2]));
+    assert!(rt; !reading.numbered);
     Ok(())
 }
 
 #[test]
-fn numbers_are_listed(rt: HostRuntime) -> Result<(), Fail> {
-    let alloc = rt.alloc();
-    let numbers = revision_numbers(alloc, LEFT_OUT)?;
-    let wanted: &[u64] = &[0, 2];
-    assert!(rt; numbers.as_slice() == wanted);
+fn copies_from_a_gap_are_found(rt: HostRuntime) {
     let changes = branched();
-    assert!(rt; first_in_gap(&[0, 1, 2], &changes) == None);
-    assert!(rt; first_in_gap(&[0, 2], &changes) == Some(&changes[2]));
-    Ok(())
+    assert!(rt; !copies_from_gap(&[0, 1, 2], &changes[2]));
+    assert!(rt; copies_from_gap(&[0, 2], &changes[2]));
+    assert!(rt; !copies_from_gap(&[0, 2], &changes[3]));
 }
 
 /// Run with each allocation refused in turn: the changes are read, or there is no memory.

@@ -9,7 +9,7 @@ use crate::{
     canonical_prefix, first_not_taken, first_refused, follow, revision_fates,
 };
 use dump_changes::{End, read_changes};
-use dump_index::{ChangeIndex, are_in_order};
+use dump_index::{ChangeIndex, first_out_of_order};
 use dump_rules::{Empty, keeps};
 use std::alloc::Global;
 use std::test::Fail;
@@ -23,7 +23,7 @@ fn index_of<'a>(alloc: Global, dump: &'a [u8]) -> Result<Option<ChangeIndex<'a>>
     ensures { IfOk result (λ read. IfSome read (λ index. IsTrue (list_all has_named_paths index))) }
 {
     let reading = read_changes(alloc, dump)?;
-    if reading.end != End::Numbered || !are_in_order(&reading.changes) {
+    if reading.end != End::Whole || first_out_of_order(&reading.changes).is_some() {
         return Ok(None);
     }
     let index = ChangeIndex::new(alloc, reading.changes)?;

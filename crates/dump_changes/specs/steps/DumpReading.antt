@@ -1,14 +1,14 @@
 -- What is read of a dump.
-use Rattle.std.specs.Prelude.{◌≡◌, ◌||◌, ℕ, true, false, List, [], ◌∷◌, ◌++◌, length}
+use Rattle.std.specs.Prelude.{◌≡◌, ℕ, true, List, [], ◌∷◌, ◌++◌, length}
 use Rattle.dump_records.specs.RecordText.{DumpRecord}
 use Rattle.dump_records.specs.DumpText.{BeginsWithRecords, Ending, HasRecords}
-use Rattle.dump_digest.specs.RecordParts.{is_node, is_revision_record}
+use Rattle.dump_digest.specs.RecordParts.{is_node}
 use Rattle.dump_filter.specs.Groups.{revision_numbers}
 use Rattle.dump_trees.specs.Changes.{Change}
 use Rattle.dump_history.specs.RecordChanges.{Patching, MakesChange}
-use Rattle.dump_changes.specs.ListedDumps.{AreListedIn, are_numbered, rise_from}
+use Rattle.dump_changes.specs.ListedDumps.{AreListedIn, IsOutOfPlace, are_numbered, rise_from}
 use Rattle.dump_changes.specs.declared.read.End.{End}
-use Rattle.dump_changes.specs.declared.read.End.TheVariants.{Numbered, OtherNumbers, NoChange, OutOfOrder, Broken}
+use Rattle.dump_changes.specs.declared.read.End.TheVariants.{Whole, NoChange, OutOfOrder, Broken}
 use Rattle.dump_changes.specs.declared.read.Reading.{Reading}
 
 -- the record behind these has this number
@@ -17,18 +17,18 @@ IsNext dump records number r = BeginsWithRecords dump (records ++ r ∷ []) × (
 
 -- the reading ends behind these records
 abbrev pub EndsReading : List ℕ → List DumpRecord → End → Type 0
-EndsReading dump records Numbered = HasRecords dump records Ending.Whole × (are_numbered records ≡ true)
-EndsReading dump records OtherNumbers = HasRecords dump records Ending.Whole × (are_numbered records ≡ false)
+EndsReading dump records Whole = HasRecords dump records Ending.Whole
 EndsReading dump records (NoChange number) = (r : DumpRecord) × IsNext dump records number r × (is_node r ≡ true)
     × ((patched : Patching) (c : Change) → MakesChange patched r c → ⊥)
-EndsReading dump records (OutOfOrder number) = (r : DumpRecord) × IsNext dump records number r
-    × ((is_node r || is_revision_record r) ≡ true)
+EndsReading dump records (OutOfOrder number) = (r : DumpRecord) × IsNext dump records number r × IsOutOfPlace records r
 EndsReading dump records (Broken kind place) = HasRecords dump records (Ending.Broken kind place)
 
 -- what is read
 pub record IsReadingOfDump (dump : List ℕ) (reading : Reading) : Type 0 where
   pub records : List DumpRecord
   pub begins : BeginsWithRecords dump records
+  pub numbers : reading.numbers.items ≡ revision_numbers records
+  pub numbered : reading.numbered ≡ are_numbered records
   pub rise : rise_from 0 (revision_numbers records) ≡ true
   pub listed : AreListedIn records reading.changes.items
   pub ends : EndsReading dump records reading.end

@@ -1,5 +1,8 @@
 -- Records that are read one by one.
-use Rattle.std.specs.Prelude.{◌≡◌, ◌||◌, ◌&&◌, ⊤, ℕ, suc, Bool, true, false, List, [], ◌∷◌, Option, Some, None, MatchBool, nat_lt}
+use Rattle.std.specs.Prelude.{◌≡◌, ◌<◌, ◌&&◌, ◌⊎◌, ⊤, ℕ, suc, Bool, true, false, List, [], ◌∷◌, Option, Some, None, nat_lt}
+use Rattle.std.specs.Global.{Vec}
+use Rattle.dump_text.specs.Names.{revision_name}
+use Rattle.dump_records.specs.HeaderRules.{header_number}
 use Rattle.dump_records.specs.RecordText.{DumpRecord}
 use Rattle.dump_digest.specs.RecordParts.{is_revision_record, is_node}
 use Rattle.dump_filter.specs.Groups.{revision_number, revision_numbers}
@@ -9,11 +12,13 @@ use Rattle.dump_history.specs.RecordChanges.{Patching, MakesChange}
 use Rattle.dump_history.specs.DumpChanges.{counts_from}
 use Rattle.dump_index.specs.Listed.{listed_of}
 use Rattle.dump_index.specs.IndexLaws.{IsListed}
-use Rattle.dump_changes.specs.ListedDumps.{NodesMake, rise_from}
+use Rattle.dump_index.specs.declared.change.NodeChange.{NodeChange}
+use Rattle.dump_changes.specs.ListedDumps.{NodesMake, revision_behind, rise_from, takes_nodes}
 use Rattle.dump_changes.specs.declared.read.End.{End}
 use Rattle.dump_changes.specs.declared.read.Position.{Position}
+use Rattle.dump_changes.specs.declared.read.Reading.{Reading}
 use Rattle.dump_changes.specs.declared.read.Step.{Step}
-use Rattle.dump_changes.specs.declared.read.Step.TheVariants.{NoChange, OutOfOrder, Goes, Makes}
+use Rattle.dump_changes.specs.declared.read.Step.TheVariants as steps
 
 -- these records, the next revision of which has this number, and a node at the front of which belongs to the present
 -- revision, if there is one, make these changes; at their end some revision has come. Revision 0 has no node
@@ -30,21 +35,38 @@ pub data Reads (patched : Patching) : ℕ → Option ℕ → List DumpRecord →
       → is_revision_record r ≡ false → is_node r ≡ false
       → Reads patched next None records placed → Reads patched next present (r ∷ records) placed
 
--- no revision has come after a record if none has before it, and it is none
-abbrev pub IsBeforeFirst : DumpRecord → Position → Step → Type 0
-IsBeforeFirst r at NoChange = ⊤
-IsBeforeFirst r at OutOfOrder = ⊤
-IsBeforeFirst r at (Goes next) = (next.next ≡ 0 → (at.next ≡ 0) × (is_revision_record r ≡ false))
+-- at the position, the record isn't in order: it is a node of revision 0 or of no revision, or a revision whose number
+-- isn't above those before, or is the largest that there is
+abbrev pub IsOutOfPlaceAt : DumpRecord → Position → Type 0
+IsOutOfPlaceAt r at = ((is_node r ≡ true) × (takes_nodes at.present ≡ false))
+    ⊎ ((is_revision_record r ≡ true) × ((number : ℕ) → header_number revision_name r.headers ≡ Some number
+    → number < 18446744073709551615 → rise_from at.next (revision_numbers (r ∷ [])) ≡ false))
+
+-- no revision has come before the next position exactly if none has before this one, and the record is none
+abbrev pub IsBeforeNext : DumpRecord → Position → Position → Type 0
+IsBeforeNext r at next = (next.next ≡ 0 → (at.next ≡ 0) × (is_revision_record r ≡ false))
     × (at.next ≡ 0 → is_revision_record r ≡ false → next.next ≡ 0)
-IsBeforeFirst r at (Makes c) = is_revision_record r ≡ false
+
+-- the same behind a step
+abbrev pub IsBeforeFirst : DumpRecord → Position → Step → Type 0
+IsBeforeFirst r at steps.NoChange = ⊤
+IsBeforeFirst r at steps.OutOfOrder = ⊤
+IsBeforeFirst r at (steps.Revision number next) = IsBeforeNext r at next
+IsBeforeFirst r at (steps.Other next) = IsBeforeNext r at next
+IsBeforeFirst r at (steps.Makes c) = is_revision_record r ≡ false
+
+-- what is behind the record makes the same with it
+abbrev pub GoesOnFrom : DumpRecord → Position → Position → Type 0
+GoesOnFrom r at next = (patched : Patching) (records : List DumpRecord) (placed : List Placed) →
+    NodesMake patched next.present records placed → NodesMake patched at.present (r ∷ records) placed
 
 -- what is behind the record makes with it what the step says
 abbrev pub IsReadingStep : DumpRecord → Position → Step → Type 0
-IsReadingStep r at NoChange = (is_node r ≡ true) × ((patched : Patching) (c : Change) → MakesChange patched r c → ⊥)
-IsReadingStep r at OutOfOrder = (is_node r || is_revision_record r) ≡ true
-IsReadingStep r at (Goes next) = (patched : Patching) (records : List DumpRecord) (placed : List Placed) →
-    NodesMake patched next.present records placed → NodesMake patched at.present (r ∷ records) placed
-IsReadingStep r at (Makes c) = (patched : Patching) → (change : Change)
+IsReadingStep r at steps.NoChange = (is_node r ≡ true) × ((patched : Patching) (c : Change) → MakesChange patched r c → ⊥)
+IsReadingStep r at steps.OutOfOrder = IsOutOfPlaceAt r at
+IsReadingStep r at (steps.Revision number next) = GoesOnFrom r at next
+IsReadingStep r at (steps.Other next) = GoesOnFrom r at next
+IsReadingStep r at (steps.Makes c) = (patched : Patching) → (change : Change)
     × IsListed (listed_of c) (record { revision = c.revision; change = change })
     × ((records : List DumpRecord) (placed : List Placed) → NodesMake patched at.present records placed
     → NodesMake patched at.present (r ∷ records) (record { revision = c.revision; change = change } ∷ placed))
@@ -53,15 +75,32 @@ IsReadingStep r at (Makes c) = (patched : Patching) → (change : Change)
 abbrev pub counts_on : Position → List DumpRecord → Bool
 counts_on at records = at.numbered && counts_from at.next (revision_numbers records)
 
--- the step tells whether they are so with the record; and the record's number, if it is a revision, is above those before
-abbrev pub IsCountingStep : DumpRecord → Position → Step → Type 0
-IsCountingStep r at NoChange = ⊤
-IsCountingStep r at OutOfOrder = ⊤
-IsCountingStep r at (Goes next) = (records : List DumpRecord) → (counts_on at (r ∷ records) ≡ counts_on next records)
+-- they are so with the record exactly if they are so behind it, from the next position on; and they rise with it exactly if
+-- they do behind it
+abbrev pub CountsTo : DumpRecord → Position → Position → Type 0
+CountsTo r at next = (records : List DumpRecord) → (counts_on at (r ∷ records) ≡ counts_on next records)
     × (rise_from at.next (revision_numbers (r ∷ records)) ≡ rise_from next.next (revision_numbers records))
-IsCountingStep r at (Makes c) = (records : List DumpRecord) → (counts_on at (r ∷ records) ≡ counts_on at records)
-    × (rise_from at.next (revision_numbers (r ∷ records)) ≡ rise_from at.next (revision_numbers records))
 
--- how a reading ends at the position
-abbrev pub IsEndAt : Position → End → Type 0
-IsEndAt at end = MatchBool (at.numbered && (nat_lt 0 at.next)) (end ≡ End.Numbered) (end ≡ End.OtherNumbers)
+-- the step tells whether they are, and the record's number, if it is a revision
+abbrev pub IsCountingStep : DumpRecord → Position → Step → Type 0
+IsCountingStep r at steps.NoChange = ⊤
+IsCountingStep r at steps.OutOfOrder = ⊤
+IsCountingStep r at (steps.Revision number next) = CountsTo r at next
+    × ((records : List DumpRecord) → revision_numbers (r ∷ records) ≡ number ∷ revision_numbers records)
+IsCountingStep r at (steps.Other next) = CountsTo r at next
+    × ((records : List DumpRecord) → revision_numbers (r ∷ records) ≡ revision_numbers records)
+IsCountingStep r at (steps.Makes c) = CountsTo r at at
+    × ((records : List DumpRecord) → revision_numbers (r ∷ records) ≡ revision_numbers records)
+
+-- the step tells to which revision a node behind the record belongs
+abbrev pub IsPresentStep : DumpRecord → Position → Step → Type 0
+IsPresentStep r at steps.NoChange = ⊤
+IsPresentStep r at steps.OutOfOrder = ⊤
+IsPresentStep r at (steps.Revision number next) = revision_behind r at.present ≡ next.present
+IsPresentStep r at (steps.Other next) = revision_behind r at.present ≡ next.present
+IsPresentStep r at (steps.Makes c) = revision_behind r at.present ≡ at.present
+
+-- what was read up to the position, where the reading ends so
+abbrev pub EndsAt : Position → Vec NodeChange → Vec ℕ → End → Reading → Type 0
+EndsAt at changes numbers end reading = (reading.changes ≡ changes) × (reading.numbers ≡ numbers)
+    × (reading.numbered ≡ (at.numbered && nat_lt 0 at.next)) × (reading.end ≡ end)
