@@ -1,8 +1,8 @@
 -- What the filter writes of a dump that is ready is its cut.
-use Rattle.std.proofs.Common.{ap, ◌≡◌, ◌||◌, ℕ, Bool, true, false, IfSome, MatchBool, List, [], length, map, Option, Some, None, Result, Ok, is_some, refl, sym, inl, inr, ◌∙◌, subst}
+use Rattle.std.proofs.Common.{ap, ◌≡◌, ◌||◌, ℕ, Bool, true, false, IfSome, MatchBool, List, [], length, map, Option, Some, None, Result, Ok, is_none, is_some, refl, sym, inl, inr, ◌∙◌, subst}
+use Rattle.std.proofs.lemmas.Bool.{or_right}
 use Rattle.std.proofs.KnownBytes.{Keeps-refl}
 use Rattle.std.specs.Io.KnownBytes.{Keeps}
-use Rattle.std.specs.Prelude.{MatchOption}
 use Rattle.std.specs.List.{AllZip, list_all}
 use Rattle.dump_records.specs.DumpText.{Ending, HasRecords}
 use Rattle.dump_records.specs.RecordText.{DumpRecord}
@@ -23,10 +23,12 @@ use Rattle.dump_trees.specs.Trees.{Tree, root_alone}
 use Rattle.dump_trees.proofs.cuts.FollowLemmas.{following_is_least}
 use Rattle.dump_trees.proofs.cuts.RestLemmas.{all_rests_are_listed, no_returns_bring_nothing}
 use Rattle.dump_filter.specs.Groups.{is_pad}
-use Rattle.dump_history.specs.CutDumps.{FiltersExpansion, LoadsNew, LoadsNumbered, TreeRestricts}
+use Rattle.dump_history.specs.CutDumps.{FiltersExpansion, LoadsNew, LoadsNumbered, TreeRestricts, leaves_no_gap}
 use Rattle.dump_history.specs.DumpChanges.{LoadsAs, MakeRevisions}
+use Rattle.dump_history.specs.KeptChanges.{ChangesComeOfKept}
 use Rattle.dump_history.specs.TrimmedDumps.{FiltersRenumbered, FiltersTrimmed}
 use Rattle.dump_history.proofs.cuts.CutLaws.{excluded_dump_loads}
+use Rattle.dump_history.proofs.cuts.KeptChanges.{filtered_changes_are_kept, renumbered_changes_are_kept, trimmed_changes_are_kept}
 use Rattle.dump_history.proofs.cuts.RenumberedLaw.{trimmed_dump_loads_renumbered}
 use Rattle.dump_history.proofs.cuts.TrimmedLaw.{trimmed_dump_loads}
 use Rattle.dump_history.specs.RecordChanges.{Patching}
@@ -46,7 +48,7 @@ use Rattle.dump_cut.proofs.OwnFormLemmas.{own_expansion}
 use Rattle.dump_cut.proofs.TakenLaw.{placed_named, revisions_named, taken_dump_loads}
 use Rattle.dump_cut.proofs.TakenLemmas.{taken_revisions_separate}
 use Rattle.dump_cut.proofs.TrimLaw.{trimmed_copies_load}
-use Rattle.cut_cli.specs.Cuts.{AreChangesOf, CutLoads, FiltersOrTrims, IsCutText, IsReadyFor, IsTrimmedIf}
+use Rattle.cut_cli.specs.Cuts.{AreChangesOf, AreCopiesTaken, CutLoads, FiltersOrTrims, IsCutText, IsReadyFor, IsTrimmedIf}
 use Rattle.cut_cli.specs.Drive.{CleanTextsAreCuts, CutsDump, CutsInput, WritesBoth, WritesIfAsked}
 use Rattle.cut_cli.specs.Words.{CutMeaning, asked_map}
 use Rattle.cut_cli.specs.steps.Examined.{AreDeletesIfAny}
@@ -69,21 +71,22 @@ Deletes = List (List (List ℕ))
 -- deletes that are found say this of the copies
 pub found_copies : (excluded : List NodePath) (told : ToldKinds) (placed : List Placed)
     (found : Result (Option (List (List (List ℕ)))) ℕ) (deletes : Option (List (List (List ℕ)))) → found ≡ Ok deletes
-    → AreDeletesIfAny excluded told placed found
-    → MatchOption deletes (IsFirstNotTaken excluded told placed None) (AreDeletes excluded told placed)
-found_copies excluded told placed found deletes is are =
-    cases deletes (subst (AreDeletesIfAny excluded told placed) is are)
-  where
-    cases : (d : Option (List (List (List ℕ)))) → AreDeletesIfAny excluded told placed (Ok d)
-        → MatchOption d (IsFirstNotTaken excluded told placed None) (AreDeletes excluded told placed)
-    cases None its = its
-    cases (Some ds) its = its
+    → AreDeletesIfAny excluded told placed found → AreCopiesTaken excluded told placed deletes
+found_copies excluded told placed found deletes is are = subst (AreDeletesIfAny excluded told placed) is are
+
+-- there are some where the filter doesn't take a change
+pub not_taken : (excluded : List NodePath) (told : ToldKinds) (placed : List Placed) (found : Option ℕ)
+    → IsFirstNotTaken excluded told placed found → is_none found ≡ false
+    → (place : ℕ) × IsFirstNotTaken excluded told placed (Some place)
+not_taken excluded told placed None first some = absurd (let bad : true ≡ false = some in cc)
+not_taken excluded told placed (Some place) first some = (place, first)
 
 -- what is written of a dump that loads
 record Written (m : CutMeaning) (dump : List ℕ) (settings : Settings) (records : List DumpRecord) (deletes : Option Deletes)
     (patched : Patching) (revisions : List (List Change)) (trees : List Tree) (text : List ℕ) : Type 0 where
   filters : LengthsFit settings records
       → FiltersOrTrims deletes m.drop patched settings dump records revisions trees text
+  kept : LengthsFit settings records → ChangesComeOfKept patched settings records revisions text
   numbered : m.drop ≡ false → LengthsFit settings records
       → LoadsNumbered patched (TreeRestricts settings records) records trees text
   renumbered : m.drop ≡ true → LengthsFit settings records
@@ -124,14 +127,20 @@ module _ (m : CutMeaning) (dump : List ℕ) (settings : Settings) (records : Lis
           (index_tells_kinds changes (placed_from 1 revisions) listed) loads names ready.excludes ready.have_names taken)
           clean fit
 
+      no_gap : (drops : Bool) → m.drop ≡ drops → leaves_no_gap settings ≡ true
+      no_gap true is = ap (λ b. b || is_pad settings.empty) (ready.numbers ∙ is)
+      no_gap false is = or_right settings.renumber (is_pad settings.empty) (ap is_pad (ready.empties ∙ ap emptied_by is))
+
       taken_written : Written m dump settings records None patched revisions trees filtered
       taken_written = record {
         filters = own;
+        kept = λ fit. filtered_changes_are_kept patched settings dump filtered records revisions clean fit makes
+            (no_gap m.drop refl);
         numbered = λ stays fit. taken_dump_loads patched settings ready.excluded dump filtered records changes revisions trees
             clean.whole loads_as listed named ready.excludes ready.have_names taken clean fit
             (ready.empties ∙ ap emptied_by stays) ready.preserves;
         renumbered = λ drops fit. excluded_dump_loads patched settings dump filtered records records revisions trees (own fit)
-            ready.excludes.side (ap (λ b. b || is_pad settings.empty) (ready.numbers ∙ drops));
+            ready.excludes.side (no_gap true drops);
       }
 
     -- deletes stand behind some copies
@@ -149,7 +158,7 @@ module _ (m : CutMeaning) (dump : List ℕ) (settings : Settings) (records : Lis
         apart = ready.apart;
         nothing_back = none_back (Some deletes) ready same;
         are_deletes = subst (λ l. AreDeletes ready.excluded (kinds_told_by l) (placed_from 1 revisions) deletes) (sym same)
-            (ready.copies (placed_from 1 revisions) (its (Some deletes) ready same));
+            (ready.copies (placed_from 1 revisions) (its (Some deletes) ready same)).0;
         clean = clean;
         fit = fit;
         trimmed = trims;
@@ -170,9 +179,17 @@ module _ (m : CutMeaning) (dump : List ℕ) (settings : Settings) (records : Lis
       trimmed_filters true is fit = (both fit).1 (ready.numbers ∙ is)
       trimmed_filters false is fit = (both fit).0 (pads is) (ready.numbers ∙ is)
 
+      trimmed_kept : (drops : Bool) → m.drop ≡ drops → LengthsFit settings records
+          → ChangesComeOfKept patched settings records revisions text
+      trimmed_kept true is fit = renumbered_changes_are_kept patched settings dump records revisions trees text
+          ((both fit).1 (ready.numbers ∙ is)) (ready.numbers ∙ is)
+      trimmed_kept false is fit = trimmed_changes_are_kept patched settings dump records revisions trees text
+          ((both fit).0 (pads is) (ready.numbers ∙ is)) (pads is) (ready.numbers ∙ is)
+
       trimmed_written : Written m dump settings records (Some deletes) patched revisions trees text
       trimmed_written = record {
         filters = trimmed_filters m.drop refl;
+        kept = trimmed_kept m.drop refl;
         numbered = λ stays fit. trimmed_dump_loads patched settings dump records revisions trees text
             ((both fit).0 (pads stays) (ready.numbers ∙ stays)) ready.excludes.side (pads stays) ready.preserves
             (ready.numbers ∙ stays);
@@ -215,6 +232,7 @@ module _ (m : CutMeaning) (dump : List ℕ) (settings : Settings) (records : Lis
             nothing_back = (no_returns_bring_nothing settings ready.excluded told revisions trees placed refl tells loads names
                 ready.excludes ready.have_names).0 none;
             filters = written.filters;
+            kept = written.kept;
             numbered = written.numbered;
             renumbered = written.renumbered;
           }

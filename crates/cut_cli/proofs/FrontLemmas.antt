@@ -1,98 +1,280 @@
 -- What the reading of a dump's changes says of the dump.
-use Rattle.std.proofs.Common.{◌≡◌, ◌⊎◌, ℕ, true, false, List, map, Option, Some, None, Result, Ok, Err, refl, sym, ap, ◌∙◌, subst, inl, inr, unwrap_or}
-use Rattle.std.specs.Global.{Vec}
-use Rattle.std.specs.Prelude.{MatchOption}
+use Rattle.std.proofs.Common.{◌≡◌, ◌≤◌, ◌-◌, ◌⊎◌, ℕ, suc, Bool, true, false, List, [], ◌∷◌, ◌++◌, drop, get_or, take, length, length-append, map, Option, Some, None, refl, sym, ap, ap₂, ◌∙◌, subst, inl, inr, arith, append-nil, append_assoc}
+use Rattle.std.specs.Prelude.{MatchBool, MatchOption}
 use Rattle.std.specs.List.{list_all}
+use Rattle.std.proofs.Math.Seq.{take-length}
+use Rattle.std.proofs.lemmas.Bool.{and_parts}
+use Rattle.std.proofs.lemmas.List.{length-map, map-append, take-append-drop, take-append-le, take-map}
+use Rattle.std.proofs.lemmas.List.Folds.{list_all-append}
+use Rattle.dump_records.specs.DumpText.{Ending, HasRecords}
+use Rattle.dump_records.specs.RecordText.{DumpRecord}
 use Rattle.dump_index.specs.InOrder.{are_in_order}
+use Rattle.dump_index.specs.steps.OutOfOrder.{IsFirstOutOfOrder}
 use Rattle.dump_index.specs.Listed.{Listed, listed_of}
 use Rattle.dump_index.specs.declared.change.NodeChange.{NodeChange}
+use Rattle.dump_changes.specs.ListedDumps.{AreListedIn, are_numbered, without_number}
 use Rattle.dump_changes.specs.declared.read.End.{End}
-use Rattle.dump_changes.specs.declared.read.End.TheVariants.{Numbered, OtherNumbers, NoChange, OutOfOrder, Broken}
+use Rattle.dump_changes.specs.declared.read.End.TheVariants.{Whole, NoChange, OutOfOrder, Broken}
 use Rattle.dump_changes.specs.declared.read.Reading.{Reading}
 use Rattle.dump_changes.specs.steps.DumpReading.{EndsReading, IsReadingOfDump}
 use Rattle.dump_changes.proofs.ReadLemmas.{numbered_makes}
 use Rattle.dump_cut.specs.NamedPaths.{has_named_paths}
 use Rattle.dump_cut.proofs.NamedLemmas.{listed_in_named, same_named}
-use Rattle.cut_cli.specs.Cuts.{AreChangesOf, AreListedButNumbers, BeginsWithChanges, IsUnreadFor}
+use Rattle.cut_cli.specs.Cuts.{AreChangesOf, AreKnownAs, AreListedButNumbers, BeginsWithChanges, CopiesByOtherNumbers, IsUnreadFor}
 use Rattle.cut_cli.specs.declared.read.Unread.{Unread}
 use Rattle.cut_cli.specs.declared.read.Unread.TheVariants as unread
-use Rattle.cut_cli.specs.steps.Examined.{AreKnownOf, StopsFor}
+use Rattle.cut_cli.specs.steps.Examined.{AreChangesUpTo, IsUnknownFor, StopsFor}
 
-module _ (dump : List ℕ) (reading : Reading) (read : IsReadingOfDump dump reading) where
+-- lists that agree agree in their first elements
+split_same : {X Y : Type 0} (f : X → Y) (xs : List X) (before behind : List Y) → map f xs ≡ before ++ behind
+    → map f (take (length before) xs) ≡ before
+split_same f xs [] behind is = refl
+split_same f [] (y ∷ before) behind is = absurd (let bad : [] ≡ y ∷ (before ++ behind) = is in cc)
+split_same f (x ∷ xs) (y ∷ before) behind is =
+    let both : f x ∷ map f xs ≡ y ∷ (before ++ behind) = is in
+    let first : f x ≡ y = cc in
+    let others : map f xs ≡ before ++ behind = cc in
+    ap₂ (λ b bs. b ∷ bs) first (split_same f xs before behind others)
+
+abbrev without : List NodeChange → List Listed
+without changes = map without_number (map listed_of changes)
+
+-- what is known of changes is so of the first ones
+known_first : (records : List DumpRecord) (changes : List NodeChange) (before behind : List NodeChange)
+    → AreKnownAs records changes (map listed_of (before ++ behind))
+    → AreKnownAs records (take (length before) changes) (map listed_of before)
+known_first records changes before behind known = cases (are_numbered records) known
+  where
+    size : length (map listed_of before) ≡ length before
+    size = length-map before listed_of
+
+    parts : map listed_of (before ++ behind) ≡ map listed_of before ++ map listed_of behind
+    parts = map-append listed_of before behind
+
+    cases : (numbered : Bool)
+        → MatchBool numbered (map listed_of changes ≡ map listed_of (before ++ behind))
+        (AreListedButNumbers changes (map listed_of (before ++ behind)))
+        → MatchBool numbered (map listed_of (take (length before) changes) ≡ map listed_of before)
+        (AreListedButNumbers (take (length before) changes) (map listed_of before))
+    cases true same =
+        ap (λ n. map listed_of (take n changes)) (sym size)
+        ∙ split_same listed_of changes (map listed_of before) (map listed_of behind) (same ∙ parts)
+    cases false same =
+        ap (λ n. map without_number (map listed_of (take n changes)))
+        (sym (length-map (map listed_of before) without_number ∙ size))
+        ∙ ap (map without_number) (sym (take-map listed_of (length (map without_number (map listed_of before))) changes))
+        ∙ split_same without_number (map listed_of changes) (map without_number (map listed_of before))
+        (map without_number (map listed_of behind))
+        (same ∙ ap (map without_number) parts ∙ map-append without_number (map listed_of before) (map listed_of behind))
+
+begins_first : (dump : List ℕ) (before behind : List NodeChange)
+    → BeginsWithChanges dump (map listed_of (before ++ behind)) → BeginsWithChanges dump (map listed_of before)
+begins_first dump before behind (records, changes, others, begins, listed, known) = (
+  records,
+  take (length before) changes,
+  drop (length before) changes ++ others,
+  begins,
+  subst (AreListedIn records)
+      (sym (sym (append_assoc (take (length before) changes) (drop (length before) changes) others)
+      ∙ ap (λ cs. cs ++ others) (take-append-drop (length before) changes))) listed,
+  known_first records changes before behind known,
+)
+
+-- up to the first change that isn't in order
+pub stops_in_order : (drops : Bool) (dump : List ℕ) (all : List NodeChange) (stop : Option Unread) (place number : ℕ)
+    → IsFirstOutOfOrder all (Some place) → AreChangesUpTo drops dump (map listed_of all) stop
+    → AreChangesUpTo drops dump (map listed_of (take place all)) (Some (unread.LaterCopy number))
+stops_in_order drops dump all stop place number (before, c, behind, all_is, size, ordered, not_so) known =
+    let first : take place all ≡ before =
+    ap₂ take (sym size) all_is ∙ take-append-le (length before) before (c ∷ behind) (omega arith)
+    ∙ take-length before in
+    let begins : BeginsWithChanges dump (map listed_of (before ++ c ∷ behind)) =
+    subst (λ cs. BeginsWithChanges dump (map listed_of cs)) all_is known.0 in (
+      subst (λ cs. BeginsWithChanges dump (map listed_of cs)) (sym first) (begins_first dump before (c ∷ behind) begins),
+      (
+        before,
+        c,
+        begins_first dump (before ++ c ∷ []) behind
+            (subst (λ cs. BeginsWithChanges dump (map listed_of cs)) (sym (append_assoc before (c ∷ []) behind)) begins),
+        ordered,
+        not_so,
+      ),
+    )
+
+pub within : (all : List NodeChange) (place : ℕ) → IsFirstOutOfOrder all (Some place) → suc place ≤ length all
+within all place (before, c, behind, all_is, size, ordered, not_so) =
+    let sizes = ap length all_is ∙ length-append before (c ∷ behind) in omega (arith, sizes)
+
+pub ordered_first : (all : List NodeChange) (place : ℕ) → IsFirstOutOfOrder all (Some place)
+    → are_in_order 0 (take place all) ≡ true
+ordered_first all place (before, c, behind, all_is, size, ordered, not_so) =
+    ap (are_in_order 0)
+    (ap₂ take (sym size) all_is ∙ take-append-le (length before) before (c ∷ behind) (omega arith)
+    ∙ take-length before)
+    ∙ ordered
+
+-- what an index has of the first changes has no odd paths
+pub begins_named : (dump : List ℕ) (listed : List Listed) → BeginsWithChanges dump listed
+    → list_all has_named_paths listed ≡ true
+begins_named dump listed (records, changes, others, begins, are, known) =
+    sym (same_named (map listed_of changes) listed (but_numbers (are_numbered records) known)) ∙ first
+  where
+    but_numbers : (numbered : Bool) → MatchBool numbered (map listed_of changes ≡ listed) (AreListedButNumbers changes listed)
+        → map without_number (map listed_of changes) ≡ map without_number listed
+    but_numbers true same = ap (map without_number) same
+    but_numbers false same = same
+
+    first : list_all has_named_paths (map listed_of changes) ≡ true
+    first = (and_parts (list_all has_named_paths (map listed_of changes)) (list_all has_named_paths (map listed_of others))
+        (sym (list_all-append has_named_paths (map listed_of changes) (map listed_of others))
+        ∙ ap (list_all has_named_paths) (sym (map-append listed_of changes others))
+        ∙ listed_in_named records (changes ++ others) are)).0
+
+module _ (drops : Bool) (dump : List ℕ) (reading : Reading) (read : IsReadingOfDump dump reading) where
   -- why it stops
   stop_reason : (end : End) → EndsReading dump read.records end → (reason : Unread) → StopsFor end (Some reason)
-      → IsUnreadFor dump reason
-  stop_reason Numbered ends reason stops = absurd (let bad : Some reason ≡ None = stops in cc)
-  stop_reason OtherNumbers ends reason stops = absurd (let bad : Some reason ≡ None = stops in cc)
+      → IsUnreadFor drops dump reason
+  stop_reason Whole ends reason stops = absurd (let bad : Some reason ≡ None = stops in cc)
   stop_reason (NoChange number) (r, next, node, nothing) reason stops =
       let both : Some reason ≡ Some (unread.NoChange number) = stops in
       let is : reason ≡ unread.NoChange number = cc in
-      subst (IsUnreadFor dump) (sym is) (r, (read.records, next.0, next.1), node, nothing)
-  stop_reason (OutOfOrder number) (r, next, some) reason stops =
+      subst (IsUnreadFor drops dump) (sym is) (r, (read.records, next.0, next.1), node, nothing)
+  stop_reason (OutOfOrder number) (r, next, misplaced) reason stops =
       let both : Some reason ≡ Some (unread.OutOfOrder number) = stops in
       let is : reason ≡ unread.OutOfOrder number = cc in
-      subst (IsUnreadFor dump) (sym is) (r, (read.records, next.0, next.1), some)
+      subst (IsUnreadFor drops dump) (sym is) (r, read.records, next.0, next.1, misplaced)
   stop_reason (Broken kind place) ends reason stops =
       let both : Some reason ≡ Some (unread.Broken kind place) = stops in
       let is : reason ≡ unread.Broken kind place = cc in
-      subst (IsUnreadFor dump) (sym is) (read.records, ends)
+      subst (IsUnreadFor drops dump) (sym is) (read.records, ends)
 
-  -- the changes of the whole dump, where it doesn't
-  whole_changes : (end : End) → reading.end ≡ end → EndsReading dump read.records end → StopsFor end None
-      → (changes : Vec NodeChange) → AreKnownOf reading (Ok changes) → AreChangesOf dump (map listed_of changes.items)
-  whole_changes Numbered is ends stops changes known =
-      inl (reading.changes.items, numbered_makes dump read.records reading.changes.items ends.0 ends.1 read.listed, sym (known.0 is))
-  whole_changes OtherNumbers is ends stops changes known =
-      inr (reading.changes.items, (read.records, ends.0, ends.1, read.rise, read.listed), known.1)
-  whole_changes (NoChange number) is ends stops changes known =
-      absurd (let bad : None ≡ Some (unread.NoChange number) = stops in cc)
-  whole_changes (OutOfOrder number) is ends stops changes known =
-      absurd (let bad : None ≡ Some (unread.OutOfOrder number) = stops in cc)
-  whole_changes (Broken kind place) is ends stops changes known =
-      absurd (let bad : None ≡ Some (unread.Broken kind place) = stops in cc)
+  -- the reading is whole, where it doesn't stop
+  whole : (end : End) → EndsReading dump read.records end → StopsFor end None
+      → HasRecords dump read.records Ending.Whole
+  whole Whole ends stops = ends
+  whole (NoChange number) ends stops = absurd (let bad : None ≡ Some (unread.NoChange number) = stops in cc)
+  whole (OutOfOrder number) ends stops = absurd (let bad : None ≡ Some (unread.OutOfOrder number) = stops in cc)
+  whole (Broken kind place) ends stops = absurd (let bad : None ≡ Some (unread.Broken kind place) = stops in cc)
 
-  -- its revisions have other numbers, where changes aren't known
-  other_numbers : (end : End) → reading.end ≡ end → EndsReading dump read.records end → StopsFor end None
-      → (reason : Unread) → AreKnownOf reading (Err reason) → IsUnreadFor dump reason
-  other_numbers Numbered is ends stops reason known = absurd (known.0 is)
-  other_numbers OtherNumbers is ends stops reason known = cases known.1.1
+  -- as they are read, or as a load takes them
+  module _ (stop : Option Unread) (stops : StopsFor reading.end stop) where
+    up_to : (listed : List Listed) → (StopsFor reading.end None → AreChangesOf dump listed) → (stop : Option Unread)
+        → StopsFor reading.end stop → MatchOption stop (AreChangesOf dump listed) (IsUnreadFor drops dump)
+    up_to listed all None stops = all stops
+    up_to listed all (Some reason) stops = stop_reason reading.end read.ends reason stops
+
+    pub known_as_read : reading.numbered ≡ true → AreChangesUpTo drops dump (map listed_of reading.changes.items) stop
+    known_as_read is = (
+      (
+        read.records,
+        reading.changes.items,
+        [],
+        read.begins,
+        subst (AreListedIn read.records) (sym (append-nil reading.changes.items)) read.listed,
+        subst (λ b. MatchBool b (map listed_of reading.changes.items ≡ map listed_of reading.changes.items)
+            (AreListedButNumbers reading.changes.items (map listed_of reading.changes.items))) (sym is ∙ read.numbered) refl,
+      ),
+      up_to (map listed_of reading.changes.items) (λ ends. inl (
+        reading.changes.items,
+        numbered_makes dump read.records reading.changes.items (whole reading.end read.ends ends)
+            (sym read.numbered ∙ is) read.listed,
+        refl,
+      )) stop stops,
+    )
+
+    -- with the numbers of other revisions
+    pub known_by_load : reading.numbered ≡ false → (changes : List NodeChange)
+        → without changes ≡ without reading.changes.items → AreChangesUpTo drops dump (map listed_of changes) stop
+    known_by_load isnt changes same = (
+      (
+        read.records,
+        reading.changes.items,
+        [],
+        read.begins,
+        subst (AreListedIn read.records) (sym (append-nil reading.changes.items)) read.listed,
+        subst (λ b. MatchBool b (map listed_of reading.changes.items ≡ map listed_of changes)
+            (AreListedButNumbers reading.changes.items (map listed_of changes))) (sym isnt ∙ read.numbered) (sym same),
+      ),
+      up_to (map listed_of changes) (λ ends. inr (
+        reading.changes.items,
+        (read.records, whole reading.end read.ends ends, sym read.numbered ∙ isnt, read.rise, read.listed),
+        sym same,
+      )) stop stops,
+    )
+
+  -- up to a copy that isn't known
+  pub known_before : reading.numbered ≡ false → (changes : List NodeChange) (before : List NodeChange) (c : NodeChange)
+      (behind : List NodeChange) → without changes ≡ without before → reading.changes.items ≡ before ++ c ∷ behind
+      → (reason : Unread) → IsUnknownFor drops (listed_of c) reason
+      → AreChangesUpTo drops dump (map listed_of changes) (Some reason)
+  known_before isnt changes before c behind same all_is reason (copy, (number, which)) = (
+    (
+      read.records,
+      before,
+      c ∷ behind,
+      read.begins,
+      subst (AreListedIn read.records) all_is read.listed,
+      subst (λ b. MatchBool b (map listed_of before ≡ map listed_of changes)
+          (AreListedButNumbers before (map listed_of changes))) (sym isnt ∙ read.numbered) (sym same),
+    ),
+    cases which,
+  )
     where
-      cases : (reason ≡ unread.NoSource known.1.0) ⊎ (reason ≡ unread.Gap known.1.0) → IsUnreadFor dump reason
-      cases (inl its) =
-          subst (IsUnreadFor dump) (sym its) (reading.changes.items, (read.records, ends.0, ends.1, read.rise, read.listed))
-      cases (inr its) =
-          subst (IsUnreadFor dump) (sym its) (reading.changes.items, (read.records, ends.0, ends.1, read.rise, read.listed))
-  other_numbers (NoChange number) is ends stops reason known =
-      absurd (let bad : None ≡ Some (unread.NoChange number) = stops in cc)
-  other_numbers (OutOfOrder number) is ends stops reason known =
-      absurd (let bad : None ≡ Some (unread.OutOfOrder number) = stops in cc)
-  other_numbers (Broken kind place) is ends stops reason known =
-      absurd (let bad : None ≡ Some (unread.Broken kind place) = stops in cc)
+      copies : CopiesByOtherNumbers dump
+      copies = (
+        read.records,
+        before,
+        c,
+        behind,
+        read.begins,
+        subst (AreListedIn read.records) all_is read.listed,
+        sym read.numbered ∙ isnt,
+        copy,
+      )
 
-  -- the first reason
-  pub unknown_reason : (stop : Option Unread) → StopsFor reading.end stop → (reason : Unread)
-      → AreKnownOf reading (Err reason) → IsUnreadFor dump (unwrap_or stop reason)
-  unknown_reason None stops reason known = other_numbers reading.end refl read.ends stops reason known
-  unknown_reason (Some first) stops reason known = stop_reason reading.end read.ends first stops
+      cases : (reason ≡ unread.NoSource number) ⊎ ((drops ≡ true) × (reason ≡ unread.Gap number)) → IsUnreadFor drops dump reason
+      cases (inl is) = subst (IsUnreadFor drops dump) (sym is) copies
+      cases (inr is) = subst (IsUnreadFor drops dump) (sym is.1) (is.0, copies)
 
-  pub later_reason : (stop : Option Unread) → StopsFor reading.end stop → (changes : Vec NodeChange)
-      → AreKnownOf reading (Ok changes) → are_in_order 0 changes.items ≡ false → (number : ℕ)
-      → IsUnreadFor dump (unwrap_or stop (unread.LaterCopy number))
-  later_reason None stops changes known not_so number =
-      (changes.items, whole_changes reading.end refl read.ends stops changes known, not_so)
-  later_reason (Some first) stops changes known not_so number = stop_reason reading.end read.ends first stops
+-- the changes that are known so far, and those that are left
+pub record KnownSoFar (all changes left : List NodeChange) : Type 0 where
+  pub before : List NodeChange
+  pub parts : all ≡ before ++ left
+  pub same : without changes ≡ without before
 
-  -- and what an index has of it
-  module _ (changes : Vec NodeChange) (known : AreKnownOf reading (Ok changes)) where
-    pub front_begins : BeginsWithChanges dump (map listed_of changes.items)
-    front_begins = (reading.changes.items, (read.records, read.begins, read.listed), known.1)
+first_left : {X : Type 0} (x : X) (left : List X) → take (length (x ∷ left) - 1) (drop 1 (x ∷ left)) ≡ left
+first_left x left = ap (λ n. take n left) (let e : length (x ∷ left) - 1 ≡ length left = omega arith in e) ∙ take-length left
 
-    pub front_ends : (stop : Option Unread) → StopsFor reading.end stop
-        → MatchOption stop (AreChangesOf dump (map listed_of changes.items)) (IsUnreadFor dump)
-    front_ends None stops = whole_changes reading.end refl read.ends stops changes known
-    front_ends (Some first) stops = stop_reason reading.end read.ends first stops
+pub one_more_known : (all changes more left : List NodeChange) (d known : NodeChange) → 1 ≤ length left
+    → KnownSoFar all changes left → without_number (listed_of known) ≡ without_number (listed_of (get_or left 0 d))
+    → more ≡ changes ++ known ∷ [] → KnownSoFar all more (take (length left - 1) (drop 1 left))
+one_more_known all changes more [] d known some so_far its more_is = absurd (omega arith)
+one_more_known all changes more (c ∷ left) d known some so_far its more_is = record {
+  before = so_far.before ++ c ∷ [];
+  parts =
+      so_far.parts ∙ sym (append_assoc so_far.before (c ∷ []) left)
+      ∙ ap (λ cs. (so_far.before ++ c ∷ []) ++ cs) (sym (first_left c left));
+  same =
+      ap without more_is ∙ pushed changes known
+      ∙ ap₂ (λ ls l. ls ++ l ∷ []) so_far.same its
+      ∙ sym (pushed so_far.before c);
+}
+  where
+    pushed : (cs : List NodeChange) (c : NodeChange)
+        → without (cs ++ c ∷ []) ≡ without cs ++ without_number (listed_of c) ∷ []
+    pushed cs c =
+        ap (map without_number) (map-append listed_of cs (c ∷ []))
+        ∙ map-append without_number (map listed_of cs) (listed_of c ∷ [])
 
-    pub front_named : list_all has_named_paths (map listed_of changes.items) ≡ true
-    front_named =
-        sym (same_named (map listed_of reading.changes.items) (map listed_of changes.items) known.1)
-        ∙ listed_in_named read.records reading.changes.items read.listed
+pub all_known : (all changes left : List NodeChange) → length left ≡ 0 → KnownSoFar all changes left
+    → without changes ≡ without all
+all_known all changes [] none so_far = so_far.same ∙ ap without (sym (so_far.parts ∙ append-nil so_far.before))
+all_known all changes (c ∷ left) none so_far = absurd (omega arith)
+
+pub unknown_next : (drops : Bool) (dump : List ℕ) (reading : Reading) (changes left : List NodeChange) (d : NodeChange)
+    (reason : Unread) → reading.numbered ≡ false → 1 ≤ length left → KnownSoFar reading.changes.items changes left
+    → IsUnknownFor drops (listed_of (get_or left 0 d)) reason → IsReadingOfDump dump reading
+    → AreChangesUpTo drops dump (map listed_of changes) (Some reason)
+unknown_next drops dump reading changes [] d reason isnt some so_far unknown read = absurd (omega arith)
+unknown_next drops dump reading changes (c ∷ left) d reason isnt some so_far unknown read =
+    known_before drops dump reading read isnt changes so_far.before c left so_far.same so_far.parts reason unknown

@@ -1,7 +1,7 @@
 -- What is found out of a dump before it is filtered, and what the filter then writes.
-use Rattle.std.specs.Prelude.{◌≡◌, ◌≢◌, ◌⊎◌, ◌||◌, ℕ, true, false, List, [], ◌∷◌, ◌++◌, length, map, Bool, Option, Some, None, MatchOption, IsTrue}
-use Rattle.std.specs.List.{AllZip, list_all, list_any}
-use Rattle.dump_digest.specs.RecordParts.{is_node, is_revision_record}
+use Rattle.std.specs.Prelude.{◌≡◌, ◌≢◌, ◌⊎◌, ℕ, true, false, List, [], ◌∷◌, ◌++◌, length, map, Bool, Option, Some, None, MatchBool, IsTrue}
+use Rattle.std.specs.List.{AllZip, list_all}
+use Rattle.dump_digest.specs.RecordParts.{is_node}
 use Rattle.dump_records.specs.DumpText.{BeginsWithRecords, Ending, HasRecords}
 use Rattle.dump_records.specs.RecordText.{DumpRecord}
 use Rattle.dump_rules.specs.Settings.{Settings}
@@ -11,7 +11,7 @@ use Rattle.dump_trees.specs.Changes.{Change}
 use Rattle.dump_trees.specs.ComingBack.{NothingComesBack}
 use Rattle.dump_trees.specs.FollowedRests.{all_rests}
 use Rattle.dump_trees.specs.Following.{Way, Covers, IsInClosure}
-use Rattle.dump_trees.specs.LoadCheck.{all_apply}
+use Rattle.dump_trees.specs.LoadCheck.{ToldKinds, all_apply}
 use Rattle.dump_trees.specs.Looking.{Placed, placed_from}
 use Rattle.dump_trees.specs.Paths.{NodePath}
 use Rattle.dump_trees.specs.Returns.{is_covered, lie_apart}
@@ -19,6 +19,7 @@ use Rattle.dump_trees.specs.Siblings.{ExcludesPaths, has_node_names}
 use Rattle.dump_trees.specs.Trees.{Tree, root_alone}
 use Rattle.dump_history.specs.CutDumps.{FiltersExpansion, LoadsNew, LoadsNumbered, TreeRestricts}
 use Rattle.dump_history.specs.DumpChanges.{LoadsAs, MakeRevisions}
+use Rattle.dump_history.specs.KeptChanges.{ChangesComeOfKept}
 use Rattle.dump_history.specs.RecordChanges.{MakesChange, Patching}
 use Rattle.dump_history.specs.TrimmedDumps.{FiltersRenumbered, FiltersTrimmed}
 use Rattle.dump_index.specs.IndexLaws.{IsListed}
@@ -26,7 +27,7 @@ use Rattle.dump_index.specs.InOrder.{are_in_order}
 use Rattle.dump_index.specs.Listed.{Listed, listed_of}
 use Rattle.dump_index.specs.ToldKinds.{kinds_told_by}
 use Rattle.dump_index.specs.declared.change.NodeChange.{NodeChange}
-use Rattle.dump_changes.specs.ListedDumps.{BeginsWithListed, MakesListed, MakesListedByNumbers, without_number}
+use Rattle.dump_changes.specs.ListedDumps.{AreListedIn, IsOutOfPlace, MakesListed, MakesListedByNumbers, are_numbered, is_listed_copy, without_number}
 use Rattle.dump_cut.specs.FollowedCopies.{ComeByFollowing}
 use Rattle.dump_cut.specs.LoadChecks.{IsFirstRefused}
 use Rattle.dump_cut.specs.TakenCopies.{IsFirstNotTaken, emptied_by}
@@ -49,10 +50,21 @@ abbrev pub AreChangesOf : List ℕ → List Listed → Type 0
 AreChangesOf dump listed = ((changes : List NodeChange) × MakesListed dump changes × (map listed_of changes ≡ listed))
     ⊎ ((changes : List NodeChange) × MakesListedByNumbers dump changes × AreListedButNumbers changes listed)
 
--- an index of the changes of the dump's first records says this of them
+-- an index of these changes of records says this of them: all of it, if the revisions are numbered 0, 1, 2 and so on
+abbrev pub AreKnownAs : List DumpRecord → List NodeChange → List Listed → Type 0
+AreKnownAs records changes listed =
+    MatchBool (are_numbered records) (map listed_of changes ≡ listed) (AreListedButNumbers changes listed)
+
+-- the dump begins with records of whose first changes an index says this
 abbrev pub BeginsWithChanges : List ℕ → List Listed → Type 0
-BeginsWithChanges dump listed = (changes : List NodeChange) × BeginsWithListed dump changes
-    × AreListedButNumbers changes listed
+BeginsWithChanges dump listed = (records : List DumpRecord) × (changes : List NodeChange) × (others : List NodeChange)
+    × BeginsWithRecords dump records × AreListedIn records (changes ++ others) × AreKnownAs records changes listed
+
+-- the dump begins with records that are numbered otherwise, and the change behind their first ones is a copy
+abbrev pub CopiesByOtherNumbers : List ℕ → Type 0
+CopiesByOtherNumbers dump = (records : List DumpRecord) × (before : List NodeChange) × (c : NodeChange) × (behind : List NodeChange)
+    × BeginsWithRecords dump records × AreListedIn records (before ++ c ∷ behind)
+    × (are_numbered records ≡ false) × (is_listed_copy (listed_of c) ≡ true)
 
 -- the record with this number is a node that makes no change
 abbrev pub MakesNoChange : List ℕ → ℕ → Type 0
@@ -60,21 +72,23 @@ MakesNoChange dump number = (r : DumpRecord)
     × ((before : List DumpRecord) × BeginsWithRecords dump (before ++ r ∷ []) × (length before ≡ number))
     × (is_node r ≡ true) × ((patched : Patching) (c : Change) → MakesChange patched r c → ⊥)
 
--- the record with this number is a node or a revision
-abbrev pub IsInHistory : List ℕ → ℕ → Type 0
-IsInHistory dump number = (r : DumpRecord)
-    × ((before : List DumpRecord) × BeginsWithRecords dump (before ++ r ∷ []) × (length before ≡ number))
-    × ((is_node r || is_revision_record r) ≡ true)
+-- the record with this number isn't in order: it is a node of revision 0 or of no revision, or a revision whose number isn't
+-- above those before
+abbrev pub IsMisplaced : List ℕ → ℕ → Type 0
+IsMisplaced dump number = (r : DumpRecord) × (before : List DumpRecord)
+    × BeginsWithRecords dump (before ++ r ∷ []) × (length before ≡ number) × IsOutOfPlace before r
 
--- why there is no such index
-abbrev pub IsUnreadFor : List ℕ → UnreadDump → Type 0
-IsUnreadFor dump (unread.Broken kind place) = (records : List DumpRecord) × HasRecords dump records (Ending.Broken kind place)
-IsUnreadFor dump (unread.NoChange number) = MakesNoChange dump number
-IsUnreadFor dump (unread.OutOfOrder number) = IsInHistory dump number
-IsUnreadFor dump (unread.LaterCopy number) =
-    (changes : List NodeChange) × AreChangesOf dump (map listed_of changes) × (are_in_order 0 changes ≡ false)
-IsUnreadFor dump (unread.NoSource number) = (changes : List NodeChange) × MakesListedByNumbers dump changes
-IsUnreadFor dump (unread.Gap number) = (changes : List NodeChange) × MakesListedByNumbers dump changes
+-- why there is no such index of the whole dump, or no renumbering of it, if revisions are dropped
+abbrev pub IsUnreadFor : Bool → List ℕ → UnreadDump → Type 0
+IsUnreadFor drops dump (unread.Broken kind place) =
+    (records : List DumpRecord) × HasRecords dump records (Ending.Broken kind place)
+IsUnreadFor drops dump (unread.NoChange number) = MakesNoChange dump number
+IsUnreadFor drops dump (unread.OutOfOrder number) = IsMisplaced dump number
+IsUnreadFor drops dump (unread.LaterCopy number) = (before : List NodeChange) × (c : NodeChange)
+    × BeginsWithChanges dump (map listed_of (before ++ c ∷ [])) × (are_in_order 0 before ≡ true)
+    × (are_in_order 0 (before ++ c ∷ []) ≡ false)
+IsUnreadFor drops dump (unread.NoSource number) = CopiesByOtherNumbers dump
+IsUnreadFor drops dump (unread.Gap number) = (drops ≡ true) × CopiesByOtherNumbers dump
 
 -- what is excluded
 
@@ -113,13 +127,20 @@ IsTakenDump dump listed = AreChangesOf dump listed × IsFirstRefused listed None
 
 -- why nothing is written
 abbrev pub IsObstacleTo : CutMeaning → List ℕ → Obstacle → Type 0
-IsObstacleTo m dump (Unread reason) = IsUnreadFor dump reason
+IsObstacleTo m dump (Unread reason) = IsUnreadFor m.drop dump reason
 IsObstacleTo m dump (Refused refused) = (listed : List Listed) × BeginsWithChanges dump listed
     × IsFirstRefused listed (Some refused)
 IsObstacleTo m dump ComesBack = (listed : List Listed) × IsTakenDump dump listed × Returns m listed
 IsObstacleTo m dump (OddDelete place) = (listed : List Listed) × (excluded : List NodePath) × IsTakenDump dump listed
     × ExcludesAsAsked m listed excluded
     × ((placed : List Placed) → AllZip IsListed listed placed → HasOddDelete excluded (kinds_told_by listed) placed place)
+
+-- the filter takes each change of a dump as it is; or it doesn't take the one at some place, and these paths are to be deleted
+-- behind its nodes
+abbrev pub AreCopiesTaken : List NodePath → ToldKinds → List Placed → Option (List (List (List ℕ))) → Type 0
+AreCopiesTaken excluded told placed None = IsFirstNotTaken excluded told placed None
+AreCopiesTaken excluded told placed (Some deletes) =
+    AreDeletes excluded told placed deletes × ((place : ℕ) × IsFirstNotTaken excluded told placed (Some place))
 
 -- these are the options of a filter that cuts the dump, and the paths to delete behind each node that it keeps: it excludes
 -- these paths, leaves mergeinfo of them out, and keeps each revision with its number and properties; or it drops those that
@@ -131,8 +152,7 @@ pub record IsReadyFor (m : CutMeaning) (dump : List ℕ) (settings : Settings) (
   pub is_taken : IsTakenDump dump listed
   pub are_excluded : ExcludesAsAsked m listed excluded
   pub copies : (placed : List Placed) → AllZip IsListed listed placed
-      → MatchOption deletes (IsFirstNotTaken excluded (kinds_told_by listed) placed None)
-      (AreDeletes excluded (kinds_told_by listed) placed)
+      → AreCopiesTaken excluded (kinds_told_by listed) placed deletes
   pub apart : IsTrue (lie_apart excluded)
   pub excludes : ExcludesPaths settings excluded
   pub have_names : IsTrue (list_all has_node_names excluded)
@@ -162,7 +182,8 @@ FiltersOrTrims (Some deletes) true patched settings dump records revisions trees
 -- the dump loads into an empty repository, and so does what is written of it: each revision has its own number and
 -- properties, and the tree that it had, without the excluded paths. If the call drops revisions that lose all of their
 -- nodes, this is true of the others under their new numbers. The excluded paths are the least set that has what the call
--- names, and what copies bring of it elsewhere; nothing that is kept came from there
+-- names, and what copies bring of it elsewhere; nothing that is kept came from there. And all that is written comes of changes
+-- at paths that aren't excluded, also where no revision shows it
 pub record CutLoads (patched : Patching) (m : CutMeaning) (settings : Settings) (deletes : Option (List (List (List ℕ))))
     (excluded : List NodePath) (dump : List ℕ) (records : List DumpRecord) (revisions : List (List Change)) (text : List ℕ)
     : Type 0 where
@@ -176,6 +197,7 @@ pub record CutLoads (patched : Patching) (m : CutMeaning) (settings : Settings) 
   pub nothing_back : NothingComesBack settings trees revisions
   pub filters : LengthsFit settings records
       → FiltersOrTrims deletes m.drop patched settings dump records revisions trees text
+  pub kept : LengthsFit settings records → ChangesComeOfKept patched settings records revisions text
   pub numbered : m.drop ≡ false → LengthsFit settings records
       → LoadsNumbered patched (TreeRestricts settings records) records trees text
   pub renumbered : m.drop ≡ true → LengthsFit settings records

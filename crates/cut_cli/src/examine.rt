@@ -239,7 +239,7 @@ fn examine_front<E: Write>(
     errors: &mut E,
 ) -> Result<Result<Ready, Obstacle>, Memory>
     requires named { IsTrue (list_all has_named_paths front.now.index) }
-    requires front { IsFrontOf dump.now front.now }
+    requires front { IsFrontOf (cut_meaning call.now).drop dump.now front.now }
     ensures { IfOk result (IsExamined (cut_meaning call.now) dump.now) }
 {
     let index = &front.index;
@@ -264,11 +264,6 @@ pub fn examine<E: Write>(
 ) -> Result<Result<Ready, Obstacle>, Memory>
     ensures { IfOk result (IsExamined (cut_meaning call.now) dump.now) }
 {
-    match read_front(alloc, dump, call.drop)? {
-        Ok(front) => examine_front(alloc, dump, &front, call, errors),
-        Err(unread) => {
-            let _ = write_unread(errors, dump, unread);
-            Ok(Err(Obstacle::Unread(unread)))
-        }
-    }
+    let front = read_front(alloc, dump, call.drop)?;
+    examine_front(alloc, dump, &front, call, errors)
 }

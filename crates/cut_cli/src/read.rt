@@ -1,14 +1,15 @@
 //! The changes of a dump in an index, or why there is none.
-ghost use Rattle.std.specs.Prelude.{IfOk, IsTrue, MatchResult};
+ghost use Rattle.std.specs.Prelude.{◌≡◌, ℕ, Bool, List, true, IfOk, IsTrue, MatchResult, map};
 ghost use Rattle.std.specs.List.{list_all};
+ghost use Rattle.dump_index.specs.InOrder.{are_in_order};
+ghost use Rattle.dump_index.specs.Listed.{listed_of};
+ghost use Rattle.dump_changes.specs.ListedDumps.{without_number};
+ghost use Rattle.dump_changes.specs.steps.DumpReading.{IsReadingOfDump};
 ghost use Rattle.dump_cut.specs.NamedPaths.{has_named_paths};
-ghost use Rattle.cut_cli.specs.Cuts.{IsUnreadFor};
-ghost use Rattle.cut_cli.specs.steps.Examined.{AreKnownOf, IsFrontOf, StopsFor};
+ghost use Rattle.cut_cli.specs.steps.Examined.{IsFrontOf, IsKnownOf, IsUnknownFor, StopsFor};
 
-use dump_changes::{
-    End, Memory, Reading, first_in_gap, read_changes, revision_numbers, with_loaded_sources,
-};
-use dump_index::{ChangeIndex, NodeChange, NodeMade, are_in_order};
+use dump_changes::{End, Memory, Reading, copies_from_gap, read_changes, with_loaded_source};
+use dump_index::{ChangeIndex, NodeChange, first_out_of_order};
 use dump_text::FaultKind;
 use std::alloc::Global;
 
@@ -37,73 +38,92 @@ pub struct Front<'a> {
     pub stop: Option<Unread>,
 }
 
+/// The changes of a dump, up to where its reading stops, each copy of the revision of which a load takes it.
+#[derive(Drop)]
+pub(crate) struct Known<'a> {
+    changes: Vec<NodeChange<'a>>,
+    /// Why it stops before the end of the dump, if it does.
+    stop: Option<Unread>,
+}
+
 /// Why the reading of a dump stops before its end, if it does.
 fn stop_at(end: End) -> Option<Unread>
     ensures { StopsFor end result }
 {
     match end {
-        End::Numbered | End::OtherNumbers => None,
+        End::Whole => None,
         End::NoChange(number) => Some(Unread::NoChange(number)),
         End::OutOfOrder(number) => Some(Unread::OutOfOrder(number)),
         End::Broken { kind, place } => Some(Unread::Broken { kind, place }),
     }
 }
 
-/// The number of the first record that copies its own revision or a later one.
-fn later_copy(changes: &[NodeChange<'_>]) -> u64 {
-    for change in changes {
-        if let Some(NodeMade::CopyOf(source)) = change.made {
-            if source.revision >= change.revision {
-                return change.record_number;
-            }
-        }
+/// The change as a load takes it, where the dump's revisions have these numbers; or why a load, or the filter that renumbers
+/// if `drop` is set, can't take it.
+fn known_change<'a>(
+    numbers: &[u64],
+    change: &NodeChange<'a>,
+    drop: bool,
+) -> Result<NodeChange<'a>, Unread>
+    ensures { MatchResult result (λ known. without_number (listed_of known) ≡ without_number (listed_of change.now))
+        (IsUnknownFor drop (listed_of change.now)) }
+{
+    if drop && copies_from_gap(numbers, change) {
+        return Err(Unread::Gap(change.record_number));
     }
-    0
+    match with_loaded_source(numbers, change) {
+        Some(known) => Ok(known),
+        None => Err(Unread::NoSource(change.record_number)),
+    }
 }
 
-/// The changes that were read, with the revisions of which a load takes the copies; or why a load, or the filter that
-/// renumbers if `drop` is set, can't take one.
-fn known_changes<'a>(
-    alloc: Global,
-    dump: &[u8],
-    reading: Reading<'a>,
-    drop: bool,
-) -> Result<Result<Vec<NodeChange<'a>>, Unread>, Memory>
-    ensures { IfOk result (AreKnownOf reading.entry) }
+/// The changes that were read, up to the first one that a load, or the filter that renumbers if `drop` is set, can't take.
+fn known_changes<'a>(alloc: Global, reading: Reading<'a>, drop: bool) -> Result<Known<'a>, Memory>
+    ensures { IfOk result (λ known. (dump : List ℕ) → IsReadingOfDump dump reading.entry → IsKnownOf drop dump known) }
 {
-    if reading.end == End::Numbered {
-        return Ok(Ok(reading.changes));
+    let stop = stop_at(reading.end);
+    if reading.numbered {
+        return Ok(Known {
+            changes: reading.changes,
+            stop,
+        });
     }
-    let numbers = revision_numbers(alloc, dump)?;
-    if drop {
-        if let Some(change) = first_in_gap(&numbers, &reading.changes) {
-            return Ok(Err(Unread::Gap(change.record_number)));
+    let mut changes = Vec::new(alloc);
+    let mut left = reading.changes.as_slice();
+    while let [change, others @ ..] = left {
+        match known_change(&reading.numbers, change, drop) {
+            Ok(known) => changes.push(known)?,
+            Err(unread) => {
+                let stop = Some(unread);
+                return Ok(Known { changes, stop });
+            }
         }
+        left = others;
     }
-    match with_loaded_sources(alloc, &numbers, &reading.changes)? {
-        Ok(changes) => Ok(Ok(changes)),
-        Err(number) => Ok(Err(Unread::NoSource(number))),
+    Ok(Known { changes, stop })
+}
+
+/// The same, up to the first change that copies its own revision or a later one.
+fn in_order(mut known: Known<'_>) -> Known<'_>
+    ensures ordered { are_in_order 0 result.changes.items ≡ true }
+    ensures known { (drops : Bool) (dump : List ℕ) → IsKnownOf drops dump known.entry → IsKnownOf drops dump result }
+{
+    if let Some(place) = first_out_of_order(&known.changes) {
+        known.stop = Some(Unread::LaterCopy(known.changes[place].record_number));
+        known.changes.truncate(place);
     }
+    known
 }
 
 /// An index of the changes of the dump, up to where its reading stops. If `drop` is set, revisions are renumbered.
-pub fn read_front<'a>(
-    alloc: Global,
-    dump: &'a [u8],
-    drop: bool,
-) -> Result<Result<Front<'a>, Unread>, Memory>
-    ensures { IfOk result (λ read. MatchResult read (λ front. IsFrontOf dump.now front × IsTrue (list_all has_named_paths front.index))
-        (IsUnreadFor dump.now)) }
+pub fn read_front<'a>(alloc: Global, dump: &'a [u8], drop: bool) -> Result<Front<'a>, Memory>
+    ensures { IfOk result (λ front. IsFrontOf drop dump.now front × IsTrue (list_all has_named_paths front.index)) }
 {
     let reading = read_changes(alloc, dump)?;
-    let stop = stop_at(reading.end);
-    let changes = match known_changes(alloc, dump, reading, drop)? {
-        Ok(changes) => changes,
-        Err(unread) => return Ok(Err(stop.unwrap_or(unread))),
-    };
-    if !are_in_order(&changes) {
-        return Ok(Err(stop.unwrap_or(Unread::LaterCopy(later_copy(&changes)))));
-    }
-    let index = ChangeIndex::new(alloc, changes)?;
-    Ok(Ok(Front { index, stop }))
+    let known = in_order(known_changes(alloc, reading, drop)?);
+    let index = ChangeIndex::new(alloc, known.changes)?;
+    Ok(Front {
+        index,
+        stop: known.stop,
+    })
 }
