@@ -1,5 +1,6 @@
 mod Prelude
 pub mod ActionLemmas
+pub mod MergeLineLemmas
 pub mod NameLemmas
 pub mod NodeLemmas
 pub mod PlainLemmas

@@ -3,7 +3,8 @@
 //! [`action_of`] reads what the node does at its path, [`path_of`], [`copy_path_of`] and
 //! [`copy_revision_of`] where it does so, and [`kind_of`] and [`is_whole_file`] what it is.
 //! [`has_plain_texts`] and [`has_odd_delta`] find the nodes whose change isn't modelled.
-//! [`is_canonical`], [`bare_path`] and [`bare_prefix`] are about paths and prefixes as texts.
+//! [`is_canonical`], [`bare_path`] and [`bare_prefix`] are about paths and prefixes as texts,
+//! [`merge_path_of`] and [`without_lf`] about the lines of mergeinfo.
 //!
 //! ```
 //! let action = action_of(item);
@@ -28,12 +29,14 @@
 
 mod action;
 mod canonical_path;
+mod merge_lines;
 mod node;
 mod plain_texts;
 mod slashes;
 
 pub use action::{Action, action_of, has_odd_delta, kind_of};
 pub use canonical_path::is_canonical;
+pub use merge_lines::{merge_path_of, without_lf};
 pub use node::{copy_path_of, copy_revision_of, is_copy, is_whole_file, makes_copy, path_of};
 pub use plain_texts::has_plain_texts;
 pub use slashes::{bare_path, bare_prefix};

@@ -1,35 +1,8 @@
 -- How many lines of mergeinfo are left out, of a value, of properties and of records: no more than these have bytes.
-use Rattle.dump_survey.proofs.Prelude.{◌≡◌, ◌≢◌, ◌↔◌, ℕ, ◌+◌, ◌-◌, ◌<◌, ◌≤◌, Bool, true, false, not, ◌==◌, List, [], ◌∷◌, ◌++◌, length, length-append, map, take, drop, filter, get_or, bytes_eq, codes, sum, sum_by, count_by, cond, Option, Some, None, IsSome, is_some, MatchBool, refl, sym, ap, ap₂, ◌∙◌, subst, arith, inl, inr, zero-add, AllZip, slice_split, eqb_tells, length-take, length-slice_split, suffix_len_is, sum_by-cons, sum_by_push, sum-map, count_by-le-length, Property, sized_text, IsEntry, AreEntries, IsPropertyBlock, Props, props_bytes, block_text, DumpRecord, record_text, Record, Ending, line_feeds, IsCutInto, BeginsWithRecords, CutterState, EndsAfter, record_item, CutStep, whole_list, Settings, keeps_path, MergeLine, IsMergeLine, IsMergeinfo, HasMergeLines, colon_end, value_reads, without_lf, line_path, line_misses, text_lines, reads_exactly, line_parts, texts_are, is_kept_node, is_mergeinfo, value_of, HasPropertyBlock, leaving_lines, AreLeftOutOfValue, AddUpTo, mergeinfo_values, AreLeftOutOfProperties, AreLeftOutOf, AreLeftOutOfRecords, text_lines_count, value_count, property_count, properties_count}
+use Rattle.dump_survey.proofs.Prelude.{◌≡◌, ◌↔◌, ℕ, ◌+◌, ◌-◌, ◌≤◌, Bool, true, false, not, ◌==◌, List, [], ◌∷◌, ◌++◌, length, length-append, map, take, drop, filter, bytes_eq, codes, sum, sum_by, count_by, cond, Option, Some, None, IsSome, is_some, MatchBool, refl, sym, ap, ap₂, ◌∙◌, subst, arith, inl, inr, zero-add, AllZip, slice_split, length-take, length-slice_split, sum_by-cons, sum_by_push, sum-map, count_by-le-length, Property, sized_text, IsEntry, AreEntries, IsPropertyBlock, Props, props_bytes, block_text, DumpRecord, record_text, Record, Ending, line_feeds, IsCutInto, BeginsWithRecords, CutterState, EndsAfter, record_item, CutStep, whole_list, Settings, keeps_path, MergeLine, IsMergeLine, IsMergeinfo, HasMergeLines, value_reads, without_lf, line_misses, text_lines, reads_exactly, line_parts, texts_are, is_kept_node, is_mergeinfo, value_of, HasPropertyBlock, leaving_lines, AreLeftOutOfValue, AddUpTo, mergeinfo_values, AreLeftOutOfProperties, AreLeftOutOf, AreLeftOutOfRecords, text_lines_count, value_count, property_count, properties_count}
 use Rattle.std.proofs.Common.{unwrap_or}
 use Rattle.dump_records.specs.declared.cutter.Cut.TheVariants as cuts
 use Rattle.dump_survey.proofs.SurveyorLemmas.{begins_next, begins_with_none, nearer_by_one}
-
--- the path of a line
-
-other_byte : (b c : ℕ) → b ≢ c → not (b == c) ≡ true
-other_byte b c other = elim (eqb_tells b c) [ inl (test, same) ↦ absurd (other same) | inr (test, apart) ↦ ap not test ]
-
-this_byte : (b c : ℕ) → b ≡ c → not (b == c) ≡ false
-this_byte b c same = elim (eqb_tells b c) [ inl (test, is) ↦ ap not test | inr (test, apart) ↦ absurd (apart same) ]
-
--- it stands before the last colon
-pub path_at_colon : (line : List ℕ) (colon : ℕ) → colon < length line → get_or line colon 0 ≡ 58
-    → ((k : ℕ) → colon < k → k < length line → get_or line k 0 ≢ 58) → take colon line ≡ line_path line
-path_at_colon line colon within here others =
-    let is = suffix_len_is (λ b. not (b == 58)) line (colon + 1) 0 (omega arith)
-    (λ k low high. other_byte (get_or line k 0) 58 (others k (omega arith) high))
-    (λ some. this_byte (get_or line (colon + 1 - 1) 0) 58
-    (ap (λ n. get_or line n 0) (let e : colon + 1 - 1 ≡ colon = omega arith in e) ∙ here)) in
-    let place : colon ≡ colon_end line - 1 = omega arith in
-    ap (λ n. take n line) place
-
--- and where there is none, it is empty
-pub path_of_none : (line : List ℕ) → ((k : ℕ) → k < length line → get_or line k 0 ≢ 58) → [] ≡ line_path line
-path_of_none line none =
-    let is = suffix_len_is (λ b. not (b == 58)) line 0 0 (omega arith)
-    (λ k low high. other_byte (get_or line k 0) 58 (none k high)) (λ some. absurd (omega arith)) in
-    let place : 0 ≡ colon_end line - 1 = omega arith in
-    ap (λ n. take n line) place
 
 -- counts that add up
 

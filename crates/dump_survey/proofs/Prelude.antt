@@ -5,7 +5,7 @@ pub use Rattle.std.proofs.KnownBytes.{Appends-nil, Appends-trans}
 pub use Rattle.std.proofs.Math.Bool.{and-false, and-true, and_assoc, or-false, or-true, or_assoc}
 pub use Rattle.std.proofs.Math.Seq.{take-length}
 pub use Rattle.std.proofs.lemmas.Bool.{and_from, and_parts, both_ways, eqb-true, false_from_ne_true, ne_eqb, not-true, or_cases, or_from, or_left, or_parts, or_right}
-pub use Rattle.std.proofs.lemmas.Bool.Decides.{eqb_tells, nat_tests}
+pub use Rattle.std.proofs.lemmas.Bool.Decides.{nat_tests}
 pub use Rattle.std.proofs.lemmas.Fn.{filter_same}
 pub use Rattle.std.proofs.lemmas.Grind.{flat_map-append}
 pub use Rattle.std.proofs.lemmas.Iterator.Consumers.{YieldsList-at, YieldsList-from_filter, count_from_yields_List}
@@ -15,7 +15,7 @@ pub use Rattle.std.proofs.lemmas.List.Elements.{Contains-append_left, Contains-a
 pub use Rattle.std.proofs.lemmas.List.Folds.{list_any-append, list_any_at}
 pub use Rattle.std.proofs.lemmas.List.Sorted.{IsPartitionPoint-from_clause, IsPartitionedBy-ltb, list_any-IsPermutation, sum_by-IsPermutation}
 pub use Rattle.std.proofs.lemmas.List.Splits.{length-slice_split}
-pub use Rattle.std.proofs.lemmas.List.Sums.{count_by-le-length, length-filter, suffix_len_is, sum-map, sum_by-cons, sum_by_push, take_while-cons}
+pub use Rattle.std.proofs.lemmas.List.Sums.{count_by-le-length, length-filter, sum-map, sum_by-cons, sum_by_push, take_while-cons}
 pub use Rattle.std.proofs.lemmas.Map.Text.{is_eq-slice_cmp}
 pub use Rattle.std.proofs.lemmas.Option.{get_or_from_slice_get, none-some, slice_get-get_or, slice_get_within}
 pub use Rattle.std.proofs.lemmas.Slice.Eq.{bytes_eq-Decides}
@@ -76,8 +76,8 @@ pub use Rattle.dump_rules.specs.Renumbering.{KeptRevisions}
 pub use Rattle.dump_rules.specs.Settings.{Settings, keeps_path, side_keeps}
 pub use Rattle.dump_rules.specs.steps.Merged.{is_outside}
 pub use Rattle.dump_rules.specs.steps.PrefixSearch.{AreWithin}
-pub use Rattle.dump_rules.specs.steps.ReadMergeinfo.{colon_end, value_reads, without_lf}
-pub use Rattle.dump_rules.specs.steps.RewrittenLines.{line_misses, line_path, text_lines, value_foreign, value_misses}
+pub use Rattle.dump_rules.specs.steps.ReadMergeinfo.{value_reads, without_lf}
+pub use Rattle.dump_rules.specs.steps.RewrittenLines.{line_misses, text_lines, value_foreign, value_misses}
 pub use Rattle.dump_survey.specs.AsWellLines.{AreAsWellLines, as_well_lines}
 pub use Rattle.dump_survey.specs.CuttingPrefix.{cutting_prefix, first_cut}
 pub use Rattle.dump_survey.specs.DumpFindings.{has_dump_finding, listed_findings}

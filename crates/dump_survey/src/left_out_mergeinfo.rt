@@ -3,25 +3,14 @@ ghost use Rattle.std.specs.Prelude.{◌≡◌, List};
 ghost use Rattle.dump_text.specs.PropertyList.{IsPropertyBlock, Property};
 ghost use Rattle.dump_text.specs.steps.PropertyViews.{entry_property, props_bytes};
 ghost use Rattle.dump_records.specs.steps.RecordViews.{record_item};
-ghost use Rattle.dump_rules.specs.steps.ReadMergeinfo.{without_lf};
-ghost use Rattle.dump_rules.specs.steps.RewrittenLines.{line_path};
 ghost use Rattle.dump_survey.specs.LeftOutMergeinfo.{AreLeftOutIn, AreLeftOutOf, AreLeftOutOfRecords};
 ghost use Rattle.dump_survey.specs.steps.LeftOutCounts.{properties_count, property_count, text_lines_count, value_count};
 
 use dump_digest::{is_kept, is_mergeinfo, properties_of};
+use dump_nodes::{merge_path_of, without_lf};
 use dump_records::{Cut, Cutter, Record};
 use dump_rules::{Options, keeps, merge_reads};
 use dump_text::{Entry, Props};
-
-/// The path of a line of mergeinfo, which reaches to its last colon.
-fn path_of(line: &[u8]) -> &[u8]
-    ensures { result.now ≡ line_path line.now }
-{
-    match line.iter().rposition(|b| *b == b':') {
-        Some(colon) => &line[..colon],
-        None => &[],
-    }
-}
 
 /// How many lines of a text have a path that isn't kept.
 fn text_left_out(text: &[u8], options: &Options) -> usize
@@ -31,15 +20,8 @@ fn text_left_out(text: &[u8], options: &Options) -> usize
         return 0;
     }
     text.split(|b| *b == b'\n')
-        .filter(|line| !keeps(options, path_of(line)))
+        .filter(|line| !keeps(options, merge_path_of(line)))
         .count()
-}
-
-/// The value without an LF at its end.
-fn without_lf(value: &[u8]) -> &[u8]
-    ensures { result.now ≡ without_lf value.now }
-{
-    value.strip_suffix(b"\n").unwrap_or(value)
 }
 
 /// How many lines of a value are omitted, none if it can't be read.
