@@ -1,8 +1,8 @@
 -- Copies that are followed one by one.
-use Rattle.std.proofs.Common.{◌≡◌, ℕ, zero, suc, ◌+◌, ◌<◌, ◌≤◌, Bool, true, false, not, ◌&&◌, ◌||◌, List, [], ◌∷◌, ◌++◌, length, map, filter, Option, Some, None, is_some, Contains, inl, inr, refl, sym, ap, ap₂, ◌∙◌, subst, arith}
+use Rattle.std.proofs.Common.{◌≡◌, ℕ, zero, suc, ◌+◌, ◌-◌, ◌<◌, ◌≤◌, Bool, true, false, not, ◌&&◌, ◌||◌, List, [], ◌∷◌, ◌++◌, length, map, filter, Option, Some, None, is_some, Contains, inl, inr, refl, sym, ap, ap₂, ◌∙◌, subst, arith}
 use Rattle.std.specs.Prelude.{slice_get, if◌then◌else◌}
 use Rattle.std.specs.List.{All, AllZip, list_all}
-use Rattle.std.proofs.lemmas.Bool.{and_parts, and_from, not-true}
+use Rattle.std.proofs.lemmas.Bool.{and_parts, and_from, cases_lt, not-true}
 use Rattle.std.proofs.lemmas.List.{length-append}
 use Rattle.std.proofs.lemmas.List.Folds.{list_all-append}
 use Rattle.std.proofs.lemmas.Option.{slice_get_within}
@@ -22,7 +22,7 @@ use Rattle.dump_trees.proofs.expansions.FoundSiblings.{contains_map}
 use Rattle.dump_trees.proofs.cuts.CoveredPaths.{contains_cases, contains_first, contains_later, contains_none, filter_passed}
 use Rattle.dump_trees.proofs.cuts.FollowLemmas.{listed_are_followed}
 use Rattle.dump_trees.proofs.cuts.PlacedCopies.{copies_are_placed}
-use Rattle.dump_trees.proofs.cuts.RestLemmas.{all_rests_are_listed}
+use Rattle.dump_trees.proofs.cuts.RestLemmas.{all_rests_are_listed, none_at_any_place}
 use Rattle.dump_index.specs.IndexLaws.{IsListed}
 use Rattle.dump_index.specs.Listed.{Listed}
 use Rattle.dump_index.specs.ToldKinds.{kinds_told_by}
@@ -30,10 +30,8 @@ use Rattle.dump_index.proofs.LawLemmas.{Both, both_at}
 use Rattle.dump_cut.specs.steps.ExcludedPaths.{IsGrownIf}
 use Rattle.dump_cut.specs.declared.followed.Addition.{Addition}
 use Rattle.dump_cut.specs.FollowedCopies.{ComeByFollowing, IsIndexOf}
-use Rattle.dump_cut.specs.steps.FollowedPaths.{AddsOne, AddsPath, AreFollowedTo, ArePlaced, IsFollowedTo, IsIdle, KeepsFollowing, LeadsTo, paths_made}
-use Rattle.dump_cut.specs.steps.Returned.{placed_rests}
+use Rattle.dump_cut.specs.steps.FollowedPaths.{AddsOne, AddsPath, AreFollowedTo, ArePlaced, IsFollowedTo, IsIdle, KeepsFollowing, LeadsTo, paths_made, place_at_turn}
 use Rattle.dump_cut.proofs.GrowingLemmas.{added_covers}
-use Rattle.dump_cut.proofs.ReturnedLemmas.{rests_more}
 
 -- the rest of the copy at a place is among all rests
 
@@ -358,11 +356,38 @@ nothing_made way tops told placed path (Some (Made.Copied number source)) covere
         let inside = (and_parts (is_covered tops (to_of way path source ++ rest)) _ all).0 in
         absurd (let bad : true ≡ false = sym inside ∙ outside in cc)
 
--- one change more that isn't followed
-pub still_none : (way : Way) (tops : List NodePath) (told : ToldKinds) (placed : List Placed) (place : ℕ) (p : Placed)
+-- a change that isn't followed
+pub none_there : (way : Way) (tops : List NodePath) (told : ToldKinds) (placed : List Placed) (place : ℕ) (p : Placed)
     (path : NodePath) (made : Option Made) → slice_get placed place ≡ Some p → p.change.path ≡ path → p.change.made ≡ made
-    → all_rests way tops told placed place ≡ [] → rests_made way tops told placed path made ≡ []
-    → all_rests way tops told placed (place + 1) ≡ []
-still_none way tops told placed place p path made there at makes before none =
-    rests_more way tops told placed place p path made there at makes
-    ∙ ap₂ (λ rests found. rests ++ placed_rests place found) before none
+    → rests_made way tops told placed path made ≡ [] → rests_at way tops told placed (slice_get placed place) ≡ []
+none_there way tops told placed place p path made there at makes none =
+    ap (rests_at way tops told placed) there ∙ ap₂ (λ here m. rests_made way tops told placed here m) at makes ∙ none
+
+-- one turn more
+pub turn_more : (way : Way) (tops : List NodePath) (told : ToldKinds) (placed : List Placed) (count turn : ℕ)
+    → ((k : ℕ) → k < turn → rests_at way tops told placed (slice_get placed (place_at_turn way k count)) ≡ [])
+    → rests_at way tops told placed (slice_get placed (place_at_turn way turn count)) ≡ []
+    → (k : ℕ) → k < turn + 1 → rests_at way tops told placed (slice_get placed (place_at_turn way k count)) ≡ []
+turn_more way tops told placed count turn before own k low =
+    elim (cases_lt k turn) [
+      | inl less ↦ before k less
+      | inr upto ↦
+          let same : turn ≡ k = omega (arith, low, upto) in
+          subst (λ t. rests_at way tops told placed (slice_get placed (place_at_turn way t count)) ≡ []) same own
+    ]
+
+-- after all turns there is none
+pub all_turns : (way : Way) (tops : List NodePath) (told : ToldKinds) (placed : List Placed) (count : ℕ) → length placed ≡ count
+    → ((k : ℕ) → k < count → rests_at way tops told placed (slice_get placed (place_at_turn way k count)) ≡ [])
+    → all_rests way tops told placed (length placed) ≡ []
+all_turns way tops told placed count size all =
+    (none_at_any_place way tops told placed (length placed)).0 (λ place low. at way place (omega (arith, low, size)) all)
+  where
+    at : (w : Way) (place : ℕ) → place < count
+        → ((k : ℕ) → k < count → rests_at way tops told placed (slice_get placed (place_at_turn w k count)) ≡ [])
+        → rests_at way tops told placed (slice_get placed place) ≡ []
+    at Way.ToCopies place low all = all place low
+    at Way.ToSources place low all =
+        let same : count - 1 - (count - 1 - place) ≡ place = omega (arith, low) in
+        subst (λ n. rests_at way tops told placed (slice_get placed n) ≡ []) same
+        (all (count - 1 - place) (omega (arith, low)))

@@ -155,7 +155,7 @@ below_root [] = refl
 below_root (b ∷ text) = ap not (sym (false_from_ne_true (length (b ∷ text) == 0) (λ is.
     let none : length (b ∷ text) ≡ 0 = eqb-true (length (b ∷ text)) 0 is in absurd (omega arith))))
 
-below_goes_on : (top text : List ℕ) → (length top == 0) ≡ false → is_text_below top text ≡ goes_on top text
+pub below_goes_on : (top text : List ℕ) → (length top == 0) ≡ false → is_text_below top text ≡ goes_on top text
 below_goes_on [] text some = absurd (let bad : true ≡ false = some in cc)
 below_goes_on (b ∷ top) text some = sym (between_below b top text) ∙ between_goes_on (b ∷ top) text
 

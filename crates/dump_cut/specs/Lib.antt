@@ -1,5 +1,7 @@
 pub mod FollowedCopies
+pub mod FoundSiblings
 pub mod LoadChecks
+pub mod NamedLines
 pub mod NamedPaths
 pub mod Refusals
 pub mod RevisionFates

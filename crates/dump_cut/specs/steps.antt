@@ -4,6 +4,7 @@ pub mod ExcludedTexts
 pub mod FollowedPaths
 pub mod KindViews
 pub mod KindsBefore
+pub mod MoreSiblings
 pub mod NameTexts
 pub mod OpenRevisions
 pub mod ParentTexts

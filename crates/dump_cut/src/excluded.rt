@@ -1,11 +1,14 @@
 //! The paths that a cut excludes.
-ghost use Rattle.std.specs.Prelude.{◌≡◌, ◌++◌, ◌∷◌, [], IfOk, IsTrue, OnErr, OnOk, bytes_eq, false, map, not, true};
+ghost use Rattle.std.specs.Prelude.{◌≡◌, ◌++◌, ◌∷◌, [], ℕ, List, IfOk, IsTrue, OnErr, OnOk, bytes_eq, false, map, not, true};
 ghost use Rattle.std.specs.List.{list_all, list_any};
 ghost use Rattle.dump_trees.specs.CanonicalPaths.{canonical_paths};
 ghost use Rattle.dump_trees.specs.Paths.{NodePath, names_of, path_text};
 ghost use Rattle.dump_trees.specs.Returns.{is_covered, lie_apart, rests_covered};
-ghost use Rattle.dump_trees.specs.Siblings.{ExcludesPaths, has_node_names};
+ghost use Rattle.dump_trees.specs.Siblings.{ExcludesPaths, has_node_names, is_above_included};
+ghost use Rattle.dump_index.specs.Children.{is_child_named};
+ghost use Rattle.dump_index.specs.Effects.{goes_on};
 ghost use Rattle.dump_index.specs.InOrder.{ends_in_slash};
+ghost use Rattle.dump_index.specs.steps.Names.{AddsNames, texts_of};
 ghost use Rattle.dump_cut.specs.TakenCopies.{emptied_by};
 ghost use Rattle.dump_cut.specs.steps.ExcludedPaths.{IsGrownIf, paths_of};
 ghost use Rattle.dump_cut.specs.steps.ExcludedTexts.{is_text_below, texts_below};
@@ -73,6 +76,18 @@ fn is_below(top: &[u8], path: &[u8]) -> bool
     path[end] == b'/' && &path[..end] == top
 }
 
+/// Adds each part of the path before a slash.
+fn push_fronts<'p>(fronts: &mut Vec<&'p [u8]>, path: &'p [u8]) -> Result<(), Memory>
+    ensures { OnOk result (AddsNames fronts.old.items fronts.new.items (λ front. goes_on front path.now)) }
+{
+    for (place, byte) in path.iter().enumerate() {
+        if *byte == b'/' {
+            fronts.push(&path[..place])?;
+        }
+    }
+    Ok(())
+}
+
 impl Excluded {
     /// No path.
     pub fn new(alloc: Global) -> Excluded
@@ -106,7 +121,7 @@ impl Excluded {
     }
 
     /// The paths below the top, in the order of their bytes. The top isn't covered.
-    fn below(&self, alloc: Global, top: &[u8]) -> Result<Vec<&[u8]>, Memory>
+    pub(crate) fn below(&self, alloc: Global, top: &[u8]) -> Result<Vec<&[u8]>, Memory>
         requires { is_covered (paths_of self.now) (names_of top.now) ≡ false }
         ensures rests { IfOk result (λ rests. map (λ rest. rest.now) rests.items ≡ texts_below top.now self.now) }
         ensures named { OnOk result (IsTrue (list_all has_node_names (paths_of self.now))) }
@@ -139,6 +154,33 @@ impl Excluded {
         let mut whole = Vec::new(alloc);
         whole.push(b"".as_slice())?;
         Ok(whole)
+    }
+
+    /// The paths, in the order of their bytes.
+    pub fn paths(&self, alloc: Global) -> Result<Vec<&[u8]>, Memory>
+        ensures { IfOk result (λ paths. map (λ path. path.now) paths.items ≡ self.now) }
+    {
+        let mut paths = Vec::new(alloc);
+        for path in &self.paths {
+            paths.push(path.as_slice())?;
+        }
+        Ok(paths)
+    }
+
+    /// The directories above these paths, each once: the root, and each part of a path before a slash.
+    pub fn directories_above(&self, alloc: Global) -> Result<Vec<&[u8]>, Memory>
+        ensures named { OnOk result (IsTrue (list_all has_node_names (paths_of self.now))) }
+        ensures above { IfOk result (λ directories. (directory : List ℕ) → is_child_named (texts_of directories.items) directory
+            ≡ is_above_included (paths_of self.now) (names_of directory)) }
+    {
+        let mut directories: Vec<&[u8]> = Vec::new(alloc);
+        directories.push(b"".as_slice())?;
+        for path in &self.paths {
+            push_fronts(&mut directories, path)?;
+        }
+        directories.sort_unstable();
+        directories.dedup();
+        Ok(directories)
     }
 
     /// Adds a path, in place of those below it. A path that they cover adds nothing. Whether it is added.

@@ -1,5 +1,5 @@
 //! What is excluded too, since copies are followed from what is excluded.
-ghost use Rattle.std.specs.Prelude.{◌≡◌, ◌≤◌, [], ℕ, List, IfOk, IsTrue, OnOk, Some, length, map, option_map, slice_get};
+ghost use Rattle.std.specs.Prelude.{◌≡◌, ◌<◌, ◌≤◌, [], ℕ, List, IfOk, IsTrue, OnOk, Some, length, map, option_map, slice_get};
 ghost use Rattle.std.specs.List.{AllZip, list_all};
 ghost use Rattle.dump_trees.specs.FollowedRests.{all_rests};
 ghost use Rattle.dump_trees.specs.Following as Following;
@@ -13,7 +13,7 @@ ghost use Rattle.dump_cut.specs.steps.ExcludedPaths.{paths_of};
 ghost use Rattle.dump_cut.specs.FollowedCopies.{ComeByFollowing};
 ghost use Rattle.dump_cut.specs.steps.FollowedPaths.{added_paths};
 ghost use Rattle.dump_cut.specs.steps.Returned.{way_meant};
-ghost use Rattle.dump_cut.specs.steps.FollowedPaths.{AddsOne, AddsPath, AreFollowedTo, ArePlaced, IsIdle, KeepsFollowing, paths_made};
+ghost use Rattle.dump_cut.specs.steps.FollowedPaths.{AddsOne, AddsPath, AreFollowedTo, ArePlaced, IsIdle, IsIdleAt, KeepsFollowing, paths_made};
 ghost use Rattle.dump_cut.specs.NamedPaths.{has_named_paths};
 
 use crate::copies::source_of;
@@ -104,7 +104,33 @@ fn add_paths(
     Ok(())
 }
 
-/// Follows each copy of the dump once, in its order.
+/// Follows the copy that the change at this place makes, if it makes one.
+fn follow_at(
+    alloc: Global,
+    index: &ChangeIndex<'_>,
+    excluded: &mut Excluded,
+    way: Way,
+    place: usize,
+    additions: &mut Vec<Addition>,
+) -> Result<(), Memory>
+    requires named { IsTrue (list_all has_named_paths index.now) }
+    requires inside { place < length index.now }
+    ensures placed { OnOk result (ArePlaced (way_meant way) index.now additions.old.items
+        → ArePlaced (way_meant way) index.now additions.new.items) }
+    ensures keeps { OnOk result (KeepsFollowing (way_meant way) index.now (paths_of excluded.old) (added_paths additions.old.items)
+        (paths_of excluded.new) (added_paths additions.new.items)) }
+    ensures grows { OnOk result (length additions.old.items ≤ length additions.new.items) }
+    ensures idle { OnOk result (length additions.new.items ≡ length additions.old.items
+        → IsIdleAt (way_meant way) index.now (paths_of excluded.old) place (paths_of excluded.new)) }
+{
+    let change = &index.changes()[place];
+    let paths = followed_paths(alloc, index, excluded, way, change)?;
+    add_paths(alloc, excluded, place, &paths, additions)?;
+    Ok(())
+}
+
+/// Follows each copy of the dump once: in its order, or to sources from its end back, so that a chain of copies takes one
+/// pass.
 fn follow_each(
     alloc: Global,
     index: &ChangeIndex<'_>,
@@ -121,10 +147,10 @@ fn follow_each(
         → (placed : List Placed) → AllZip IsListed index.now placed
         → all_rests (way_meant way) (paths_of excluded.new) (kinds_told_by index.now) placed (length placed) ≡ []) }
 {
-    let changes = index.changes();
-    for (place, change) in changes.iter().enumerate() {
-        let paths = followed_paths(alloc, index, excluded, way, change)?;
-        add_paths(alloc, excluded, place, &paths, additions)?;
+    let count = index.len();
+    for turn in 0..count {
+        let place = way.place_at_turn(turn, count);
+        follow_at(alloc, index, excluded, way, place, additions)?;
     }
     Ok(())
 }

@@ -1,5 +1,6 @@
 //! Laws of what a cut finds, each the contract of a function that does nothing.
 ghost use Rattle.dump_cut.specs.FollowedCopies.{FollowedIsLeast};
+ghost use Rattle.dump_cut.specs.FoundSiblings.{FoundSiblingsAreAll};
 ghost use Rattle.dump_cut.specs.LoadChecks.{RefusedIsFirst, UnrefusedLoads};
 ghost use Rattle.dump_cut.specs.Refusals.{RefusedIsNotAllowed};
 ghost use Rattle.dump_cut.specs.TakenCopies.{SeparatedDumpIsItsExpansion, TakenDumpLoads, TakenRevisionsSeparate};
@@ -31,4 +32,10 @@ pub fn lost_parts_are_deleted()
 /// it, and what copies are followed to.
 pub fn followed_paths_are_least()
     ensures { FollowedIsLeast }
+{}
+
+/// The siblings that are found are all at which something ever exists. So what is left without them is what is at or below
+/// an included path, and the directories above.
+pub fn siblings_are_found()
+    ensures { FoundSiblingsAreAll }
 {}

@@ -38,7 +38,15 @@
 //! let additions = follow(alloc, &index, &mut excluded, way)?;
 //! ```
 //!
-//! `tests::follows` runs this. [`revision_fates`] are the revisions of a dump, and whether the filter keeps each of them:
+//! `tests::follows` runs this. [`find_siblings`] are what is excluded so that included paths are left, and the directories
+//! above them:
+//!
+//! ```
+//! let included = Excluded::of(alloc, &[prefix])?;
+//! let siblings = find_siblings(alloc, &index, &included)?;
+//! ```
+//!
+//! `tests::leaves` runs this. [`revision_fates`] are the revisions of a dump, and whether the filter keeps each of them:
 //!
 //! ```
 //! let options = excluded.filter_options(alloc, true)?;
@@ -58,10 +66,12 @@ mod joined_rests;
 mod kinds;
 pub mod laws;
 mod load_check;
+mod named_siblings;
 mod parent_path;
 mod refusal;
 mod returns;
 mod seen_parent;
+mod siblings;
 mod taken;
 mod trimming;
 
@@ -73,8 +83,10 @@ pub use fates::{RevisionFate, revision_fates};
 pub use followed::{Addition, follow};
 pub use kinds::Kinds;
 pub use load_check::{Refused, first_refused};
+pub use named_siblings::add_named_siblings;
 pub use refusal::{Refusal, refusal_of};
 pub use returns::{PlacedRest, Way, all_followed, followed_rests};
+pub use siblings::find_siblings;
 pub use taken::first_not_taken;
 
 #[cfg(test)]

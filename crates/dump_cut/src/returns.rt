@@ -1,5 +1,5 @@
 //! What copies bring back of excluded paths, and where they would be followed to.
-ghost use Rattle.std.specs.Prelude.{◌≡◌, ◌++◌, ◌&&◌, not, false, is_some, length, map, List, IfOk, IsTrue, OnOk, option_map};
+ghost use Rattle.std.specs.Prelude.{◌≡◌, ◌<◌, ◌++◌, ◌&&◌, not, false, is_some, length, map, List, IfOk, IsTrue, OnOk, option_map};
 ghost use Rattle.std.specs.List.{AllZip, list_all};
 ghost use Rattle.dump_trees.specs.Following.{followed_told, from_of, to_of};
 ghost use Rattle.dump_trees.specs.FollowedRests.{all_rests, rests_made};
@@ -11,6 +11,7 @@ ghost use Rattle.dump_index.specs.InOrder.{ends_in_slash};
 ghost use Rattle.dump_index.specs.IndexLaws.{IsListed};
 ghost use Rattle.dump_index.specs.Listed.{listed_made, listed_of};
 ghost use Rattle.dump_index.specs.ToldKinds.{kinds_told_by};
+ghost use Rattle.dump_cut.specs.steps.FollowedPaths.{place_at_turn};
 ghost use Rattle.dump_cut.specs.steps.Returned.{placed_rests, rest_meant, way_meant};
 ghost use Rattle.dump_cut.specs.steps.ExcludedPaths.{paths_of};
 ghost use Rattle.dump_cut.specs.NamedPaths.{has_named_paths};
@@ -47,6 +48,18 @@ impl Way {
         match self {
             Way::ToCopies => source,
             Way::ToSources => path,
+        }
+    }
+
+    /// The place of the change whose copy is followed at this turn of a pass over so many changes.
+    pub(crate) fn place_at_turn(self, turn: usize, count: usize) -> usize
+        requires { turn < count }
+        ensures place { result ≡ place_at_turn (way_meant self) turn count }
+        ensures inside { result < count }
+    {
+        match self {
+            Way::ToCopies => turn,
+            Way::ToSources => count - 1 - turn,
         }
     }
 

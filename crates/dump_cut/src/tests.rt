@@ -6,7 +6,7 @@ ghost use Rattle.dump_cut.specs.NamedPaths.{has_named_paths};
 
 use crate::{
     Addition, Deletes, Excluded, Memory, PlacedRest, Refusal, Refused, Way, all_followed,
-    canonical_prefix, first_not_taken, first_refused, follow, revision_fates,
+    canonical_prefix, find_siblings, first_not_taken, first_refused, follow, revision_fates,
 };
 use dump_changes::{End, read_changes};
 use dump_index::{ChangeIndex, first_out_of_order};
@@ -213,6 +213,32 @@ fn copies_are_followed(rt: HostRuntime) -> Result<(), Fail> {
 #[test]
 fn paths_or_no_memory(rt: HostRuntime) {
     let answer = follows(rt.alloc(), b"d", Way::ToCopies, b"e");
+    assert!(rt; matches!(answer, Ok(true) | Err(Memory)));
+}
+
+/// Whether one of these two is excluded where this prefix is included, and the other one is left, if `e` is a copy of `d`.
+fn leaves(alloc: Global, prefix: &[u8], excluded: &[u8], left: &[u8]) -> Result<bool, Memory> {
+    let dump = dump_with(alloc, COPY)?;
+    let Some(index) = index_of(alloc, &dump)? else {
+        return Ok(false);
+    };
+    let included = Excluded::of(alloc, &[prefix])?;
+    let siblings = find_siblings(alloc, &index, &included)?;
+    Ok(siblings.covers(excluded) && !siblings.covers(left))
+}
+
+#[test]
+fn siblings_are_excluded(rt: HostRuntime) -> Result<(), Fail> {
+    let alloc = rt.alloc();
+    assert!(rt; leaves(alloc, b"d/f", b"e", b"d/f")?);
+    assert!(rt; leaves(alloc, b"e/g", b"e/f", b"e")?);
+    assert!(rt; leaves(alloc, b"e/g", b"d", b"")?);
+    Ok(())
+}
+
+#[test]
+fn siblings_or_no_memory(rt: HostRuntime) {
+    let answer = leaves(rt.alloc(), b"e/g", b"e/f", b"e");
     assert!(rt; matches!(answer, Ok(true) | Err(Memory)));
 }
 

@@ -1,14 +1,17 @@
 -- The paths to which one copy is followed, and what more additions keep.
-use Rattle.std.specs.List.{All, list_all}
-use Rattle.std.specs.Prelude.{◌⊎◌, ℕ, Option, Some, None, ◌≡◌, ◌++◌, ◌∷◌, [], Bool, not, List, map, Contains, IsTrue, if◌then◌else◌}
+use Rattle.std.specs.List.{All, AllZip, list_all}
+use Rattle.std.specs.Prelude.{◌⊎◌, ℕ, Option, Some, None, ◌≡◌, ◌-◌, ◌++◌, ◌∷◌, [], Bool, not, List, map, Contains, IsTrue, slice_get, if◌then◌else◌}
 use Rattle.dump_trees.specs.Changes.{Made, Change}
 use Rattle.dump_trees.specs.Following.{Way, PlacedCopy, followed, followed_told, to_of}
+use Rattle.dump_trees.specs.FollowedRests.{rests_at}
 use Rattle.dump_trees.specs.LoadCheck.{ToldKinds}
 use Rattle.dump_trees.specs.Looking.{Placed, placed_from}
 use Rattle.dump_trees.specs.Paths.{NodePath, names_of}
 use Rattle.dump_trees.specs.Returns.{is_covered}
 use Rattle.dump_trees.specs.Trees.{Tree}
+use Rattle.dump_index.specs.IndexLaws.{IsListed}
 use Rattle.dump_index.specs.Listed.{Listed}
+use Rattle.dump_index.specs.ToldKinds.{kinds_told_by}
 use Rattle.dump_cut.specs.steps.ExcludedPaths.{IsGrownIf}
 use Rattle.dump_cut.specs.declared.followed.Addition.{Addition}
 use Rattle.dump_cut.specs.FollowedCopies.{ComeByFollowing, IsIndexOf}
@@ -75,3 +78,14 @@ paths_made way tops told placed path (Some (Made.Copied number source)) =
 -- nothing is excluded more, since these paths cover all of those
 abbrev pub IsIdle : List NodePath → List NodePath → List NodePath → Type 0
 IsIdle old paths new = (new ≡ old) × IsTrue (list_all (is_covered old) paths)
+
+-- nothing is excluded more, since the copy of the change at this place, if it makes one, isn't followed to any other path
+abbrev pub IsIdleAt : Way → List Listed → List NodePath → ℕ → List NodePath → Type 0
+IsIdleAt way listed old place new = (new ≡ old) × ((placed : List Placed) → AllZip IsListed listed placed
+    → rests_at way new (kinds_told_by listed) placed (slice_get placed place) ≡ [])
+
+-- the place whose turn it is in a pass over so many changes: the last one comes first, if copies are followed to their
+-- sources
+abbrev pub place_at_turn : Way → ℕ → ℕ → ℕ
+place_at_turn Way.ToCopies turn count = turn
+place_at_turn Way.ToSources turn count = count - 1 - turn
