@@ -1,6 +1,6 @@
 -- What the filter writes of a dump that is ready is its cut.
-use Rattle.std.proofs.Common.{ap, ◌≡◌, ◌||◌, ℕ, Bool, true, false, IfSome, MatchBool, List, [], length, map, Option, Some, None, Result, Ok, is_none, is_some, refl, sym, inl, inr, ◌∙◌, subst}
-use Rattle.std.proofs.lemmas.Bool.{or_right}
+use Rattle.std.proofs.Common.{ap, ◌≡◌, ◌||◌, ℕ, Bool, true, false, IfSome, MatchBool, List, [], ◌∷◌, Contains, length, map, Option, Some, None, Result, Ok, is_none, is_some, refl, sym, inl, inr, ◌∙◌, subst}
+use Rattle.std.proofs.lemmas.Bool.{or_cases, or_right}
 use Rattle.std.proofs.KnownBytes.{Keeps-refl}
 use Rattle.std.specs.Io.KnownBytes.{Keeps}
 use Rattle.std.specs.List.{AllZip, list_all}
@@ -9,6 +9,8 @@ use Rattle.dump_records.specs.RecordText.{DumpRecord}
 use Rattle.dump_records.proofs.ListLaw.{each_dump_has_one_list}
 use Rattle.dump_rules.specs.Settings.{Settings}
 use Rattle.dump_rules.specs.declared.options.Empty.TheVariants.{Pad}
+use Rattle.dump_rules.specs.declared.options.Side.{Side}
+use Rattle.dump_rules.specs.declared.options.Side.TheVariants.{Exclude, Include}
 use Rattle.dump_filter.specs.FilterLaws.{LengthsFit}
 use Rattle.dump_filter.specs.WholeText.{IsCleanText}
 use Rattle.dump_trees.specs.Changes.{Change}
@@ -18,7 +20,12 @@ use Rattle.dump_trees.specs.LoadCheck.{all_apply, TellsKinds, ToldKinds}
 use Rattle.dump_trees.specs.Looking.{Placed, placed_from}
 use Rattle.dump_trees.specs.Paths.{NodePath}
 use Rattle.dump_trees.specs.Revisions.{loaded_over}
-use Rattle.dump_trees.specs.Siblings.{have_node_names}
+use Rattle.dump_trees.specs.CanonicalPaths.{canonical_path}
+use Rattle.dump_trees.specs.Returns.{is_covered}
+use Rattle.dump_trees.specs.Siblings.{ExcludesPaths, have_node_names, is_in_cut, is_sibling}
+use Rattle.dump_trees.proofs.cuts.CoveredPaths.{contains_cases, contains_first, contains_none}
+use Rattle.dump_trees.proofs.cuts.ParentLemmas.{ever_kept_in_cut}
+use Rattle.dump_trees.proofs.paths.CutLineLemmas.{named_line_stays}
 use Rattle.dump_trees.specs.Trees.{Tree, root_alone}
 use Rattle.dump_trees.proofs.cuts.FollowLemmas.{following_is_least}
 use Rattle.dump_trees.proofs.cuts.RestLemmas.{all_rests_are_listed, no_returns_bring_nothing}
@@ -38,6 +45,9 @@ use Rattle.dump_index.specs.ToldKinds.{kinds_told_by}
 use Rattle.dump_index.specs.declared.change.NodeChange.{NodeChange}
 use Rattle.dump_index.proofs.ToldLemmas.{index_tells_kinds}
 use Rattle.dump_changes.specs.ListedDumps.{MakesListed, are_numbered}
+use Rattle.dump_cut.specs.FoundSiblings.{AreFoundSiblings}
+use Rattle.dump_cut.specs.NamedLines.{CoverMergeinfo, is_left_by}
+use Rattle.dump_cut.proofs.FoundSiblings.{found_siblings_are_all}
 use Rattle.dump_cut.specs.LoadChecks.{IsFirstRefused}
 use Rattle.dump_cut.specs.NamedPaths.{has_named_paths}
 use Rattle.dump_cut.specs.TakenCopies.{IsFirstNotTaken, emptied_by}
@@ -48,7 +58,7 @@ use Rattle.dump_cut.proofs.OwnFormLemmas.{own_expansion}
 use Rattle.dump_cut.proofs.TakenLaw.{placed_named, revisions_named, taken_dump_loads}
 use Rattle.dump_cut.proofs.TakenLemmas.{taken_revisions_separate}
 use Rattle.dump_cut.proofs.TrimLaw.{trimmed_copies_load}
-use Rattle.cut_cli.specs.Cuts.{AreChangesOf, AreCopiesTaken, CutLoads, FiltersOrTrims, IsCutText, IsReadyFor, IsTrimmedIf}
+use Rattle.cut_cli.specs.Cuts.{AreChangesOf, AreCopiesTaken, CutLoads, FiltersOrTrims, FollowsAsAsked, IsAskedBy, IsClosureOf, IsCutAsAsked, IsCutText, IsReadyFor, IsTrimmedIf, MergeinfoStaysByCut}
 use Rattle.cut_cli.specs.Drive.{CleanTextsAreCuts, CutsDump, CutsInput, WritesBoth, WritesIfAsked}
 use Rattle.cut_cli.specs.Words.{CutMeaning, asked_map}
 use Rattle.cut_cli.specs.steps.Examined.{AreDeletesIfAny}
@@ -80,6 +90,31 @@ pub not_taken : (excluded : List NodePath) (told : ToldKinds) (placed : List Pla
     → (place : ℕ) × IsFirstNotTaken excluded told placed (Some place)
 not_taken excluded told placed None first some = absurd (let bad : true ≡ false = some in cc)
 not_taken excluded told placed (Some place) first some = (place, first)
+
+-- lines of mergeinfo stay by the cut, where siblings cover what they name beside it
+lines_by_cut : (settings : Settings) (included siblings : List NodePath) (dump : List ℕ) (records : List DumpRecord)
+    → HasRecords dump records Ending.Whole → ExcludesPaths settings siblings → list_all (is_sibling included) siblings ≡ true
+    → CoverMergeinfo included siblings dump → MergeinfoStaysByCut settings included records
+lines_by_cut settings included siblings dump records whole excludes each cover r ps p lines line among has there is reads contains short =
+    named_line_stays settings included (canonical_path line.path ∷ []) siblings line excludes
+    (record { each = each; all = λ path one named outside. covered path one outside })
+    (short, contains_first (canonical_path line.path) [])
+  where
+    left : is_left_by included siblings (canonical_path line.path) ≡ true
+    left = cover records Ending.Whole r whole among ps has p there is lines line reads contains
+
+    covered : (path : NodePath) → Contains (canonical_path line.path ∷ []) path → is_in_cut included path ≡ false
+        → is_covered siblings path ≡ true
+    covered path one outside =
+        elim (contains_cases (canonical_path line.path) [] path one) [
+          | inl same ↦
+              elim (or_cases (is_in_cut included path) (is_covered siblings path)
+              (subst (λ q. is_left_by included siblings q ≡ true) same left)) [
+                | inl inside ↦ absurd (let bad : true ≡ false = sym inside ∙ outside in cc)
+                | inr is_covered ↦ is_covered
+              ]
+          | inr more ↦ absurd (contains_none path more)
+        ]
 
 -- what is written of a dump that loads
 record Written (m : CutMeaning) (dump : List ℕ) (settings : Settings) (records : List DumpRecord) (deletes : Option Deletes)
@@ -206,29 +241,61 @@ module _ (m : CutMeaning) (dump : List ℕ) (settings : Settings) (records : Lis
 
     module _ (deletes : Option Deletes) (ready : IsReadyFor m dump settings deletes)
         (same : map listed_of changes ≡ ready.listed) (trims : IsTrimmedIf deletes filtered text) where
-      cut_of : CutLoads patched m settings deletes ready.excluded dump records revisions text
-      cut_of =
-          let placed = placed_from 1 revisions in
-          let told = kinds_told_by (map listed_of changes) in
-          let tells = index_tells_kinds changes placed listed in
-          let are = ready.are_excluded in
-          let none = none_back deletes ready same in
-          let comes = are.come revisions trees (record {
+      abbrev placed : List Placed
+      placed = placed_from 1 revisions
+
+      abbrev told : ToldKinds
+      told = kinds_told_by (map listed_of changes)
+
+      tells : TellsKinds told root_alone placed
+      tells = index_tells_kinds changes placed listed
+
+      none : all_rests Way.ToCopies ready.excluded told placed (length placed) ≡ []
+      none = none_back deletes ready same
+
+      -- the paths to which copies are followed until they lead nowhere are the least set
+      closure : (way : Way) (paths : List NodePath) (asked : FollowsAsAsked m ready.listed way paths)
+          → all_rests way paths told placed (length placed) ≡ [] → IsClosureOf way trees revisions asked.first paths
+      closure way paths asked nowhere =
+          let comes = asked.come revisions trees (record {
             lists = its deletes ready same;
             tells = subst (λ l. TellsKinds (kinds_told_by l) root_alone placed) same tells;
             loads = loads;
           }) in
-          let least = following_is_least Way.ToCopies trees revisions are.first are.additions ready.excluded loads comes
-          ((all_rests_are_listed Way.ToCopies ready.excluded told revisions trees placed refl tells loads).2 none) in
+          let least = following_is_least way trees revisions asked.first asked.additions paths loads comes
+          ((all_rests_are_listed way paths told revisions trees placed refl tells loads).2 nowhere) in
+          record { reached = least.1; least = least.2 }
+
+      as_asked : (side : Side) → IsAskedBy side m dump ready.listed ready.excluded
+          → IsCutAsAsked side m settings records trees revisions ready.excluded
+      as_asked Exclude asked = record {
+        first = asked.first;
+        named = asked.named;
+        unfollowed = asked.unfollowed;
+        closure = closure Way.ToCopies ready.excluded asked none;
+      }
+      as_asked Include asked = record {
+        first = asked.follows.first;
+        included = asked.included;
+        named = asked.follows.named;
+        unfollowed = asked.follows.unfollowed;
+        closure = λ follows. closure Way.ToSources asked.included asked.follows
+            (subst (λ l. all_rests Way.ToSources asked.included (kinds_told_by l) placed (length placed) ≡ []) (sym same)
+            (asked.follows.followed follows placed (its deletes ready same)));
+        kept = λ path once. ever_kept_in_cut settings asked.included ready.excluded revisions path names ready.excludes
+            (found_siblings_are_all changes asked.included ready.excluded revisions listed
+            (subst (λ l. AreFoundSiblings l asked.included ready.excluded) (sym same) asked.are_siblings)) once;
+        lines = lines_by_cut settings asked.included ready.excluded dump records clean.whole ready.excludes
+            asked.are_siblings.each asked.cover_mergeinfo;
+      }
+
+      cut_of : CutLoads patched m settings deletes ready.excluded dump records revisions text
+      cut_of =
           let written = is_written deletes ready same trims in
           record {
             trees = trees;
             loads = loads_as;
-            first = are.first;
-            named = are.named;
-            unfollowed = are.unfollowed;
-            reached = least.1;
-            least = least.2;
+            as_asked = as_asked m.side ready.are_excluded.asked;
             nothing_back = (no_returns_bring_nothing settings ready.excluded told revisions trees placed refl tells loads names
                 ready.excludes ready.have_names).0 none;
             filters = written.filters;

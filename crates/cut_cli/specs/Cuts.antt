@@ -1,21 +1,25 @@
 -- What is found out of a dump before it is filtered, and what the filter then writes.
-use Rattle.std.specs.Prelude.{◌≡◌, ◌≢◌, ◌⊎◌, ℕ, true, false, List, [], ◌∷◌, ◌++◌, length, map, Bool, Option, Some, None, MatchBool, IsTrue}
+use Rattle.std.specs.Prelude.{◌≡◌, ◌≢◌, ◌⊎◌, ℕ, true, false, List, [], ◌∷◌, ◌++◌, length, map, Bool, Option, Some, None, MatchBool, Contains, IsTrue}
 use Rattle.std.specs.List.{AllZip, list_all}
-use Rattle.dump_digest.specs.RecordParts.{is_node}
+use Rattle.dump_digest.specs.RecordParts.{HasPropertyList, is_mergeinfo, is_node, value_of}
 use Rattle.dump_records.specs.DumpText.{BeginsWithRecords, Ending, HasRecords}
 use Rattle.dump_records.specs.RecordText.{DumpRecord}
-use Rattle.dump_rules.specs.Settings.{Settings}
+use Rattle.dump_text.specs.PropertyList.{Property}
+use Rattle.dump_rules.specs.Mergeinfo.{IsMergeinfo, MergeLine}
+use Rattle.dump_rules.specs.Settings.{Settings, keeps_path}
+use Rattle.dump_rules.specs.declared.options.Side.{Side}
+use Rattle.dump_rules.specs.declared.options.Side.TheVariants.{Exclude, Include}
 use Rattle.dump_filter.specs.FilterLaws.{LengthsFit}
-use Rattle.dump_trees.specs.CanonicalPaths.{canonical_paths}
+use Rattle.dump_trees.specs.CanonicalPaths.{canonical_path, canonical_paths}
 use Rattle.dump_trees.specs.Changes.{Change}
 use Rattle.dump_trees.specs.ComingBack.{NothingComesBack}
 use Rattle.dump_trees.specs.FollowedRests.{all_rests}
-use Rattle.dump_trees.specs.Following.{Way, Covers, IsInClosure}
+use Rattle.dump_trees.specs.Following.{Way, Covers, ExistsOnce, IsInClosure}
 use Rattle.dump_trees.specs.LoadCheck.{ToldKinds, all_apply}
 use Rattle.dump_trees.specs.Looking.{Placed, placed_from}
-use Rattle.dump_trees.specs.Paths.{NodePath}
+use Rattle.dump_trees.specs.Paths.{NodePath, is_short, keeps}
 use Rattle.dump_trees.specs.Returns.{is_covered, lie_apart}
-use Rattle.dump_trees.specs.Siblings.{ExcludesPaths, has_node_names}
+use Rattle.dump_trees.specs.Siblings.{ExcludesPaths, has_node_names, is_in_cut}
 use Rattle.dump_trees.specs.Trees.{Tree, root_alone}
 use Rattle.dump_history.specs.CutDumps.{FiltersExpansion, LoadsNew, LoadsNumbered, TreeRestricts}
 use Rattle.dump_history.specs.DumpChanges.{LoadsAs, MakeRevisions}
@@ -29,6 +33,8 @@ use Rattle.dump_index.specs.ToldKinds.{kinds_told_by}
 use Rattle.dump_index.specs.declared.change.NodeChange.{NodeChange}
 use Rattle.dump_changes.specs.ListedDumps.{AreListedIn, IsOutOfPlace, MakesListed, MakesListedByNumbers, are_numbered, is_listed_copy, without_number}
 use Rattle.dump_cut.specs.FollowedCopies.{ComeByFollowing}
+use Rattle.dump_cut.specs.FoundSiblings.{AreFoundSiblings}
+use Rattle.dump_cut.specs.NamedLines.{CoverMergeinfo}
 use Rattle.dump_cut.specs.LoadChecks.{IsFirstRefused}
 use Rattle.dump_cut.specs.TakenCopies.{IsFirstNotTaken, emptied_by}
 use Rattle.dump_cut.specs.TrimmedCopies.{AreDeletes, HasOddDelete, IsTrimmedBy}
@@ -92,34 +98,60 @@ IsUnreadFor drops dump (unread.Gap number) = (drops ≡ true) × CopiesByOtherNu
 
 -- what is excluded
 
--- the paths exclude what these prefixes name, read as svnadmin load reads paths, and nothing else
+-- the paths cover what these prefixes name, read as svnadmin load reads paths, and nothing else
 abbrev pub AreNamed : List (List ℕ) → List NodePath → Type 0
-AreNamed prefixes excluded = (path : NodePath) → is_covered excluded path ≡ is_covered (canonical_paths prefixes) path
+AreNamed prefixes paths = (path : NodePath) → is_covered paths path ≡ is_covered (canonical_paths prefixes) path
+
+-- no copy is followed this way from these paths to another one
+abbrev pub LeadsNowhere : Way → List Listed → List NodePath → Type 0
+LeadsNowhere way listed paths = (placed : List Placed) → AllZip IsListed listed placed
+    → all_rests way paths (kinds_told_by listed) placed (length placed) ≡ []
+
+-- some copy is
+abbrev pub LeadsSomewhere : Way → List Listed → List NodePath → Type 0
+LeadsSomewhere way listed paths = (placed : List Placed) → AllZip IsListed listed placed
+    → all_rests way paths (kinds_told_by listed) placed (length placed) ≢ []
 
 -- no copy brings back anything of what these paths exclude
 abbrev pub BringsNothingBack : List Listed → List NodePath → Type 0
-BringsNothingBack listed excluded = (placed : List Placed) → AllZip IsListed listed placed
-    → all_rests Way.ToCopies excluded (kinds_told_by listed) placed (length placed) ≡ []
+BringsNothingBack listed excluded = LeadsNowhere Way.ToCopies listed excluded
 
 -- some copy does
 abbrev pub BringsSomeBack : List Listed → List NodePath → Type 0
-BringsSomeBack listed excluded = (placed : List Placed) → AllZip IsListed listed placed
-    → all_rests Way.ToCopies excluded (kinds_told_by listed) placed (length placed) ≢ []
+BringsSomeBack listed excluded = LeadsSomewhere Way.ToCopies listed excluded
 
--- the call excludes these paths: those that it names, and those to which copies are followed from there, if it asks for
--- that. Nothing comes back of them
-pub record ExcludesAsAsked (m : CutMeaning) (listed : List Listed) (excluded : List NodePath) : Type 0 where
+-- the paths are those that the call names, and those to which copies are followed from there this way, until they lead
+-- nowhere, if it asks for that
+pub record FollowsAsAsked (m : CutMeaning) (listed : List Listed) (way : Way) (paths : List NodePath) : Type 0 where
   pub first : List NodePath
   pub additions : List NodePath
   pub named : AreNamed m.prefixes first
-  pub come : ComeByFollowing Way.ToCopies listed first additions excluded
-  pub unfollowed : m.follow ≡ false → excluded ≡ first
+  pub come : ComeByFollowing way listed first additions paths
+  pub unfollowed : m.follow ≡ false → paths ≡ first
+  pub followed : m.follow ≡ true → LeadsNowhere way listed paths
+
+-- the paths are the siblings of what the call includes: those at which something can exist at some time, and those that
+-- mergeinfo in the dump names
+pub record LeavesIncluded (m : CutMeaning) (dump : List ℕ) (listed : List Listed) (excluded : List NodePath) : Type 0 where
+  pub included : List NodePath
+  pub follows : FollowsAsAsked m listed Way.ToSources included
+  pub are_siblings : AreFoundSiblings listed included excluded
+  pub cover_mergeinfo : CoverMergeinfo included excluded dump
+
+-- these paths are what the call excludes: what it names, or the siblings of that
+abbrev pub IsAskedBy : Side → CutMeaning → List ℕ → List Listed → List NodePath → Type 0
+IsAskedBy Exclude m dump listed excluded = FollowsAsAsked m listed Way.ToCopies excluded
+IsAskedBy Include m dump listed excluded = LeavesIncluded m dump listed excluded
+
+-- and nothing comes back of them
+pub record ExcludesAsAsked (m : CutMeaning) (dump : List ℕ) (listed : List Listed) (excluded : List NodePath) : Type 0 where
+  pub asked : IsAskedBy m.side m dump listed excluded
   pub nothing_back : BringsNothingBack listed excluded
 
--- the call doesn't ask to follow copies, and something would come back
-abbrev pub Returns : CutMeaning → List Listed → Type 0
-Returns m listed = (m.follow ≡ false)
-    × ((excluded : List NodePath) × AreNamed m.prefixes excluded × BringsSomeBack listed excluded)
+-- or something would come back
+abbrev pub Returns : CutMeaning → List ℕ → List Listed → Type 0
+Returns m dump listed =
+    (excluded : List NodePath) × IsAskedBy m.side m dump listed excluded × BringsSomeBack listed excluded
 
 -- a load takes all changes of the dump, as far as paths and kinds go
 abbrev pub IsTakenDump : List ℕ → List Listed → Type 0
@@ -130,9 +162,9 @@ abbrev pub IsObstacleTo : CutMeaning → List ℕ → Obstacle → Type 0
 IsObstacleTo m dump (Unread reason) = IsUnreadFor m.drop dump reason
 IsObstacleTo m dump (Refused refused) = (listed : List Listed) × BeginsWithChanges dump listed
     × IsFirstRefused listed (Some refused)
-IsObstacleTo m dump ComesBack = (listed : List Listed) × IsTakenDump dump listed × Returns m listed
+IsObstacleTo m dump ComesBack = (listed : List Listed) × IsTakenDump dump listed × Returns m dump listed
 IsObstacleTo m dump (OddDelete place) = (listed : List Listed) × (excluded : List NodePath) × IsTakenDump dump listed
-    × ExcludesAsAsked m listed excluded
+    × ExcludesAsAsked m dump listed excluded
     × ((placed : List Placed) → AllZip IsListed listed placed → HasOddDelete excluded (kinds_told_by listed) placed place)
 
 -- the filter takes each change of a dump as it is; or it doesn't take the one at some place, and these paths are to be deleted
@@ -150,7 +182,7 @@ pub record IsReadyFor (m : CutMeaning) (dump : List ℕ) (settings : Settings) (
   pub listed : List Listed
   pub excluded : List NodePath
   pub is_taken : IsTakenDump dump listed
-  pub are_excluded : ExcludesAsAsked m listed excluded
+  pub are_excluded : ExcludesAsAsked m dump listed excluded
   pub copies : (placed : List Placed) → AllZip IsListed listed placed
       → AreCopiesTaken excluded (kinds_told_by listed) placed deletes
   pub apart : IsTrue (lie_apart excluded)
@@ -179,21 +211,59 @@ FiltersOrTrims (Some deletes) false patched settings dump records revisions tree
 FiltersOrTrims (Some deletes) true patched settings dump records revisions trees text =
     FiltersRenumbered patched settings dump records revisions trees text
 
+-- these paths cover the least set that has what the first ones cover, and where copies lead from there this way
+pub record IsClosureOf (way : Way) (trees : List Tree) (revisions : List (List Change)) (first paths : List NodePath)
+    : Type 0 where
+  pub reached : (path : NodePath) → Covers paths path → IsInClosure way trees revisions first path
+  pub least : (path : NodePath) → IsInClosure way trees revisions first path → Covers paths path
+
+-- the excluded paths are the least set that has what the call names, and what copies bring of it elsewhere
+pub record ExcludesNamed (m : CutMeaning) (trees : List Tree) (revisions : List (List Change)) (excluded : List NodePath)
+    : Type 0 where
+  pub first : List NodePath
+  pub named : AreNamed m.prefixes first
+  pub unfollowed : m.follow ≡ false → excluded ≡ first
+  pub closure : IsClosureOf Way.ToCopies trees revisions first excluded
+
+-- the filter keeps a line of mergeinfo in the dump exactly if its path, as the load reads it, is in the cut. The path is in
+-- short form, as svnadmin writes it
+abbrev pub MergeinfoStaysByCut : Settings → List NodePath → List DumpRecord → Type 0
+MergeinfoStaysByCut settings included records = (r : DumpRecord) (ps : List Property) (p : Property) (lines : List MergeLine)
+    (line : MergeLine) →
+    Contains records r → HasPropertyList r ps → Contains ps p → IsTrue (is_mergeinfo p) → IsMergeinfo (value_of p) lines
+    → Contains lines line → IsTrue (is_short line.path)
+    → keeps_path settings line.path ≡ is_in_cut included (canonical_path line.path)
+
+-- the included paths are what the call names; or, if it asks for that, the least set that has it and the sources of what
+-- copies bring there. Wherever something exists after some of the changes, the filter keeps it exactly if it is at or below an
+-- included path, or above one
+pub record LeavesNamed (m : CutMeaning) (settings : Settings) (records : List DumpRecord) (trees : List Tree)
+    (revisions : List (List Change)) : Type 0 where
+  pub first : List NodePath
+  pub included : List NodePath
+  pub named : AreNamed m.prefixes first
+  pub unfollowed : m.follow ≡ false → included ≡ first
+  pub closure : m.follow ≡ true → IsClosureOf Way.ToSources trees revisions first included
+  pub kept : (path : NodePath) → ExistsOnce revisions path → keeps settings path ≡ is_in_cut included path
+  pub lines : MergeinfoStaysByCut settings included records
+
+-- what is cut is what the call asks for
+abbrev pub IsCutAsAsked : Side → CutMeaning → Settings → List DumpRecord → List Tree → List (List Change) → List NodePath
+    → Type 0
+IsCutAsAsked Exclude m settings records trees revisions excluded = ExcludesNamed m trees revisions excluded
+IsCutAsAsked Include m settings records trees revisions excluded = LeavesNamed m settings records trees revisions
+
 -- the dump loads into an empty repository, and so does what is written of it: each revision has its own number and
 -- properties, and the tree that it had, without the excluded paths. If the call drops revisions that lose all of their
--- nodes, this is true of the others under their new numbers. The excluded paths are the least set that has what the call
--- names, and what copies bring of it elsewhere; nothing that is kept came from there. And all that is written comes of changes
--- at paths that aren't excluded, also where no revision shows it
+-- nodes, this is true of the others under their new numbers. The excluded paths are what the call asks for; nothing that is
+-- kept came from there. And all that is written comes of changes at paths that aren't excluded, also where no revision shows
+-- it
 pub record CutLoads (patched : Patching) (m : CutMeaning) (settings : Settings) (deletes : Option (List (List (List ℕ))))
     (excluded : List NodePath) (dump : List ℕ) (records : List DumpRecord) (revisions : List (List Change)) (text : List ℕ)
     : Type 0 where
   pub trees : List Tree
   pub loads : LoadsAs patched root_alone records revisions trees
-  pub first : List NodePath
-  pub named : AreNamed m.prefixes first
-  pub unfollowed : m.follow ≡ false → excluded ≡ first
-  pub reached : (path : NodePath) → Covers excluded path → IsInClosure Way.ToCopies trees revisions first path
-  pub least : (path : NodePath) → IsInClosure Way.ToCopies trees revisions first path → Covers excluded path
+  pub as_asked : IsCutAsAsked m.side m settings records trees revisions excluded
   pub nothing_back : NothingComesBack settings trees revisions
   pub filters : LengthsFit settings records
       → FiltersOrTrims deletes m.drop patched settings dump records revisions trees text

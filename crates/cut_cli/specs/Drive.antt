@@ -8,8 +8,6 @@ use Rattle.dump_text.specs.FaultTable.{fault_code}
 use Rattle.dump_text.specs.declared.fault.FaultKind.{FaultKind}
 use Rattle.dump_records.specs.RecordText.{DumpRecord}
 use Rattle.dump_rules.specs.Settings.{Settings}
-use Rattle.dump_rules.specs.declared.options.Side.{Side}
-use Rattle.dump_rules.specs.declared.options.Side.TheVariants.{Exclude, Include}
 use Rattle.dump_filter.specs.WholeText.{IsCleanText}
 use Rattle.dump_writer.specs.SinkWords.{IsPrefixOf}
 use Rattle.dump_pipeline.specs.RunAnswer.{IsRunAnswer}
@@ -148,16 +146,12 @@ abbrev pub BeginsMap : Option Text → Option (List ℕ) → Option (List ℕ) �
 BeginsMap None old new = Keeps old new
 BeginsMap (Some name) old new = Replaces old new []
 
--- the program can't include yet. Where it excludes, the file of the map is created, and then the input is cut; or a map is
--- asked for whose file can't be created, and nothing is written
-abbrev pub AnswersBy : Side → CutMeaning → Option (List ℕ) → (old new map_old map_new : Option (List ℕ)) → ℕ → Type 0
-AnswersBy Include m input old new map_old map_new status = Keeps old new × Keeps map_old map_new × (status ≡ 2)
-AnswersBy Exclude m input old new map_old map_new status =
+-- the file of the map is created, and then the input is cut; or a map is asked for whose file can't be created, and nothing is
+-- written
+abbrev pub AnswersCall : CutMeaning → Option (List ℕ) → (old new map_old map_new : Option (List ℕ)) → ℕ → Type 0
+AnswersCall m input old new map_old map_new status =
     ((begun : Option (List ℕ)) × BeginsMap (asked_map m) map_old begun × CutsInput m input old new begun map_new status)
     ⊎ ((is_some (asked_map m) ≡ true) × Keeps old new × Keeps map_old map_new × (status ≡ 1))
-
-abbrev pub AnswersCall : CutMeaning → Option (List ℕ) → (old new map_old map_new : Option (List ℕ)) → ℕ → Type 0
-AnswersCall m input old new map_old map_new status = AnswersBy m.side m input old new map_old map_new status
 
 -- a call without a prefix is refused, and others are answered
 abbrev pub AnswersWhole : CutMeaning → Option (List ℕ) → (old new map_old map_new : Option (List ℕ)) → ℕ → Type 0

@@ -9,7 +9,7 @@ ghost use Rattle.cut_cli.specs.steps.Ended.{TellsAfter};
 
 use crate::examine::{Obstacle, Ready, examine};
 use crate::faults::write_fault;
-use crate::lines::{write_no_include, write_report};
+use crate::lines::write_report;
 use crate::map::{begin_map, end_map};
 use crate::mistakes::{Mistake, write_mistake, write_no_file};
 use crate::spot::first_revision;
@@ -23,7 +23,7 @@ use cli_support::{
 use dump_changes::Memory;
 use dump_cut::Deletes;
 use dump_pipeline::{Answer, Failure, FreeGate, Plan, run};
-use dump_rules::{Options, Side};
+use dump_rules::Options;
 use dump_text::FaultKind;
 use dump_writer::{Chunk, OutMut, Piece, Sink, write_piece};
 use std::alloc::Global;
@@ -152,7 +152,7 @@ fn answer_whole<H: Threads + Wait + Sync, R: Read, W: Write, M: NamedOutput, E: 
     answer_call(rt, alloc, call, size, reader, writer, map_file, errors)
 }
 
-/// Cuts the whole input, as the call asks for. It can't include yet.
+/// Cuts the whole input, as the call asks for.
 fn answer_call<H: Threads + Wait + Sync, R: Read, W: Write, M: NamedOutput, E: Write>(
     rt: &H,
     alloc: Global,
@@ -165,18 +165,10 @@ fn answer_call<H: Threads + Wait + Sync, R: Read, W: Write, M: NamedOutput, E: W
 ) -> u8
     ensures { AnswersCall (cut_meaning call.now) (R.remaining reader.old) (W.contents writer.old) (W.contents writer.new) (M.contents map_file.old) (M.contents map_file.new) result }
 {
-    match call.side {
-        Side::Include => {
-            let _ = write_no_include(errors);
-            2
-        }
-        Side::Exclude => {
-            if !begin_map(call, map_file, errors) {
-                return 1;
-            }
-            cut_input(rt, alloc, call, size, reader, writer, map_file, errors)
-        }
+    if !begin_map(call, map_file, errors) {
+        return 1;
     }
+    cut_input(rt, alloc, call, size, reader, writer, map_file, errors)
 }
 
 /// Cuts the whole input, if the file of the map is there.

@@ -6,25 +6,30 @@ ghost use Rattle.dump_index.specs.ToldKinds.{kinds_told_by};
 ghost use Rattle.dump_trees.specs.Looking.{Placed};
 ghost use Rattle.dump_cut.specs.NamedPaths.{has_named_paths};
 ghost use Rattle.dump_cut.specs.steps.ExcludedPaths.{paths_of};
-ghost use Rattle.cut_cli.specs.Cuts.{AreChangesOf, ExcludesAsAsked, AreNamed, BringsNothingBack, BringsSomeBack, IsTakenDump, Returns};
+ghost use Rattle.cut_cli.specs.Cuts.{AreNamed, BringsNothingBack, BringsSomeBack, ExcludesAsAsked, FollowsAsAsked, IsAskedBy, IsTakenDump, LeavesIncluded, Returns};
+ghost use Rattle.dump_cut.specs.steps.Returned.{way_meant};
 ghost use Rattle.cut_cli.specs.steps.Examined.{AreDeletesIfAny};
 ghost use Rattle.cut_cli.specs.Words.{cut_meaning};
 ghost use Rattle.cut_cli.specs.steps.Examined.{IsExamined, IsFrontOf};
 
 use crate::faults::{write_refused, write_unread};
-use crate::lines::{shown, write_deletes, write_odd_delete, write_places, write_returns};
+use crate::lines::{
+    shown, write_advice, write_deletes, write_odd_delete, write_places, write_returns,
+    write_siblings,
+};
 use crate::own_lives::report_additions;
+use crate::parents::report_parents;
 use crate::prefixes::report_prefixes;
 use crate::read::{Front, Unread, read_front};
 use crate::sizes::sizes_of;
 use crate::words::Call;
 use dump_changes::Memory;
 use dump_cut::{
-    Deletes, Excluded, PlacedRest, Refused, Way, all_followed, first_not_taken, first_refused,
-    follow,
+    Deletes, Excluded, PlacedRest, Refused, Way, add_named_siblings, all_followed, find_siblings,
+    first_not_taken, first_refused, follow,
 };
 use dump_index::{ChangeIndex, NodeChange};
-use dump_rules::Options;
+use dump_rules::{Options, Side};
 use std::alloc::Global;
 use std::io::Write;
 
@@ -75,12 +80,20 @@ fn named(alloc: Global, call: &Call<'_>) -> Result<Excluded, Memory>
     Excluded::of(alloc, &call.prefixes)
 }
 
-/// How many paths `--follow-copies` would exclude too.
+/// Which way a call of this side follows copies: from what it excludes to its copies, or from what it includes to its sources.
+fn way_of(side: Side) -> Way {
+    match side {
+        Side::Exclude => Way::ToCopies,
+        Side::Include => Way::ToSources,
+    }
+}
+
+/// How many paths `--follow-copies` would follow copies to.
 fn count_additions(alloc: Global, index: &ChangeIndex<'_>, call: &Call<'_>) -> Result<usize, Memory>
     requires { IsTrue (list_all has_named_paths index.now) }
 {
-    let mut excluded = named(alloc, call)?;
-    let additions = follow(alloc, index, &mut excluded, Way::ToCopies)?;
+    let mut paths = named(alloc, call)?;
+    let additions = follow(alloc, index, &mut paths, way_of(call.side))?;
     Ok(additions.len())
 }
 
@@ -98,8 +111,12 @@ fn list_returns<E: Write>(
 {
     let most = shown(call).min(returns.len());
     let sizes = sizes_of(alloc, dump, index, excluded, &returns[..most])?;
+    let _ = write_returns(errors, index.changes(), returns, &sizes);
+    if call.follow {
+        return Ok(());
+    }
     let count = count_additions(alloc, index, call)?;
-    let _ = write_returns(errors, index.changes(), returns, &sizes, count);
+    let _ = write_advice(errors, call.side, count);
     Ok(())
 }
 
@@ -120,11 +137,80 @@ fn brings_back<E: Write>(
     if returns.is_empty() {
         return Ok(false);
     }
-    let _ = write_places(errors, returns.len());
+    let _ = write_places(errors, call, returns.len());
     if !call.quiet {
         list_returns(alloc, dump, index, excluded, call, &returns, errors)?;
     }
     Ok(true)
+}
+
+/// The paths that the call names, and those to which copies are followed from there, if it asks for that. It reports these.
+fn followed<E: Write>(
+    alloc: Global,
+    index: &ChangeIndex<'_>,
+    call: &Call<'_>,
+    way: Way,
+    errors: &mut E,
+) -> Result<Excluded, Memory>
+    requires { IsTrue (list_all has_named_paths index.now) }
+    ensures { IfOk result (λ paths. FollowsAsAsked (cut_meaning call.now) index.now (way_meant way) (paths_of paths)) }
+{
+    let mut paths = named(alloc, call)?;
+    if !call.follow {
+        return Ok(paths);
+    }
+    let additions = follow(alloc, index, &mut paths, way)?;
+    report_additions(alloc, index, &paths, call, &additions, errors)?;
+    Ok(paths)
+}
+
+/// The siblings of what the call includes. It reports which sources of copies are included too, and which parents are files.
+fn leave_included<E: Write>(
+    alloc: Global,
+    dump: &[u8],
+    index: &ChangeIndex<'_>,
+    call: &Call<'_>,
+    errors: &mut E,
+) -> Result<Excluded, Memory>
+    requires { IsTrue (list_all has_named_paths index.now) }
+    ensures { IfOk result (λ excluded. LeavesIncluded (cut_meaning call.now) dump.now index.now (paths_of excluded)) }
+{
+    let included = followed(alloc, index, call, Way::ToSources, errors)?;
+    let mut siblings = find_siblings(alloc, index, &included)?;
+    add_named_siblings(alloc, dump, &included, &mut siblings)?;
+    report_parents(alloc, index, &included, errors)?;
+    Ok(siblings)
+}
+
+/// The paths that the call excludes.
+fn asked<E: Write>(
+    alloc: Global,
+    dump: &[u8],
+    index: &ChangeIndex<'_>,
+    call: &Call<'_>,
+    errors: &mut E,
+) -> Result<Excluded, Memory>
+    requires { IsTrue (list_all has_named_paths index.now) }
+    ensures { IfOk result (λ excluded. IsAskedBy call.now.side (cut_meaning call.now) dump.now index.now (paths_of excluded)) }
+{
+    match call.side {
+        Side::Exclude => followed(alloc, index, call, Way::ToCopies, errors),
+        Side::Include => leave_included(alloc, dump, index, call, errors),
+    }
+}
+
+/// Lists what is excluded beside included paths.
+fn report_siblings<E: Write>(
+    alloc: Global,
+    excluded: &Excluded,
+    call: &Call<'_>,
+    errors: &mut E,
+) -> Result<(), Memory> {
+    if call.verbose && call.side == Side::Include {
+        let paths = excluded.paths(alloc)?;
+        let _ = write_siblings(errors, &paths);
+    }
+    Ok(())
 }
 
 /// The paths that the call excludes; none if copies would bring some of it back. It reports what copies bring.
@@ -136,18 +222,14 @@ fn exclude<E: Write>(
     errors: &mut E,
 ) -> Result<Option<Excluded>, Memory>
     requires { IsTrue (list_all has_named_paths index.now) }
-    ensures { IfOk result (λ found. MatchOption found (Returns (cut_meaning call.now) index.now)
-        (λ excluded. ExcludesAsAsked (cut_meaning call.now) index.now (paths_of excluded))) }
+    ensures { IfOk result (λ found. MatchOption found (Returns (cut_meaning call.now) dump.now index.now)
+        (λ excluded. ExcludesAsAsked (cut_meaning call.now) dump.now index.now (paths_of excluded))) }
 {
-    let mut excluded = named(alloc, call)?;
-    if call.follow {
-        let additions = follow(alloc, index, &mut excluded, Way::ToCopies)?;
-        report_additions(alloc, index, &excluded, call, &additions, errors)?;
-        return Ok(Some(excluded));
-    }
+    let excluded = asked(alloc, dump, index, call, errors)?;
     if brings_back(alloc, dump, index, &excluded, call, errors)? {
         return Ok(None);
     }
+    report_siblings(alloc, &excluded, call, errors)?;
     Ok(Some(excluded))
 }
 
@@ -190,7 +272,7 @@ fn prepare<E: Write>(
 ) -> Result<Result<Ready, Obstacle>, Memory>
     requires { IsTrue (list_all has_named_paths index.now) }
     ensures { IfOk result (λ found. (dump : List ℕ) → IsTakenDump dump index.now
-        → ExcludesAsAsked (cut_meaning call.now) index.now (paths_of excluded.now)
+        → ExcludesAsAsked (cut_meaning call.now) dump index.now (paths_of excluded.now)
         → IsExamined (cut_meaning call.now) dump found) }
 {
     let deletes = match look_for_deletes(alloc, index, excluded, call, errors)? {

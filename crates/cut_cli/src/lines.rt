@@ -4,6 +4,7 @@ use crate::words::Call;
 use dump_cut::{Addition, Excluded, PlacedRest};
 use dump_filter::Report;
 use dump_index::{NodeChange, NodeMade, Source, rest_behind};
+use dump_rules::Side;
 use std::io::{self, Write};
 
 /// How many lines of a list are written without `--verbose`.
@@ -174,36 +175,45 @@ fn write_return<E: Write>(
     writeln!(errors, "")
 }
 
-/// Says that copies would bring excluded content back.
-pub fn write_places<E: Write>(errors: &mut E, count: usize) -> io::Result<()> {
-    write!(
-        errors,
-        "svndumpcut: nothing written: copies would bring excluded content back, in "
-    )?;
+/// Says that copies would bring excluded content back, or that they come from paths that aren't included.
+pub fn write_places<E: Write>(errors: &mut E, call: &Call<'_>, count: usize) -> io::Result<()> {
+    write!(errors, "svndumpcut: nothing written: ")?;
+    match call.side {
+        Side::Exclude => write!(errors, "copies would bring excluded content back, in ")?,
+        Side::Include => write!(errors, "sources of copies are not included, in ")?,
+    }
     write_count(errors, count, "place")?;
     writeln!(errors, "")
 }
 
-/// Lists these places, with how much the first of them bring, and says how many paths `--follow-copies` excludes.
+/// Lists these places, with how much the first of them bring.
 pub fn write_returns<E: Write>(
     errors: &mut E,
     changes: &[NodeChange<'_>],
     returns: &[PlacedRest<'_>],
     sizes: &[Size],
-    additions: usize,
 ) -> io::Result<()> {
     for (found, size) in returns.iter().zip(sizes) {
         write_return(errors, changes, *found, *size)?;
     }
-    write_rest(errors, returns.len(), sizes.len())?;
-    write!(errors, "use --follow-copies to exclude these too, ")?;
+    write_rest(errors, returns.len(), sizes.len())
+}
+
+/// Says how many paths `--follow-copies` excludes, or includes.
+pub fn write_advice<E: Write>(errors: &mut E, side: Side, additions: usize) -> io::Result<()> {
+    match side {
+        Side::Exclude => write!(errors, "use --follow-copies to exclude these too, ")?,
+        Side::Include => write!(errors, "use --follow-copies to include the sources too, ")?,
+    }
     write_count(errors, additions, "path")?;
     writeln!(errors, " in all")
 }
 
-/// Writes the line of a path that is excluded too.
+/// Writes the line of a path to which a copy is followed: of one that is excluded, what is copied there; of one that is
+/// included, what is copied from there.
 fn write_addition<E: Write>(
     errors: &mut E,
+    side: Side,
     changes: &[NodeChange<'_>],
     addition: &Addition,
 ) -> io::Result<()> {
@@ -213,8 +223,18 @@ fn write_addition<E: Write>(
     let revision = change.revision;
     write!(errors, "  ")?;
     write_path(errors, &addition.path)?;
-    write!(errors, " (r{revision}, ")?;
-    write_source(errors, source, rest_behind(change.path, &addition.path))?;
+    write!(errors, " (r{revision}")?;
+    let rest = match side {
+        Side::Exclude => rest_behind(change.path, &addition.path),
+        Side::Include => {
+            let rest = rest_behind(source.path, &addition.path);
+            write!(errors, ": ")?;
+            write_joined(errors, change.path, rest)?;
+            rest
+        }
+    };
+    write!(errors, ", ")?;
+    write_source(errors, source, rest)?;
     writeln!(errors, ")")
 }
 
@@ -228,7 +248,7 @@ pub fn write_own_life<E: Write>(errors: &mut E, path: &[u8], revision: u64) -> i
     )
 }
 
-/// Says which paths are excluded too, as copies of excluded content.
+/// Says which paths are excluded too, as copies of excluded content, or included too, as sources of copies.
 pub fn write_additions<E: Write>(
     errors: &mut E,
     call: &Call<'_>,
@@ -238,12 +258,15 @@ pub fn write_additions<E: Write>(
     if call.quiet || additions.is_empty() {
         return Ok(());
     }
-    write!(errors, "also excluded, as copies of excluded content: ")?;
+    match call.side {
+        Side::Exclude => write!(errors, "also excluded, as copies of excluded content: ")?,
+        Side::Include => write!(errors, "also included, as sources of copies: ")?,
+    }
     write_count(errors, additions.len(), "path")?;
     writeln!(errors, "")?;
     let most = shown(call);
     for addition in additions.iter().take(most) {
-        write_addition(errors, changes, addition)?;
+        write_addition(errors, call.side, changes, addition)?;
     }
     write_rest(errors, additions.len(), most)
 }
@@ -307,11 +330,29 @@ pub fn write_odd_delete<E: Write>(
     )
 }
 
-/// Says that the program can't include yet.
-pub fn write_no_include<E: Write>(errors: &mut E) -> io::Result<()> {
+/// Lists what is excluded beside included paths, if that is something.
+pub fn write_siblings<E: Write>(errors: &mut E, paths: &[&[u8]]) -> io::Result<()> {
+    if paths.is_empty() {
+        return Ok(());
+    }
+    write!(errors, "other excluded paths: ")?;
+    write_grouped(errors, paths.len())?;
+    writeln!(errors, "")?;
+    for path in paths {
+        write!(errors, "  ")?;
+        write_path(errors, path)?;
+        writeln!(errors, "")?;
+    }
+    Ok(())
+}
+
+/// Warns that a parent of a prefix is a file in this revision.
+pub fn write_file_parent<E: Write>(errors: &mut E, path: &[u8], revision: u64) -> io::Result<()> {
+    write!(errors, "svndumpcut: warning: ")?;
+    write_path(errors, path)?;
     writeln!(
         errors,
-        "svndumpcut: this version cannot include; exclude the other paths"
+        " is a file in r{revision}: it is kept with its content, as a parent of a prefix"
     )
 }
 

@@ -9,6 +9,7 @@ mod lines;
 mod map;
 mod mistakes;
 mod own_lives;
+mod parents;
 mod prefixes;
 mod read;
 mod sizes;

@@ -1,9 +1,10 @@
-//! Paths that are excluded as copies of excluded content, and what else was there.
+//! Paths to which copies are followed, and what else was there, if they are excluded.
 use crate::lines::{write_additions, write_own_life};
 use crate::words::Call;
 use dump_changes::Memory;
 use dump_cut::{Addition, Excluded};
 use dump_index::{ChangeIndex, NodeChange, NodeMade, Source, ends_in_slash, joined, rest_behind};
+use dump_rules::Side;
 use std::alloc::Global;
 use std::io::Write;
 
@@ -79,23 +80,16 @@ fn note_made(excluded: &Excluded, change: &NodeChange<'_>, lives: &mut [Life<'_>
     }
 }
 
-/// Reports the paths that are excluded too, sorted, and which of them had other content.
-pub fn report_additions<E: Write>(
+/// Warns of excluded paths, sorted, that had other content than copies of what is excluded.
+fn report_lives<E: Write>(
     alloc: Global,
     index: &ChangeIndex<'_>,
     excluded: &Excluded,
-    call: &Call<'_>,
-    additions: &[Addition],
+    additions: &[&Addition],
     errors: &mut E,
 ) -> Result<(), Memory> {
-    let mut sorted: Vec<&Addition> = Vec::new(alloc);
-    for addition in additions {
-        sorted.push(addition)?;
-    }
-    sorted.sort_unstable_by(|a, b| a.path.cmp(&b.path));
-    let _ = write_additions(errors, call, index.changes(), &sorted);
     let mut lives: Vec<Life<'_>> = Vec::new(alloc);
-    for addition in &sorted {
+    for addition in additions {
         lives.push(Life {
             path: &addition.path,
             revision: None,
@@ -113,4 +107,25 @@ pub fn report_additions<E: Write>(
         }
     }
     Ok(())
+}
+
+/// Reports the paths to which copies are followed, sorted; and of excluded ones which had other content.
+pub fn report_additions<E: Write>(
+    alloc: Global,
+    index: &ChangeIndex<'_>,
+    paths: &Excluded,
+    call: &Call<'_>,
+    additions: &[Addition],
+    errors: &mut E,
+) -> Result<(), Memory> {
+    let mut sorted: Vec<&Addition> = Vec::new(alloc);
+    for addition in additions {
+        sorted.push(addition)?;
+    }
+    sorted.sort_unstable_by(|a, b| a.path.cmp(&b.path));
+    let _ = write_additions(errors, call, index.changes(), &sorted);
+    match call.side {
+        Side::Exclude => report_lives(alloc, index, paths, &sorted, errors),
+        Side::Include => Ok(()),
+    }
 }

@@ -19,7 +19,7 @@ fn can_make(change: &NodeChange<'_>, path: &[u8]) -> bool {
 }
 
 /// Whether the path is the top or below it.
-fn is_at_or_below(top: &[u8], path: &[u8]) -> bool {
+pub(crate) fn is_at_or_below(top: &[u8], path: &[u8]) -> bool {
     match path.strip_prefix(top) {
         Some(rest) => rest.is_empty() || rest[0] == b'/',
         None => false,

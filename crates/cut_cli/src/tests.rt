@@ -30,6 +30,22 @@ Node-path: d\nNode-kind: dir\nNode-action: add\n\n\n\n\
 Revision-number: 2\nProp-content-length: 10\nContent-length: 10\n\nPROPS-END\n\n\
 Node-path: e\nNode-action: add\nNode-copyfrom-rev: 1\nNode-copyfrom-path: d\n\n\n\n";
 
+/// The same with `d/f`, and without `e`.
+const INCLUDED: &[u8] = b"SVN-fs-dump-format-version: 2\n\n\
+Revision-number: 0\nProp-content-length: 10\nContent-length: 10\n\nPROPS-END\n\n\
+Revision-number: 1\nProp-content-length: 10\nContent-length: 10\n\nPROPS-END\n\n\
+Node-path: d\nNode-kind: dir\nNode-action: add\n\n\n\n\
+Node-path: d/f\nNode-kind: file\nNode-action: add\nText-content-length: 2\nContent-length: 2\n\na\n\n\n\
+Revision-number: 2\nProp-content-length: 10\nContent-length: 10\n\nPROPS-END\n\n";
+
+const INCLUDED_LINES: &[u8] =
+    b"revisions kept 3 (1 of them emptied), dropped 0; nodes kept 2, dropped 1; texts checked 0\n";
+
+const SOURCE_LINES: &[u8] =
+    b"svndumpcut: nothing written: sources of copies are not included, in 1 place\n  \
+r2: /e, copied from /d@1: 1 file, 2 bytes\n\
+use --follow-copies to include the sources too, 1 path in all\n";
+
 const RETURN_LINES: &[u8] =
     b"svndumpcut: nothing written: copies would bring excluded content back, in 1 place\n  \
 r2: /e/f, copied from /d/f@1: 1 file, 2 bytes\n\
@@ -179,16 +195,15 @@ fn copies_are_reported_or_followed(rt: HostRuntime) {
 }
 
 #[test]
+fn siblings_are_excluded(rt: HostRuntime) {
+    let words = ["svndumpcut", "include", "d"];
+    assert!(rt; is_cut(&rt, rt.alloc(), &words, (0, INCLUDED, INCLUDED_LINES)));
+    let words = ["svndumpcut", "include", "e"];
+    assert!(rt; is_cut(&rt, rt.alloc(), &words, (3, b"", SOURCE_LINES)));
+}
+
+#[test]
 fn other_calls_are_refused(rt: HostRuntime) {
-    let line = b"svndumpcut: this version cannot include; exclude the other paths\n".as_slice();
-    assert!(rt;
-        is_cut(
-            &rt,
-            rt.alloc(),
-            &["svndumpcut", "include", "d"],
-            (2, b"", line)
-        )
-    );
     let empty = b"svndumpcut: a prefix is empty; the root is /\n\
 usage: svndumpcut include|exclude [OPTIONS] PREFIX...\n"
         .as_slice();

@@ -5,14 +5,16 @@ ghost use Rattle.cut_cli.specs.Texts.{info_text};
 use cli_support::Info;
 
 /// The text of `--help`.
-pub const HELP: &str = "usage: svndumpcut exclude [OPTIONS] PREFIX...
+pub const HELP: &str = "usage: svndumpcut include|exclude [OPTIONS] PREFIX...
 
-Reads the dump of a whole Subversion repository on standard input, and writes it
-without the nodes at and below each prefix on standard output.
+Reads the dump of a whole Subversion repository on standard input, and writes a
+dump without some paths on standard output. include keeps what is at and below
+each prefix, and the directories above; exclude keeps everything else.
 
   --targets FILE     more prefixes, one a line; may be given again
   --map FILE         write the new number of each revision to this file
-  --follow-copies    exclude also what is copied from excluded content
+  --follow-copies    exclude also what is copied from excluded content; or
+                     include also the sources of copies
   --drop-empty-revs  drop revisions that lose all of their nodes, and renumber
   --dry-run          do everything but write the new dump
   --quiet            write only warnings, faults and failures

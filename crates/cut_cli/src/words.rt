@@ -32,7 +32,7 @@ pub struct Call<'a> {
     pub targets: Vec<&'a str>,
     /// The name of the file for a map of the revisions.
     pub map_name: Option<&'a str>,
-    /// Whether the copies of what is excluded are excluded too.
+    /// Whether the copies of what is excluded are excluded too, or the sources of what is included are included too.
     pub follow: bool,
     /// Whether revisions are dropped that lose all of their nodes, and the others are renumbered.
     pub drop: bool,
