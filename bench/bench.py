@@ -16,6 +16,7 @@ import shutil
 import subprocess
 import sys
 import tempfile
+import textwrap
 import time
 
 sys.path.insert(0, os.path.join(os.path.dirname(__file__), "..", "tools"))
@@ -37,17 +38,21 @@ COPIES = [
     ("a fan of 100,000 copies", ["--revisions", "0", "--fan", "100000"], ["include trunk", "exclude other"]),
 ]
 
-# dumps of which svndumpcut excludes a file with its copies
+# dumps of which svndumpcut excludes and includes paths with their copies
 CUTS = [
     (
         "100,000 revisions, 20,000 files, 500 tags",
         ["--revisions", "100000", "--nodes", "0", "--tagged", "20000", "--tags", "500"],
-        ["--follow-copies trunk/dir7/file7", "--follow-copies trunk/dir7"],
+        [
+            "exclude --follow-copies trunk/dir7/file7",
+            "exclude --follow-copies trunk/dir7",
+            "include trunk/dir7 " + " ".join(f"tags/tag{number}/dir7" for number in range(1, 501)),
+        ],
     ),
     (
         "a thousand renames, and fifty copies",
         ["--revisions", "1", "--nodes", "0", "--renames", "1000"],
-        ["--follow-copies trunk/name0/file"],
+        ["exclude --follow-copies trunk/name0/file", "include --follow-copies trunk/name1000"],
     ),
 ]
 
@@ -120,6 +125,7 @@ def others(program):
         ("with 4 workers, exclude other", [program, "exclude", "--skip-missing-merge-sources", "other"]),
         ("cut, exclude other", [cut, "exclude", "other"]),
         ("cut, exclude a file", [cut, "exclude", "other/file1-1"]),
+        ("cut, include trunk", [cut, "include", "trunk"]),
     ]
     stock = shutil.which("svndumpfilter")
     if stock:
@@ -180,7 +186,8 @@ def main():
             make(arguments, path)
             head(title, arguments, path)
             rows = [("filter, include /", [program, "include", "/"])]
-            rows += [(f"cut, {words}", [programs()["cut"].built, "exclude", *words.split()]) for words in calls]
+            cut = programs()["cut"].built
+            rows += [(f"cut, {textwrap.shorten(words, 30, placeholder=' ..')}", [cut, *words.split()]) for words in calls]
             show_rows(rows, path)
     return 0 if same else 1
 

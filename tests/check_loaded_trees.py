@@ -19,11 +19,11 @@ record and fault, and none with a fault where the filter does not stop. After fa
 the prefixes that the survey suggests: then no copy may stop the filter. (No path here begins with two slashes: no prefix
 names such a path.)
 
-cut: svndumpcut excludes many sets of one to three paths from each dump, without --follow-copies and with it, some also with
---dry-run. Which paths are excluded in the end, what copies bring back and what is deleted behind copies is computed here,
+cut: svndumpcut excludes and includes many sets of one to three paths of each dump, without --follow-copies and with it, some
+also with --dry-run and with --drop-empty-revs. Which paths are kept in the end, what copies bring back and what is deleted behind copies is computed here,
 from the original's trees and copies as docs/CUT.md says: the status and the lists have to be as computed. Nothing may be
 written but with status 0. What is written then is loaded into an empty repository, with svnadmin's checks of properties. It
-has to have each revision of the original with its number and its properties, and its tree without the excluded paths, and
+has to have each revision of the original with its number and its properties, and its tree with the kept paths alone, and
 no text that only excluded files have. The same is done with parts of each history, and with dumps whose numbers have gaps,
 which svndumpfilter makes: there the original is what svnadmin loads of them, and nothing may be written of a dump that it
 rejects. If it rejects the mergeinfo alone, the cut is not judged.
@@ -55,7 +55,7 @@ PARTS, PART_RUNS = 3, 5
 # a repository doesn't grow above so many paths
 PATHS = 80
 # of each repository so many sets of paths are cut out, and so many parts and dumps with gaps are offered to svndumpcut
-CUTS, CUT_PARTS, CUT_GAPS = 100, 6, 6
+CUTS, CUT_PARTS, CUT_GAPS = 70, 6, 6
 OPTIONS = [
     ["--drop-empty-revs", "--renumber-revs"],
     ["--drop-empty-revs", "--renumber-revs", "--skip-missing-merge-sources"],
@@ -81,10 +81,21 @@ TOLD_FAULT = re.compile(rb" \(fault (\d+), record (\d+), byte \d+\)$", re.MULTIL
 FROM = rb", copied from /(?P<source>.*)@(?P<number>\d+)"
 ADDED = re.compile(rb"^  /(?P<target>.*) \(r(?P<revision>\d+)" + FROM + rb"\)$", re.MULTILINE)
 ADDED_COUNT = re.compile(rb"^also excluded, as copies of excluded content: (\d+) paths?$", re.MULTILINE)
+INCLUDED = re.compile(rb"^  /(?P<path>.*) \(r(?P<revision>\d+): /(?P<target>.*)" + FROM + rb"\)$", re.MULTILINE)
+INCLUDED_COUNT = re.compile(rb"^also included, as sources of copies: (\d+) paths?$", re.MULTILINE)
+OTHERS = re.compile(rb"^other excluded paths: ([\d,]+)\n((?:  /.*\n)*)", re.MULTILINE)
+FILE_PARENT = re.compile(
+    rb"^svndumpcut: warning: /(.*) is a file in r(\d+): it is kept with its content, as a parent of a prefix\n", re.MULTILINE
+)
 BACK = re.compile(rb"^  r(?P<revision>\d+): /(?P<target>.*)" + FROM + rb": (?P<amount>.*)$", re.MULTILINE)
 BACK_COUNT = re.compile(
     rb"^svndumpcut: nothing written: copies would bring excluded content back, in (\d+) places?\n(?:  .*\n)*"
     rb"use --follow-copies to exclude these too, (\d+) paths? in all\n\Z",
+    re.MULTILINE,
+)
+SOURCES_COUNT = re.compile(
+    rb"^svndumpcut: nothing written: sources of copies are not included, in (\d+) places?\n(?:  .*\n)*"
+    rb"(?:use --follow-copies to include the sources too, (\d+) paths? in all\n)?\Z",
     re.MULTILINE,
 )
 DELETED = re.compile(
@@ -530,6 +541,32 @@ class Excluded(Call):
         return len(kept), sum(bool(it) and not any(it) for it in kept), sum(nodes), len(nodes) - sum(nodes), deletes
 
 
+class Included(Excluded):
+    """Paths that svndumpcut includes, with the directories above them."""
+
+    def covers(self, path):
+        """Whether one of the paths is at or above it."""
+        return not super().keeps(path)
+
+    def is_above(self, path):
+        """Whether one of the paths is below it. The root is above all."""
+        return not path or any(is_below(it, path) for it in self.paths)
+
+    def keeps(self, path):
+        bare = path.removeprefix(b"/")
+        return self.covers(bare) or self.is_above(bare)
+
+    def followed(self, history):
+        """With the sources of what copies bring to included paths, and their sources."""
+        found = Included(self.paths)
+        everything = [it for _, some in history.copies for it in some]
+        more = [it for it in everything if found.covers(it.target) and not found.covers(it.source)]
+        while more:
+            found.paths.update(it.source for it in more)
+            more = [it for it in everything if found.covers(it.target) and not found.covers(it.source)]
+        return found
+
+
 def mergeinfo(value):
     """What a value says: of each path its numbers, each with whether it is inherited. One that can't be read stays."""
     found = {}
@@ -717,6 +754,8 @@ class Run(Trial):
 class Cut(Trial):
     """Runs of svndumpcut on the dump of a whole repository, without and with --follow-copies."""
 
+    side, back_count = "exclude", BACK_COUNT
+
     def __init__(self, name, original, dump, given, place):
         super().__init__(name, original, dump, [])
         self.given, self.is_dry, self.is_validated = given, place % 3 == 0, place % 10 == 0
@@ -724,27 +763,32 @@ class Cut(Trial):
         self.added, self.right = 0, None
 
     def judge(self, built):
-        excluded = Excluded(map(canonical, self.given))
-        for options, meant in ([], excluded), (["--follow-copies"], excluded.followed(self.original)):
-            self.words = ["exclude", *options, "--verbose", *self.given]
+        named = self.named(map(canonical, self.given))
+        for options, meant in ([], named), (["--follow-copies"], named.followed(self.original)):
+            self.words = [self.side, *options, "--verbose", *self.given]
             answer = ran(built["cut"], *self.words, given=self.dump)
-            why = self.wrong(answer, excluded, meant)
+            why = self.wrong(answer, named, meant)
             if not why and self.is_dry:
+                why = answer.returncode == 0 and self.wrong_dropped(built, meant)
                 self.words.append("--dry-run")
-                why = self.wrong_dry(built, answer)
+                why = why or self.wrong_dry(built, answer)
             if why:
                 return self.fail(why)
         return self
 
-    def wrong(self, answer, excluded, meant):
-        """What is wrong with an answer, where some paths are given, and these are meant to be excluded."""
+    def named(self, paths):
+        """What these paths name."""
+        return Excluded(paths)
+
+    def wrong(self, answer, named, meant):
+        """What is wrong with an answer, where some paths are given, and these are meant to be excluded or included."""
         status = 3 if meant.back(self.original) else 0
-        lives = OWN_LIFE.findall(answer.stderr)
-        if answer.returncode != status or answer.stderr.count(b"warning") != len(lives):
+        warnings = OWN_LIFE.findall(answer.stderr) + FILE_PARENT.findall(answer.stderr)
+        if answer.returncode != status or answer.stderr.count(b"warning") != len(warnings):
             return f"the status is {answer.returncode}, and {status} is meant: {answer.stderr.decode()}"
         if status and answer.stdout:
             return f"something is written with status {status}"
-        why = self.wrong_added(answer.stderr, excluded, meant)
+        why = self.wrong_added(answer.stderr, named, meant)
         if why or status == 3:
             return why or self.wrong_back(answer.stderr, meant)
         return self.wrong_deleted(answer, meant) or self.wrong_output(answer, meant)
@@ -776,10 +820,10 @@ class Cut(Trial):
 
     def wrong_back(self, told, meant):
         """Each place that is listed has to be one, and all that copies bring back is at or below one."""
-        back, places, said = meant.back(self.original), listed(BACK, told), BACK_COUNT.search(told)
+        back, places, said = meant.back(self.original), listed(BACK, told), self.back_count.search(told)
         if not said or int(said[1]) != len(places):
             return f"{len(places)} places are listed: {told.decode()}"
-        self.added = int(said[2])
+        self.added = int(said[2] or 0)
         if not set(places) <= set(back):
             return f"nothing is brought back in {set(places) - set(back)}"
         found = Excluded(it.target for it in places)
@@ -838,6 +882,19 @@ class Cut(Trial):
         self.verdicts.append("cut and equal, with deletes" if meant.deleted(self.original) else "cut and equal")
         return None
 
+    def wrong_dropped(self, built, meant):
+        """With --drop-empty-revs the new repository lacks the emptied revisions, and is else the same."""
+        it = ran(built["cut"], *self.words, "--drop-empty-revs", given=self.dump)
+        own = type(meant)(meant.paths)
+        own.options = [*own.options, "--drop-empty-revs"]
+        with tempfile.TemporaryDirectory(dir=MEMORY) as folder:
+            loaded, why = load(folder, it.stdout, [], options=["--ignore-uuid"])
+            why = why or Meant(self.original, own).wrong(loaded)
+        if it.returncode or why:
+            return f"with --drop-empty-revs the status is {it.returncode}: {why}"
+        self.verdicts.append("cut and equal, with dropped revisions")
+        return None
+
     def wrong_dry(self, built, answer):
         """A dry run has to answer the same, and to write nothing."""
         it = ran(built["cut"], *self.words, given=self.dump)
@@ -845,6 +902,53 @@ class Cut(Trial):
             return f"a dry run's status is {it.returncode}, with {len(it.stdout)} bytes: {it.stderr.decode()}"
         self.verdicts.append("dry and alike")
         return None
+
+
+class CutIncluded(Cut):
+    """The same of paths that are included."""
+
+    side, back_count = "include", SOURCES_COUNT
+
+    def named(self, paths):
+        return Included(paths)
+
+    def wrong_added(self, told, named, meant):
+        """The listed paths have to be those that are meant, and what else is excluded has to be beside them."""
+        added = list(INCLUDED.finditer(told))
+        copies = [Copy(int(it["revision"]), it["source"], int(it["number"]), it["target"]) for it in added]
+        paths = [it["path"] for it in added]
+        if paths != sorted(paths) or paths != [it.source for it in copies]:
+            return f"{paths} are not sorted, or not the sources of {copies}"
+        if not all(any(it in some for _, some in self.original.copies) for it in copies):
+            return f"no copy takes one of {copies}"
+        found = Included({*named.paths, *paths})
+        if not all(map(meant.covers, found.paths)) or not all(map(found.covers, meant.paths)):
+            return f"{sorted(found.paths)} are included, and {sorted(meant.paths)} are meant"
+        said = [int(it) for it in INCLUDED_COUNT.findall(told)]
+        if said != ([len(added)] if added else []) or self.added and meant is not named and self.added != len(added):
+            return f"{len(added)} paths are listed, {said} are announced, and {self.added} were without --follow-copies"
+        return self.wrong_parents(told, meant) or self.wrong_others(told, meant)
+
+    def wrong_parents(self, told, meant):
+        """A directory above included paths that is a file at the end of a revision is reported, with the first of them."""
+        said = {path: int(revision) for path, revision in FILE_PARENT.findall(told)}
+        for number, tree in enumerate(self.original.trees):
+            for path, node in tree.items():
+                if node.text is not None and meant.is_above(path) and not said.get(path, number + 1) <= number:
+                    return f"{path.decode()} is a file in r{number}: {told.decode()}"
+        return None
+
+    def wrong_others(self, told, meant):
+        """No path is listed as excluded that is meant to be kept, and each other one is at or below a listed one."""
+        others = OTHERS.search(told)
+        if b"nothing written" in told:
+            return None
+        paths = [it[3:] for it in others[2].splitlines()] if others else []
+        if others and int(others[1].replace(b",", b"")) != len(paths) or any(map(meant.keeps, paths)):
+            return f"{paths} are listed as excluded"
+        found = Excluded(paths)
+        left = [it for tree in self.original.trees for it in tree if found.keeps(it) and not meant.keeps(it)]
+        return f"{left[0].decode()} is not excluded" if left else None
 
 
 class CutOther(Trial):
@@ -870,7 +974,8 @@ class CutOther(Trial):
 
     def wrong(self, it, original, folder):
         """The same, where the dump gives this history."""
-        meant = Excluded(canonical(path) for path in self.words if path[0] != "-" and path != "exclude")
+        named = {"exclude": Excluded, "include": Included}[self.words[0]]
+        meant = named(canonical(path) for path in self.words[1:] if path[0] != "-")
         if "--follow-copies" in self.words:
             meant = meant.followed(original)
         status = 3 if meant.back(original) else 0
@@ -981,10 +1086,12 @@ def cut_runs(name, original, dumps, chance):
     """The runs of svndumpcut over a repository, and over parts of its history."""
     runs = []
     for place in range(CUTS):
-        given = cut_prefixes(original, chance)
-        runs.append(Cut(f"{name}-{place}", original, chance.choice(dumps), given, place))
+        for kind in Cut, CutIncluded:
+            given = cut_prefixes(original, chance)
+            runs.append(kind(f"{name}-{kind.side}-{place}", original, chance.choice(dumps), given, place))
     for place, dump in enumerate([*parts_of(original, chance), *dumps_with_gaps(original, dumps, chance)]):
-        words = ["exclude", *chance.choice([[], ["--follow-copies"]]), *cut_prefixes(original, chance)]
+        side = chance.choice(["exclude", "include"])
+        words = [side, *chance.choice([[], ["--follow-copies"]]), *cut_prefixes(original, chance)]
         runs.append(CutOther(f"{name}-other-{place}", original, dump, words))
     return runs
 

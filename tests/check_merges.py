@@ -4,8 +4,8 @@
     tests/check_merges.py
 
 A repository with a trunk, branches, a tag and earlier merges is made by svn; one of its directories has a secret, and so have
-the copies of it. svndumpcut excludes that with --follow-copies, with all revisions kept and with emptied ones dropped, from a
-dump without deltas and from one with them. In the original and in the loaded cut the trunk is then merged into each branch,
+the copies of it. svndumpcut excludes that with --follow-copies, or includes what is beside it in the trunk and in the
+branches, with all revisions kept and with emptied ones dropped, from a dump without deltas and from one with them. In the original and in the loaded cut the trunk is then merged into each branch,
 and a branch back into the trunk: the lines of svn status, but for excluded paths, and all files have to be the same, with no
 conflict. Where Subversion is not installed, the test is left out and says so. The last line is 'N passed, M failed'.
 """
@@ -20,6 +20,11 @@ from repository import ended, lacking, programs
 TOOLS = ("svn", "svnadmin")
 SECONDS = 120
 SECRET = "trunk/vendor/secret"
+# the calls that leave the secret out
+CALLS = [
+    ["exclude", "--follow-copies", SECRET],
+    ["include", *(f"{top}/{name}" for top in ("trunk", "branches/one", "branches/two") for name in ("main", "lib"))],
+]
 # each merge, from a branch and into one
 MERGES = [("trunk", "branches/one"), ("trunk", "branches/two"), ("branches/one", "trunk")]
 
@@ -102,9 +107,9 @@ def live(work):
     work.commit("Change the second branch.")
 
 
-def wrong(original, folder, options, dump):
+def wrong(original, folder, words, dump):
     """What the loaded cut of a dump does otherwise, if anything."""
-    cut = call(programs()["cut"].built, "exclude", "--follow-copies", "--quiet", *options, SECRET, given=dump)
+    cut = call(programs()["cut"].built, *words, "--quiet", given=dump)
     if b"hunter" in cut:
         return "the secret is still there"
     repository = os.path.join(folder, "cut")
@@ -131,14 +136,14 @@ def main():
         live(original)
         for more in [], ["--deltas"]:
             dump = call("svnadmin", "dump", "-q", *more, repository)
-            for options in [], ["--drop-empty-revs"]:
+            for words in [[*given, *options] for given in CALLS for options in ([], ["--drop-empty-revs"])]:
                 tried += 1
                 own = os.path.join(folder, str(tried))
                 os.mkdir(own)
-                why = wrong(original, own, options, dump)
+                why = wrong(original, own, words, dump)
                 failed += bool(why)
                 if why:
-                    print(f"dump {' '.join(more)}, exclude {' '.join(options)}: {why}")
+                    print(f"dump {' '.join(more)}, {' '.join(words)}: {why}")
     return ended(tried - failed, failed)
 
 

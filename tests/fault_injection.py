@@ -31,6 +31,7 @@ CASES = [
     ("cut", "exclude_would_come_back", []),
     ("cut", "exclude_drops_emptied_revisions", []),
     ("cut", "exclude_in_the_target_alone", []),
+    ("cut", "include_follows_the_source_of_a_part", []),
 ]
 # arguments, and how many threads are started by them: the workers, the cutter and the sequencer
 PLANS = [([], 6), (["--workers", "1"], 3), (["--workers=5", "--window=2"], 7), (["--workers", "64"], 66)]
