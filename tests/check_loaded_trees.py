@@ -20,13 +20,13 @@ the prefixes that the survey suggests: then no copy may stop the filter. (No pat
 names such a path.)
 
 cut: svndumpcut excludes and includes many sets of one to three paths of each dump, without --follow-copies and with it, some
-also with --dry-run and with --drop-empty-revs. Which paths are kept in the end, what copies bring back and what is deleted behind copies is computed here,
-from the original's trees and copies as docs/CUT.md says: the status and the lists have to be as computed. Nothing may be
-written but with status 0. What is written then is loaded into an empty repository, with svnadmin's checks of properties. It
-has to have each revision of the original with its number and its properties, and its tree with the kept paths alone, and
-no text that only excluded files have. The same is done with parts of each history, and with dumps whose numbers have gaps,
-which svndumpfilter makes: there the original is what svnadmin loads of them, and nothing may be written of a dump that it
-rejects. If it rejects the mergeinfo alone, the cut is not judged.
+also with --dry-run and with --drop-empty-revs. Which paths are kept in the end, what copies bring back and what is deleted
+behind copies is computed here, from the original's trees and copies as docs/CUT.md says: the status and the lists have to be
+as computed. Nothing may be written but with status 0. What is written then is loaded into an empty repository, with
+svnadmin's checks of properties. It has to have each revision of the original with its number and its properties, and its
+tree with the kept paths alone, and no text that only excluded files have. The same is done with parts of each history, and
+with dumps whose numbers have gaps, which svndumpfilter makes: there the original is what svnadmin loads of them, and nothing
+may be written of a dump that it rejects. If it rejects the mergeinfo alone, the cut is not judged.
 
 The files of a failed run are kept in build/loaded_trees. Where Subversion is not installed, the test is left out and says
 so. The last line is 'N passed, M failed'.
