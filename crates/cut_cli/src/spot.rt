@@ -1,7 +1,7 @@
 //! Where a record of a dump is, and what it is about.
 use dump_index::Source;
-use dump_nodes::bare_path;
 use dump_records::{Cut, Cutter, Record, RecordKind};
+use dump_rules::bare_path;
 
 /// A record of a dump, or the place after the last one.
 #[derive(Clone, Copy)]

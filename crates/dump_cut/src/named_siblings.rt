@@ -12,9 +12,8 @@ use crate::canonical::{is_node_name, push_name};
 use crate::excluded::Excluded;
 use crate::siblings::is_in_cut;
 use dump_digest::{is_mergeinfo, properties_of};
-use dump_nodes::{merge_path_of, without_lf};
 use dump_records::{Cut, Cutter, Record};
-use dump_rules::Memory;
+use dump_rules::{Memory, merge_path_of, without_lf};
 use dump_text::Props;
 use std::alloc::Global;
 

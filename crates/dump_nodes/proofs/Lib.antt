@@ -1,6 +1,5 @@
 mod Prelude
 pub mod ActionLemmas
-pub mod MergeLineLemmas
 pub mod NameLemmas
 pub mod NodeLemmas
 pub mod PlainLemmas

@@ -14,7 +14,7 @@ pub use Rattle.dump_records.specs.RecordText.{DumpRecord}
 pub use Rattle.dump_records.specs.steps.CutRecords.{EndsAfter, IsRecordOf}
 pub use Rattle.dump_records.specs.steps.CutterState.{CutterState}
 pub use Rattle.dump_records.specs.steps.RecordViews.{CutStep, part_of_node, record_item, record_number}
-pub use Rattle.dump_rules.specs.Prefix.{bare_path, without_leading_slashes, without_trailing_slashes}
+pub use Rattle.dump_rules.specs.Prefix.{bare_path}
 pub use Rattle.dump_history.specs.Findings.{IsReadBlock}
 pub use Rattle.dump_history.specs.RecordChanges.{Patching, MakesChange, is_plain_line}
 pub use Rattle.dump_text.proofs.BlockLemmas.{has_value}

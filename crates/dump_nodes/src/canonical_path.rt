@@ -4,7 +4,7 @@ ghost use Rattle.dump_trees.specs.Paths.{is_short};
 ghost use Rattle.dump_nodes.specs.steps.Names.{name_with, is_whole, are_short_from};
 ghost use Rattle.dump_nodes.specs.declared.canonical_path.Name.TheVariants.{Empty};
 
-use crate::slashes::bare_path;
+use dump_rules::bare_path;
 
 /// What a name is, as far as it was read.
 #[derive(Clone, Copy)]

@@ -3,8 +3,7 @@
 //! [`action_of`] reads what the node does at its path, [`path_of`], [`copy_path_of`] and
 //! [`copy_revision_of`] where it does so, and [`kind_of`] and [`is_whole_file`] what it is.
 //! [`has_plain_texts`] and [`has_odd_delta`] find the nodes whose change isn't modelled.
-//! [`is_canonical`], [`bare_path`] and [`bare_prefix`] are about paths and prefixes as texts,
-//! [`merge_path_of`] and [`without_lf`] about the lines of mergeinfo.
+//! [`is_canonical`] is about the path as a text.
 //!
 //! ```
 //! let action = action_of(item);
@@ -13,15 +12,14 @@
 //! action.makes() && !action.deletes() && path == B && source == A && copy_revision_of(item) == 1
 //! ```
 //!
-//! `tests::is_copied` runs this on a node that copies `a` of revision 1 to `b`; `A` and `B` are these paths.
-//! Paths and prefixes are read so:
+//! `tests::is_copied` runs this on a node that copies `a` of revision 1 to `b`; `A` and `B` are these paths, and
+//! `bare_path` is of `dump_rules`. Of paths, these are canonical or not:
 //!
 //! ```
-//! assert!(rt; bare_prefix(b"//a/") == A && bare_path(b"/b") == B);
 //! assert!(rt; is_canonical(b"/a/b") && !is_canonical(b"a/./b") && !is_canonical(b"a/"));
 //! ```
 //!
-//! `tests::slashes_at_the_ends_do_not_count` runs this.
+//! `tests::names_between_single_slashes_are_canonical` runs this.
 //!
 //! Lines of a record are looked up by their names. Each question takes a search through the lines, but for
 //! those that the cutter kept. Nothing is allocated.
@@ -29,17 +27,13 @@
 
 mod action;
 mod canonical_path;
-mod merge_lines;
 mod node;
 mod plain_texts;
-mod slashes;
 
 pub use action::{Action, action_of, has_odd_delta, kind_of};
 pub use canonical_path::is_canonical;
-pub use merge_lines::{merge_path_of, without_lf};
 pub use node::{copy_path_of, copy_revision_of, is_copy, is_whole_file, makes_copy, path_of};
 pub use plain_texts::has_plain_texts;
-pub use slashes::{bare_path, bare_prefix};
 
 #[cfg(test)]
 mod tests;

@@ -23,7 +23,14 @@
 //! }
 //! ```
 //!
-//! `tests::prefixes::keeps_five_thousand` runs this.
+//! `tests::prefixes::keeps_five_thousand` runs this. [`bare_path`] and [`bare_prefix`] give what is compared:
+//!
+//! ```
+//! let prefix = bare_prefix(b"//trunk/");
+//! let path = bare_path(b"/trunk/a");
+//! ```
+//!
+//! `tests::slashes_at_the_ends_do_not_count` runs this.
 //!
 //! A [`Reach`] is the table of the revisions that were kept so far. Renumbering closes the gaps: kept
 //! revisions count up from the dump's first number, whether or not that revision was kept. A dropped
@@ -52,7 +59,8 @@
 //! `tests::has_images` runs this.
 //!
 //! [`merge_reads`] says whether a value of `svn:mergeinfo` is lines of a path, a colon and ranges of
-//! revisions, as `/trunk:1-4,6*`. No line may have a revision both with `*` and without.
+//! revisions, as `/trunk:1-4,6*`. No line may have a revision both with `*` and without. [`without_lf`]
+//! gives the value without an LF at its end, and [`merge_path_of`] the path of one of its lines.
 //!
 //! [`rewrite`] gives the new value: the lines whose paths are kept, each with the runs of its map, in
 //! new numbers if revisions are renumbered. [`laws`] says that a map has no other spelling. Two faults
@@ -96,8 +104,9 @@ mod runs;
 
 pub use memory::Memory;
 pub use merged::{Bounds, Merged};
-pub use mergeinfo::merge_reads;
+pub use mergeinfo::{merge_path_of, merge_reads, without_lf};
 pub use options::{Empty, Options, Side, keeps};
+pub use prefix::{bare_path, bare_prefix};
 pub use reach::Reach;
 pub use rewriting::{RewriteFault, new_value, rewrite};
 

@@ -6,7 +6,7 @@ ghost use Rattle.dump_rules.specs.Mergeinfo.{HasMergeLines};
 ghost use Rattle.dump_rules.specs.steps.RewrittenLines.{text_lines, value_foreign, value_misses};
 ghost use Rattle.dump_rules.specs.steps.ReadRanges.{range_of, span_range};
 
-use crate::mergeinfo::{colon_end, cut_lf};
+use crate::mergeinfo::{colon_end, without_lf};
 use crate::options::{Options, keeps};
 use crate::ranges::{Span, list_reads, range};
 use crate::runs::cut_at;
@@ -99,7 +99,7 @@ impl Merged {
         ensures numbers { (first now : ℕ) → IfSome result (λ m. is_outside options.now first now m.numbers
             ≡ (is_outside options.now first now self.numbers || value_foreign options.now first now value.now)) }
     {
-        self.with_text(cut_lf(value), options)
+        self.with_text(without_lf(value), options)
     }
 
     /// What these values and the lines of a text say.

@@ -18,8 +18,8 @@ pub(crate) fn colon_end(line: &[u8]) -> usize
     place
 }
 
-/// The path of a line.
-pub(crate) fn path_of(line: &[u8]) -> &[u8]
+/// The path of a line of mergeinfo, which reaches to its last colon.
+pub fn merge_path_of(line: &[u8]) -> &[u8]
     ensures { result.now ≡ line_path line.now }
 {
     &line[..colon_end(line).saturating_sub(1)]
@@ -54,8 +54,8 @@ fn lines_read(text: &[u8]) -> bool
     text.is_empty() || parts_read(text)
 }
 
-/// The value without an LF at its end.
-pub(crate) fn cut_lf(value: &[u8]) -> &[u8]
+/// The value of mergeinfo without an LF at its end: its lines, with LFs between them.
+pub fn without_lf(value: &[u8]) -> &[u8]
     ensures { result.now ≡ without_lf value.now }
 {
     value.strip_suffix(b"\n").unwrap_or(value)
@@ -67,5 +67,5 @@ pub(crate) fn cut_lf(value: &[u8]) -> &[u8]
 pub fn merge_reads(value: &[u8]) -> bool
     ensures { IsTrue result ↔ HasMergeLines value.now }
 {
-    lines_read(cut_lf(value))
+    lines_read(without_lf(value))
 }

@@ -5,7 +5,7 @@ ghost use Rattle.dump_rules.specs.Prefix.{matches_path};
 ghost use Rattle.dump_rules.specs.Settings.{keeps_path};
 
 use crate::memory::Memory;
-use crate::prefix::trim_path;
+use crate::prefix::bare_path;
 use crate::prefix_index::IndexedPrefixes;
 use std::alloc::Global;
 use std::marker::Model;
@@ -59,7 +59,7 @@ impl Options {
     pub(crate) fn has_match(&self, path: &[u8]) -> bool
         ensures { result ≡ list_any (λ prefix. matches_path prefix path.now) self.now.prefixes }
     {
-        self.prefixes.begin(trim_path(path))
+        self.prefixes.begin(bare_path(path))
     }
 
     /// Options with copies of the prefixes.

@@ -24,8 +24,8 @@ fn trim_end(text: &[u8]) -> &[u8]
     rest
 }
 
-/// A path without one leading slash, if it has one.
-pub(crate) fn trim_path(path: &[u8]) -> &[u8]
+/// The path without one leading slash, if it has one. A dump may spell paths either way.
+pub fn bare_path(path: &[u8]) -> &[u8]
     ensures { result.now ≡ bare_path path.now }
 {
     match path {
@@ -34,8 +34,8 @@ pub(crate) fn trim_path(path: &[u8]) -> &[u8]
     }
 }
 
-/// The prefix without the slashes at both its ends.
-pub(crate) fn trim_slashes(prefix: &[u8]) -> &[u8]
+/// The prefix without the slashes at both its ends: the filter compares prefixes so.
+pub fn bare_prefix(prefix: &[u8]) -> &[u8]
     ensures { result.now ≡ bare_prefix prefix.now }
 {
     trim_end(trim_front(prefix))

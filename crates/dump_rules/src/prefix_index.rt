@@ -5,7 +5,7 @@ ghost use Rattle.dump_rules.specs.Prefix.{bare_prefix, begins_path};
 ghost use Rattle.dump_rules.specs.steps.PrefixSearch.{bare_at};
 
 use crate::memory::Memory;
-use crate::prefix::trim_slashes;
+use crate::prefix::bare_prefix;
 use std::alloc::Global;
 use std::marker::Model;
 
@@ -45,7 +45,7 @@ fn bare_at(prefixes: &[Vec<u8>], place: usize) -> &[u8]
     ensures { result.now ≡ bare_at (map (λ text. text.items) prefixes.now) place }
 {
     match prefixes.get(place) {
-        Some(prefix) => trim_slashes(prefix),
+        Some(prefix) => bare_prefix(prefix),
         None => b"",
     }
 }
@@ -59,7 +59,7 @@ impl IndexedPrefixes {
         let mut index = Vec::new(alloc);
         let mut longest = 0;
         for (place, prefix) in prefixes.iter().enumerate() {
-            longest = trim_slashes(prefix).len().max(longest);
+            longest = bare_prefix(prefix).len().max(longest);
             index.push(place)?;
         }
         let given = texts.as_slice();

@@ -13,7 +13,7 @@ ghost use Rattle.dump_rules.specs.steps.Runs.{HaveNumbers, runs_of};
 
 use crate::memory::Memory;
 use crate::merged::Merged;
-use crate::mergeinfo::{cut_lf, list_of, path_of};
+use crate::mergeinfo::{list_of, merge_path_of, without_lf};
 use crate::options::{Options, keeps};
 use crate::ranges::{Span, range};
 use crate::reach::Reach;
@@ -79,7 +79,7 @@ fn push_line(
     requires reads { line_reads line.now ≡ true }
     ensures { OnOk result (out.new.items ≡ with_new_line options.now reach.now out.old.items line.now) }
 {
-    let path = path_of(line);
+    let path = merge_path_of(line);
     if !keeps(options, path) {
         return Ok(());
     }
@@ -137,7 +137,7 @@ pub fn new_value(
 {
     // a read, which says that the kept revisions rise
     let _first = reach.first();
-    new_text(alloc, cut_lf(value), options, reach)
+    new_text(alloc, without_lf(value), options, reach)
 }
 
 /// The [`new_value`], or the fault of the value. `now` is the present revision, and `reach` has those kept up to it. A

@@ -1,5 +1,8 @@
 //! What no clause says: worked examples, each call once, and memory that is refused.
-use crate::{Empty, Memory, Options, Reach, Side, merge_reads};
+use crate::{
+    Empty, Memory, Options, Reach, Side, bare_path, bare_prefix, merge_path_of, merge_reads,
+    without_lf,
+};
 use std::alloc::{AllocError, Global};
 use std::process::Abort;
 use std::test::Fail;
@@ -141,4 +144,17 @@ fn long_lists_of_both_kinds_in_any_order(rt: HostRuntime) -> Result<(), Fail> {
     let list = falling(rt.alloc(), 1000, 200)?;
     assert!(rt; are_read_between(rt.alloc(), list.as_str(), &rows)?);
     Ok(())
+}
+
+#[test]
+fn slashes_at_the_ends_do_not_count(rt: HostRuntime) {
+    let prefix = bare_prefix(b"//trunk/");
+    let path = bare_path(b"/trunk/a");
+    assert!(rt; prefix == b"trunk".as_slice() && path == b"trunk/a".as_slice());
+}
+
+#[test]
+fn the_path_of_a_line_may_have_colons(rt: HostRuntime) {
+    let path = merge_path_of(without_lf(b"/a:b:1-4\n"));
+    assert!(rt; path == b"/a:b".as_slice());
 }

@@ -5,8 +5,7 @@ ghost use Rattle.dump_survey.specs.KeepAsWell.{AreKeptAsWellIn, uncovered};
 use crate::growth::wanted_paths;
 use crate::needs::needs_in;
 use crate::prefix_set::PrefixSet;
-use dump_nodes::bare_prefix;
-use dump_rules::{Memory, Options, Side};
+use dump_rules::{Memory, Options, Side, bare_prefix};
 use std::alloc::Global;
 
 /// Those of the paths that no later one covers, in their order.

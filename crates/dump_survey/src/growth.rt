@@ -5,8 +5,7 @@ ghost use Rattle.dump_survey.specs.steps.Needs.{AreNeeded, IsPass, each_matches_
 
 use crate::needs::Need;
 use crate::prefix_set::PrefixSet;
-use dump_nodes::bare_path;
-use dump_rules::{Memory, Options, Side, keeps};
+use dump_rules::{Memory, Options, Side, bare_path, keeps};
 use std::alloc::Global;
 use std::marker::Model;
 

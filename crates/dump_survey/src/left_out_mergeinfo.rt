@@ -7,9 +7,8 @@ ghost use Rattle.dump_survey.specs.LeftOutMergeinfo.{AreLeftOutIn, AreLeftOutOf,
 ghost use Rattle.dump_survey.specs.steps.LeftOutCounts.{properties_count, property_count, text_lines_count, value_count};
 
 use dump_digest::{is_kept, is_mergeinfo, properties_of};
-use dump_nodes::{merge_path_of, without_lf};
 use dump_records::{Cut, Cutter, Record};
-use dump_rules::{Options, keeps, merge_reads};
+use dump_rules::{Options, keeps, merge_path_of, merge_reads, without_lf};
 use dump_text::{Entry, Props};
 
 /// How many lines of a text have a path that isn't kept.

@@ -7,9 +7,9 @@ ghost use Rattle.dump_survey.specs.KeepAsWell.{matches_itself};
 ghost use Rattle.dump_survey.specs.steps.Needs.{can_not_stand, need_of, need_view, needs_of};
 
 use crate::prefixes::begins_path;
-use dump_nodes::{bare_path, bare_prefix, copy_path_of, is_copy, is_whole_file, path_of};
+use dump_nodes::{copy_path_of, is_copy, is_whole_file, path_of};
 use dump_records::{Cut, Cutter, Record};
-use dump_rules::{Memory, Side};
+use dump_rules::{Memory, Side, bare_path, bare_prefix};
 use std::alloc::Global;
 
 /// What a copy needs: if a prefix matches the first path, one has to match the second.

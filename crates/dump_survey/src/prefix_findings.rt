@@ -5,11 +5,9 @@ ghost use Rattle.dump_survey.specs.PrefixFindings.{prefix_view};
 ghost use Rattle.dump_survey.specs.steps.IdlePrefixes.{AreWithout, finding_by, is_begun_by, is_below_copy, is_touched_by, prefixes_by};
 
 use crate::prefix_set::PrefixSet;
-use dump_nodes::{
-    bare_path, bare_prefix, copy_path_of, is_canonical, is_copy, makes_copy, path_of,
-};
+use dump_nodes::{copy_path_of, is_canonical, is_copy, makes_copy, path_of};
 use dump_records::Record;
-use dump_rules::Memory;
+use dump_rules::{Memory, bare_path, bare_prefix};
 use std::alloc::Global;
 
 /// What can be found in a prefix.

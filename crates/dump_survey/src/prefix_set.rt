@@ -6,8 +6,7 @@ ghost use Rattle.dump_survey.specs.steps.Folders.{BeginSame, HaveSame};
 ghost use Rattle.dump_survey.specs.steps.IdlePrefixes.{AreWithout, is_among};
 
 use crate::prefixes::begins_path;
-use dump_nodes::bare_prefix;
-use dump_rules::Memory;
+use dump_rules::{Memory, bare_prefix};
 use std::alloc::Global;
 use std::collections::BTreeSet;
 use std::marker::Model;

@@ -8,8 +8,7 @@ ghost use Rattle.dump_history.specs.Findings.{cuts};
 ghost use Rattle.dump_survey.specs.CuttingPrefix.{first_cut};
 ghost use Rattle.dump_survey.specs.steps.Prefixes.{behind_slash, is_below, IsRestBelow, cuts_below};
 
-use dump_nodes::{bare_path, bare_prefix};
-use dump_rules::{Memory, Options, Side, keeps};
+use dump_rules::{Memory, Options, Side, bare_path, bare_prefix, keeps};
 use std::alloc::Global;
 use std::marker::Model;
 

@@ -27,8 +27,7 @@ use crate::prefix_lines::push_prefix_lines;
 use crate::surveyor::{End, SurveyEnd};
 use crate::told::{SurveyedNode, Told};
 use crate::whole_finding::WholeFinding;
-use dump_nodes::bare_path;
-use dump_rules::{Memory, Side};
+use dump_rules::{Memory, Side, bare_path};
 use dump_text::{FaultKind, spell};
 use std::alloc::Global;
 

@@ -5,5 +5,5 @@ use Rattle.dump_rules.proofs.mergeinfo.merge_reads.Goals as goal
 pub returns : goal.returns
 returns c =
     subst (λ (t : Bool). IsTrue t ↔ HasMergeLines c.args.value.now)
-    (sym (c.lines_read.ensures ∙ ap lines_read c.cut_lf.ensures))
+    (sym (c.lines_read.ensures ∙ ap lines_read c.without_lf.ensures))
     (reads_exactly c.args.value.now)

@@ -6,7 +6,7 @@ use Rattle.dump_rules.proofs.rewriting.new_value.Goals as goal
 
 pub new_text-requires-clause-reads : goal.new_text-requires-clause-reads
 new_text-requires-clause-reads c =
-    ap lines_read c.cut_lf.ensures ∙ (reads_exactly c.args.value.now).1 (has_lines c.args.value.now c.requires.reads)
+    ap lines_read c.without_lf.ensures ∙ (reads_exactly c.args.value.now).1 (has_lines c.args.value.now c.requires.reads)
 
 pub returns : goal.returns
 returns c =
@@ -14,6 +14,6 @@ returns c =
     IfOk-weaker c.new_text.result _ _
     (λ v is. subst (IsNewMergeinfo c.args.options.now c.args.reach.now c.args.value.now)
     (sym (is ∙ ap (λ (t : List ℕ). with_new_lines c.args.options.now c.args.reach.now []
-    (text_lines t)) c.cut_lf.ensures))
+    (text_lines t)) c.without_lf.ensures))
     (new_value c.args.options.now c.args.reach.now c.first-first.ensures.rising c.args.value.now has.0 has.1))
     c.new_text.ensures

@@ -5,7 +5,7 @@ use Rattle.dump_rules.proofs.merged.Merged.with.Goals as goal
 
 -- what the text of the value says
 said : (c : goal.After-with_text) → c.with_text.result ≡ text_merged c.args.options.now c.args.self c.args.value.now
-said c = c.with_text.ensures ∙ ap (λ t. lines_merged c.args.options.now c.args.self (text_lines t)) c.cut_lf.ensures
+said c = c.with_text.ensures ∙ ap (λ t. lines_merged c.args.options.now c.args.self (text_lines t)) c.without_lf.ensures
 
 pub returns-clause-read : goal.returns-clause-read
 returns-clause-read c =

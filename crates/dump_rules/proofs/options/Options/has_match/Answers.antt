@@ -7,6 +7,6 @@ returns c =
     let path = c.args.path.now in
     c.begin.ensures
     ∙ ap (λ (p : List ℕ). list_any (λ (prefix : List ℕ). begins_path prefix p) (map bare_prefix c.self.inside.prefixes))
-    c.trim_path.ensures
+    c.bare_path.ensures
     ∙ any_mapped bare_prefix (λ (prefix : List ℕ). begins_path prefix (bare_path path)) c.self.inside.prefixes
     ∙ ap (λ (s : Settings). list_any (λ (prefix : List ℕ). matches_path prefix path) s.prefixes) c.self.view_is

@@ -11,9 +11,9 @@ loop-place-preserved c =
     let given : List (List ℕ) = map (λ prefix. prefix.now) c.args.prefixes.now in
     let place = c.loop-place.place in
     let low : place < length given = omega (arith, length-map c.args.prefixes.now (λ (p : Bor (List ℕ)). p.now)) in
-    let same : bare_at given place ≡ c.trim_slashes.result.now =
+    let same : bare_at given place ≡ c.bare_prefix.result.now =
     ap bare_prefix (get_or-map (λ (p : Bor (List ℕ)). p.now) c.args.prefixes.now place _ [] c.loop-place-test.true)
-    ∙ sym c.trim_slashes.ensures in
+    ∙ sym c.bare_prefix.ensures in
     record {
       all = rw (c.in_ok-push.ensures.items) (place_more given c.loop-place.index.items place low c.loop-place.invariant.all);
       within = within_more given place c.loop-place.longest c.max-longest.result low (omega arith)
