@@ -1,5 +1,5 @@
 -- Each move on a pool's queue of credits keeps its rule.
-use Rattle.dump_lanes.proofs.Prelude.{◌≡◌, ◌≢◌, ◌≤◌, ℕ, ◌+◌, suc, true, true≢false, List, [], ◌∷◌, ◌++◌, length, set, sym, refl, ap, ◌∙◌, subst, arith, lt-ltb, ltb-true, length-append, Purse, Move, Thread, credits_share, credits_allow, event_of, steps_of, CreditStep, draw_step, back_step, drawn_in, back_in, purse, after_first, after_draw, after_back, cutter_purse, writer_purse, joined_purse, spent_purse, IsCreditQueue}
+use Rattle.dump_lanes.proofs.Prelude.{◌≡◌, ◌≢◌, ◌≤◌, ℕ, ◌+◌, suc, true, true≢false, List, [], ◌∷◌, ◌++◌, length, set, sym, refl, ap, ◌∙◌, subst, arith, lt-ltb, ltb-true, length-append, Purse, Move, Thread, credits_share, credits_allow, event_of, steps_of, CreditStep, draw_step, back_step, drawn_in, back_in, first_purse, after_first, after_draw, after_back, cutter_purse, writer_purse, joined_purse, spent_purse, IsCreditQueue}
 use Rattle.std.proofs.Common.{IsTrue, length-set}
 use mathlib.Core.Option.{some}
 use lib.ListN.{get_elem?}
@@ -53,13 +53,13 @@ module _ {T : Type 0} where
   length_more items x = length-append items (x ∷ [])
 
   -- an empty queue
-  pub begins : IsCreditQueue {T = T} [] (purse true true 0 0 0 [] ∷ [])
+  pub begins : IsCreditQueue {T = T} [] (first_purse 0 ∷ [])
   begins = record {
     owner = λ t. 0;
     first = 0;
     happened = [];
     steps = refl;
-    fits = AllViews-one (Fits (λ t. 0) 0 []) (purse true true 0 0 0 []) record {
+    fits = AllViews-one (Fits (λ t. 0) 0 []) (first_purse 0) record {
       draws = λ d. (λ t ne. refl, refl);
       gives = λ g. (refl, refl, refl);
       knows = record { own = λ t e. refl; others = λ t ne. refl };

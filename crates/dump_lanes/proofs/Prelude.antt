@@ -30,7 +30,7 @@ pub use Rattle.dump_lanes.specs.RunSteps.{CreditsAt, DonesAt, EveryRunMakesSteps
 pub use Rattle.dump_lanes.specs.StepMoves.{CreditsMoveOne, DonesMoveOne, JobsMoveOne, Joins, Leaves, PiecesMoveOne, WordOnlyRises}
 pub use Rattle.dump_lanes.specs.StopRule.{is_event}
 pub use Rattle.dump_lanes.specs.steps.ArrivalRows.{Row, held}
-pub use Rattle.dump_lanes.specs.steps.CreditQueue.{IsCreditQueue, after_back, after_draw, after_first, back_in, back_step, cutter_purse, draw_step, drawn_in, joined_purse, purse, spent_purse, writer_purse}
+pub use Rattle.dump_lanes.specs.steps.CreditQueue.{IsCreditQueue, after_back, after_draw, after_first, back_in, back_step, cutter_purse, draw_step, drawn_in, first_purse, joined_purse, purse, spent_purse, writer_purse}
 pub use Rattle.dump_lanes.specs.steps.DoneQueue.{IsDoneQueue, arrive_step, give_step, sequencer_crew}
 pub use Rattle.dump_lanes.specs.steps.JobQueue.{IsJobQueue, after_ends, after_job, cut_event, cutter_crew}
 pub use Rattle.dump_lanes.specs.steps.LaneEnds.{IsWholeAtEnd, LaneEnd}

@@ -8,7 +8,7 @@ ghost use Rattle.dump_lanes.specs.steps.SlotViews.{slot_places};
 ghost use Rattle.dump_writer.specs.SinkWords.{IsPrefixOf};
 ghost use Rattle.dump_pipeline.specs.steps.JoinedNumbers.{AreFirstItems, sequenced_numbers, sequenced_of, written_numbers};
 ghost use Rattle.dump_pipeline.specs.steps.Messages.{text_of};
-ghost use Rattle.dump_pipeline.specs.steps.Parts.{HasCut, HasCutFrom, HasWorked, HasSequenced, HasSequencedFrom, HasReceived, CountsFailed, is_failure};
+ghost use Rattle.dump_pipeline.specs.steps.Parts.{HasCut, HasCutFrom, HasWorked, HasSequencedFrom, IsSequenced, HasReceived, CountsFailed, is_failure};
 ghost use Rattle.dump_pipeline.specs.RunAnswer.{RunLeaves, SinkFailsOnly};
 
 use crate::answer::{Answer, Failure};
@@ -120,7 +120,7 @@ pub fn conclude<'a, D: Run>(words: &Words, joined: Joined<'a, D>) -> Answer
     requires cut { joined.cutter.shut.seen ≡ false → HasCut D.dump (job_port joined.cutter.port) joined.cutter.seat.seen }
     requires sequencer { (done_port joined.sequencer).pool ≡ (job_port joined.cutter.port).pool }
     requires ended { (done_port joined.sequencer).ended ≡ true }
-    requires sequenced { HasSequenced D.settings D.dump (credit_port joined.writer).window (done_port joined.sequencer).taken (sent joined.put.value).put joined.end joined.stray }
+    requires sequenced { IsSequenced D.settings D.dump (credit_port joined.writer).window (sequenced_of joined) }
     requires writer { (credit_port joined.writer).pool ≡ (job_port joined.cutter.port).pool }
     requires back { (credit_port joined.writer).back ≡ length (receiving joined.taken.value).taken }
     requires all { (receiving joined.taken.value).taken ≡ (sent joined.put.value).put }

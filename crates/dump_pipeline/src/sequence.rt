@@ -9,7 +9,7 @@ ghost use Rattle.dump_lanes.specs.steps.SlotViews.{slot_places};
 ghost use Rattle.dump_pipeline.specs.steps.Endings.{ending_of};
 ghost use Rattle.dump_pipeline.specs.steps.Messages.{checked_number, checked_numbers, text_of};
 ghost use Rattle.dump_pipeline.specs.declared.stage.Stage.{Stage as Stages};
-ghost use Rattle.dump_pipeline.specs.steps.Parts.{HasFiltered, HasReleased, HasSequenced, HasSequencedFrom, IsEndOf, IsFreshSequencer, is_failure, stage_end};
+ghost use Rattle.dump_pipeline.specs.steps.Parts.{HasFiltered, HasReleased, EndsAreSequenced, HasSequencedFrom, IsEndOf, IsFreshSequencer, is_failure, stage_end};
 
 use crate::message::{Checked, Job, Last, NumberedPiece, Run};
 use crate::stage::{End, Stage};
@@ -240,7 +240,7 @@ fn release_all<'a, D: Run, R: Wait>(
     ensures pool { (done_port ends.new.port).pool ≡ (done_port ends.old.port).pool }
     ensures lane { (sending ends.new.to).lane ≡ (sending ends.old.to).lane }
     ensures seat { ends.new.seat ≡ record ends.old.seat { raised = is_failure result.0 } }
-    ensures sequenced { HasSequenced D.settings D.dump (length (slot_places ends.old.slots)) (done_port ends.new.port).taken (sending ends.new.to).put result.0 result.1 }
+    ensures sequenced { EndsAreSequenced D.settings D.dump ends.old ends.new result }
     ensures ended { result.1 ≡ false → (done_port ends.new.port).ended ≡ true }
 {
     let mut next = 0u64;

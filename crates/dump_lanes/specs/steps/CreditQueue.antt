@@ -28,6 +28,10 @@ abbrev pub purse : Bool → Bool → ℕ → ℕ → ℕ → List CreditStep →
 purse draws gives first drawn back steps =
     record { draws = draws; gives = gives; first = first; drawn = drawn; back = back; steps = steps }
 
+-- the pass that does both, before any credit was drawn: it knows how many were there at first
+abbrev pub first_purse : ℕ → Purse
+first_purse first = purse true true first 0 0 []
+
 -- one more credit is there at first; the cutter has drawn one, the writer has given one back
 abbrev pub after_first : Purse → Purse
 after_first v = purse v.draws v.gives (v.first + 1) v.drawn v.back v.steps

@@ -6,7 +6,7 @@ use Rattle.dump_lanes.specs.declared.passes.TheConstants.{PARTS}
 use Rattle.dump_lanes.specs.declared.pool.queues.Queues.{Queues}
 use Rattle.dump_lanes.specs.declared.pool.queues.Passes.{Passes}
 use Rattle.dump_lanes.specs.declared.pool.shares.Shares.{Shares}
-use Rattle.dump_lanes.specs.steps.CreditQueue.{purse}
+use Rattle.dump_lanes.specs.steps.CreditQueue.{first_purse}
 use Rattle.dump_lanes.specs.steps.QueueRule.{leading}
 use Rattle.dump_lanes.specs.steps.PortSides.{PoolName, PoolState}
 
@@ -30,7 +30,7 @@ module _ {J D : Type 0} where
     pub of_credits : IsPassOf q.credits p.credits
     pub jobs : view p.jobs ≡ leading PARTS 0
     pub dones : view p.dones ≡ leading PARTS 0
-    pub credits : view p.credits ≡ purse true true q.window 0 0 []
+    pub credits : view p.credits ≡ first_purse q.window
 
   -- the queues, once for each port
   pub record AreShares (q : Queues J D) (s : Shares J D) : Type 0 where

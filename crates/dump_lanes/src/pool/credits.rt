@@ -32,12 +32,11 @@ pub struct Purse {
 pub struct CreditShares;
 
 impl Protocol<Token, Purse> for CreditShares {
-    ghost use Rattle.std.specs.Prelude.{true, []};
-    ghost use Rattle.dump_lanes.specs.steps.CreditQueue.{purse, IsCreditQueue};
+    ghost use Rattle.dump_lanes.specs.steps.CreditQueue.{first_purse, IsCreditQueue};
 
     ghost holds = { IsCreditQueue };
 
-    ghost first = { purse true true 0 0 0 [] };
+    ghost first = { first_purse 0 };
 }
 
 /// The first pass is cut in two: the left one draws, the right one gives back.

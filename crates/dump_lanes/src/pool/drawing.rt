@@ -1,7 +1,7 @@
 //! Credits, and how they are drawn.
 ghost use Rattle.std.specs.Prelude.{◌≡◌, true, []};
 ghost use Rattle.crossbeam_queue.specs.Passes.{view, IsSamePass, IsPassOf};
-ghost use Rattle.dump_lanes.specs.steps.CreditQueue.{purse};
+ghost use Rattle.dump_lanes.specs.steps.CreditQueue.{first_purse};
 ghost use Rattle.dump_lanes.specs.steps.CreditViews.{HasDrawn, is_stop};
 ghost use Rattle.dump_lanes.specs.steps.StopSeats.{SeesOnlyRaised};
 
@@ -41,9 +41,9 @@ pub fn put_first<R: Wait>(
     count: usize,
 )
     requires pass { IsPassOf queue.now pass.old }
-    requires first { view pass.old ≡ purse true true 0 0 0 [] }
+    requires first { view pass.old ≡ first_purse 0 }
     ensures pass { IsSamePass pass.old pass.new }
-    ensures put { view pass.new ≡ purse true true count 0 0 [] }
+    ensures put { view pass.new ≡ first_purse count }
 {
     for _ in 0..count {
         push::<AddsFirst, _, _, _, R>(rt, queue, bells, pass, Token);

@@ -140,6 +140,20 @@ pub record HasSequenced {D : Type 0} {run : Ghosts D} (settings : Settings) (dum
   pub order : MatchBool stray (Clash window (length put) (checked_numbers taken))
       (IsWaiting (length put) (checked_numbers taken))
 
+-- so of what it gives back, over a row of so many slots
+abbrev pub IsSequenced : {D : Type 0} {run : Ghosts D} → Settings → List ℕ → ℕ
+    → Sequenced (Job D run) (Checked D run) NumberedPiece → Type 0
+IsSequenced settings dump window given =
+    HasSequenced settings dump window (done_port given.port).taken (sent given.sent).put given.end given.stray
+
+-- and of its ends, before and after it worked, with how it ended and whether an item was astray
+abbrev pub EndsAreSequenced : {D : Type 0} {run : Ghosts D} → Settings → List ℕ
+    → SequencerEnds (Job D run) (Checked D run) NumberedPiece → SequencerEnds (Job D run) (Checked D run) NumberedPiece
+    → Option End × Bool → Type 0
+EndsAreSequenced settings dump old new (end, stray) =
+    HasSequenced settings dump (length (slot_places old.slots)) (done_port new.port).taken (sending new.to).put end
+    stray
+
 -- what the sequencer gives back of its ends: it has taken all, and raised the stop where it failed
 pub record HasSequencedFrom {D : Type 0} {run : Ghosts D} (settings : Settings) (dump : List ℕ)
     (ends : SequencerEnds (Job D run) (Checked D run) NumberedPiece) (given : Sequenced (Job D run) (Checked D run) NumberedPiece) : Type 0 where
@@ -147,8 +161,7 @@ pub record HasSequencedFrom {D : Type 0} {run : Ghosts D} (settings : Settings) 
   pub ended : (done_port given.port).ended ≡ true
   pub lane : (sent given.sent).lane ≡ (sending ends.to).lane
   pub seat : given.seat ≡ record ends.seat { raised = is_failure given.end }
-  pub sequenced : HasSequenced settings dump (length (slot_places ends.slots)) (done_port given.port).taken
-      (sent given.sent).put given.end given.stray
+  pub sequenced : IsSequenced settings dump (length (slot_places ends.slots)) given
 
 -- what the sink received of the pieces that the writer took: all, or after a failure their first bytes, and their count
 pub record HasReceived (failed : Bool) (text : List ℕ) (old new : Option (List ℕ)) (written : ℕ) : Type 0 where
