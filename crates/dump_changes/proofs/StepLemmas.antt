@@ -12,12 +12,13 @@ use Rattle.dump_index.specs.declared.change.NodeChange.{NodeChange}
 use Rattle.dump_changes.specs.declared.read.Position.{Position}
 use Rattle.dump_changes.specs.declared.read.Step.TheVariants as steps
 use Rattle.dump_changes.specs.ListedDumps.{AreListedIn, IsOutOfPlace, NodesMake, NoRecord, RevisionRecord, NodeRecord, are_numbered, revision_behind, present_behind, rise_from, takes_nodes}
+use Rattle.dump_changes.specs.NodeProperties.{node_numbers}
 use Rattle.dump_changes.specs.declared.read.End.{End}
 use Rattle.dump_changes.specs.declared.read.Reading.{Reading}
 use Rattle.dump_changes.specs.steps.DumpReading.{EndsReading, IsNext, IsReadingOfDump}
-use Rattle.dump_changes.specs.steps.Reading.{CountsTo, EndsAt, GoesOnFrom, IsBeforeNext, IsCountingStep, IsOutOfPlaceAt, IsReadingStep, counts_on}
+use Rattle.dump_changes.specs.steps.Reading.{CountsTo, EndsAt, GoesOnFrom, IsBeforeNext, IsCountingStep, IsNumberedStep, IsOutOfPlaceAt, IsReadingStep, counts_on}
 use Rattle.std.specs.Global.{Vec}
-use Rattle.std.proofs.Common.{cond, ◌||◌, ◌&&◌, ◌==◌, Bool, MatchBool, ap₂, eqb-true, inl, inr, lt-ltb, nat_le, nat_lt, unwrap_or}
+use Rattle.std.proofs.Common.{cond, ◌||◌, ◌&&◌, ◌==◌, Bool, ap₂, eqb-true, inl, inr, lt-ltb, nat_le, nat_lt, unwrap_or}
 use Rattle.std.proofs.lemmas.Bool.{cases_Bool, or_parts}
 use Rattle.dump_filter.specs.Groups.{revision_number, revision_numbers}
 use Rattle.dump_history.specs.DumpChanges.{counts_from}
@@ -45,12 +46,14 @@ pub record ReadSoFar (dump : List ℕ) (cutter : CutterState) (at : Position) (c
   pub present : present_behind None before ≡ at.present
   pub rises : (records : List DumpRecord)
       → rise_from 0 (revision_numbers (before ++ records)) ≡ rise_from at.next (revision_numbers records)
+  pub nodes : (records : List DumpRecord) → node_numbers 0 (before ++ records)
+      ≡ map (λ (c : NodeChange). c.record_number) changes ++ node_numbers cutter.number records
   pub reads : (patched : Patching) → (placed : List Placed) × AllZip IsListed (map listed_of changes) placed
       × ((records : List DumpRecord) (more : List Placed) → NodesMake patched at.present records more
       → NodesMake patched None (before ++ records) (placed ++ more))
 
 -- a dump begins with no records
-begins_with_none : (dump : List ℕ) → BeginsWithRecords dump []
+pub begins_with_none : (dump : List ℕ) → BeginsWithRecords dump []
 begins_with_none dump =
     let (records, ending, has, once) = each_dump_has_one_list dump in
     begins_prefix dump [] records (has.0, has.1, has.2)
@@ -69,6 +72,10 @@ none_read dump cutter at changes numbers is first none no_number = record {
   numbers_are = λ records. ap (λ ns. ns ++ revision_numbers records) (sym no_number);
   present = sym (ap (λ (p : Position). p.present) first);
   rises = λ records. ap (λ (p : Position). rise_from p.next (revision_numbers records)) (sym first);
+  nodes = λ records.
+      ap (λ (c : CutterState). node_numbers c.number records) (sym is)
+      ∙ ap (λ (cs : List NodeChange). map (λ (c : NodeChange). c.record_number) cs ++ node_numbers cutter.number records)
+      (sym none);
   reads = λ patched. (
     [],
     subst (λ (cs : List NodeChange). AllZip IsListed (map listed_of cs) []) (sym none) tt,
@@ -158,6 +165,20 @@ module _ (dump : List ℕ) (cutter after : CutterState) (at : Position) (changes
         ap revision_numbers (append_assoc so_far.before (record_item item ∷ []) records)
         ∙ so_far.numbers_are (record_item item ∷ records)
 
+    -- the numbers of the nodes with one more record
+    nodes_next : (records : List DumpRecord)
+        → node_numbers 0 ((so_far.before ++ record_item item ∷ []) ++ records)
+        ≡ map (λ (c : NodeChange). c.record_number) changes
+        ++ cond (is_node (record_item item)) (cutter.number ∷ node_numbers after.number records)
+        (node_numbers after.number records)
+    nodes_next records =
+        let number = ap (λ (c : CutterState). c.number) step.3 in
+        let more : suc cutter.number ≡ after.number = omega (arith, number) in
+        ap (node_numbers 0) (append_assoc so_far.before (record_item item ∷ []) records)
+        ∙ so_far.nodes (record_item item ∷ records)
+        ∙ ap (λ n. map (λ (c : NodeChange). c.record_number) changes
+        ++ cond (is_node (record_item item)) (cutter.number ∷ node_numbers n records) (node_numbers n records)) more
+
     present_there : (present : Option ℕ) → revision_behind (record_item item) at.present ≡ present
         → present_behind None (so_far.before ++ record_item item ∷ []) ≡ present
     present_there present is =
@@ -165,11 +186,12 @@ module _ (dump : List ℕ) (cutter after : CutterState) (at : Position) (changes
         ∙ ap (revision_behind (record_item item)) so_far.present ∙ is
 
     -- a record that makes no change, behind which there are these numbers
-    read_on : (next : Position) (all : List ℕ) → GoesOnFrom (record_item item) at next → IsBeforeNext (record_item item) at next
+    read_on : (next : Position) (all : List ℕ) → is_node (record_item item) ≡ false
+        → GoesOnFrom (record_item item) at next → IsBeforeNext (record_item item) at next
         → CountsTo (record_item item) at next → revision_behind (record_item item) at.present ≡ next.present
         → ((records : List DumpRecord) → numbers ++ revision_numbers (record_item item ∷ records) ≡ all ++ revision_numbers records)
         → ReadSoFar dump after next changes all
-    read_on next all goes first counting there its = record {
+    read_on next all no_node goes first counting there its = record {
       dump_is = ap (λ (c : CutterState). c.dump) step.3 ∙ so_far.dump_is;
       before = so_far.before ++ record_item item ∷ [];
       begins = begins_next;
@@ -180,6 +202,10 @@ module _ (dump : List ℕ) (cutter after : CutterState) (at : Position) (changes
       numbers_are = λ records. numbers_next records ∙ its records;
       present = present_there next.present there;
       rises = rises_next next counting;
+      nodes = λ records.
+          nodes_next records
+          ∙ ap (λ b. map (λ (c : NodeChange). c.record_number) changes
+          ++ cond b (cutter.number ∷ node_numbers after.number records) (node_numbers after.number records)) no_node;
       reads = λ patched.
           let front = so_far.reads patched in (
             front.0,
@@ -194,26 +220,28 @@ module _ (dump : List ℕ) (cutter after : CutterState) (at : Position) (changes
     pub read_revision : (number : ℕ) (next : Position) (all : List ℕ)
         → IsReadingStep (record_item item) at (steps.Revision number next) → IsBeforeNext (record_item item) at next
         → IsCountingStep (record_item item) at (steps.Revision number next)
-        → revision_behind (record_item item) at.present ≡ next.present
+        → revision_behind (record_item item) at.present ≡ next.present → is_node (record_item item) ≡ false
         → all ≡ numbers ++ number ∷ [] → ReadSoFar dump after next changes all
-    read_revision number next all goes first counting there all_is =
-        read_on next all goes first counting.0 there (λ records.
+    read_revision number next all goes first counting there no_node all_is =
+        read_on next all no_node goes first counting.0 there (λ records.
         ap (λ ns. numbers ++ ns) (counting.1 records)
         ∙ sym (append_assoc numbers (number ∷ []) (revision_numbers records))
         ∙ ap (λ ns. ns ++ revision_numbers records) (sym all_is))
 
     pub read_other : (next : Position) → IsReadingStep (record_item item) at (steps.Other next)
         → IsBeforeNext (record_item item) at next → IsCountingStep (record_item item) at (steps.Other next)
-        → revision_behind (record_item item) at.present ≡ next.present → ReadSoFar dump after next changes numbers
-    read_other next goes first counting there =
-        read_on next numbers goes first counting.0 there (λ records. ap (λ ns. numbers ++ ns) (counting.1 records))
+        → revision_behind (record_item item) at.present ≡ next.present → is_node (record_item item) ≡ false
+        → ReadSoFar dump after next changes numbers
+    read_other next goes first counting there no_node =
+        read_on next numbers no_node goes first counting.0 there (λ records. ap (λ ns. numbers ++ ns) (counting.1 records))
 
     -- and one that does
     pub read_more : (c : NodeChange) (all : List NodeChange) → IsReadingStep (record_item item) at (steps.Makes c)
         → is_revision_record (record_item item) ≡ false → IsCountingStep (record_item item) at (steps.Makes c)
         → revision_behind (record_item item) at.present ≡ at.present
+        → IsNumberedStep (record_item item) (record_number item) (steps.Makes c)
         → all ≡ changes ++ c ∷ [] → ReadSoFar dump after at all numbers
-    read_more c all makes other counting there all_is = record {
+    read_more c all makes other counting there numbered all_is = record {
       dump_is = ap (λ (s : CutterState). s.dump) step.3 ∙ so_far.dump_is;
       before = so_far.before ++ record_item item ∷ [];
       begins = begins_next;
@@ -224,6 +252,17 @@ module _ (dump : List ℕ) (cutter after : CutterState) (at : Position) (changes
       numbers_are = λ records. numbers_next records ∙ ap (λ ns. numbers ++ ns) (counting.1 records);
       present = present_there at.present there;
       rises = rises_next at counting.0;
+      nodes = λ records.
+          nodes_next records
+          ∙ ap (λ b. map (λ (c : NodeChange). c.record_number) changes
+          ++ cond b (cutter.number ∷ node_numbers after.number records) (node_numbers after.number records)) numbered.0
+          ∙ ap (λ n. map (λ (c : NodeChange). c.record_number) changes ++ n ∷ node_numbers after.number records)
+          (sym (numbered.1 ∙ step.1))
+          ∙ sym (append_assoc (map (λ (c : NodeChange). c.record_number) changes) (c.record_number ∷ [])
+          (node_numbers after.number records))
+          ∙ ap (λ ns. ns ++ node_numbers after.number records)
+          (sym (ap (map (λ (c : NodeChange). c.record_number)) all_is
+          ∙ map-append (λ (c : NodeChange). c.record_number) changes (c ∷ [])));
       reads = λ patched.
           let front = so_far.reads patched in
           let made = makes patched in
@@ -300,6 +339,11 @@ module _ (dump : List ℕ) (cutter after : CutterState) (at : Position) (changes
         ∙ sym (so_far.numbers_are []) ∙ ap revision_numbers (append-nil so_far.before);
     numbered = numbered ∙ sym numbered_is;
     rise = ap (λ rs. rise_from 0 (revision_numbers rs)) (sym (append-nil so_far.before)) ∙ so_far.rises [];
+    nodes =
+        ap (λ (v : Vec NodeChange). map (λ (c : NodeChange). c.record_number) v.items) changes_is
+        ∙ ap (map (λ (c : NodeChange). c.record_number)) all_are
+        ∙ sym (append-nil (map (λ (c : NodeChange). c.record_number) changes)) ∙ sym (so_far.nodes [])
+        ∙ ap (node_numbers 0) (append-nil so_far.before);
     listed = subst (AreListedIn so_far.before) (sym (ap (λ (v : Vec NodeChange). v.items) changes_is ∙ all_are)) nodes_made;
     ends = subst (EndsReading dump so_far.before) (sym ended) ends;
   }

@@ -1,3 +1,4 @@
+pub mod ChangedProperties
 pub mod DumpReading
 pub mod Nodes
 pub mod Reading

@@ -16,15 +16,25 @@
 //! ```
 //!
 //! `tests::other_ends_are_told` runs this.
+//!
+//! [`properties_at`] finds the properties of the node at a path after some of the changes. It takes a [`PropertyTable`] of the
+//! dump.
 #![tactic(auto)]
 
+pub mod laws;
 mod node;
 mod numbers;
+mod properties;
+mod property_edit;
+mod property_table;
 mod read;
 
 pub use dump_rules::Memory;
 pub use node::node_change;
 pub use numbers::{copies_from_gap, with_loaded_source};
+pub use properties::properties_at;
+pub use property_edit::NodeProperty;
+pub use property_table::PropertyTable;
 pub use read::{End, Reading, read_changes};
 
 #[cfg(test)]

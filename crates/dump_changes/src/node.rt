@@ -1,12 +1,12 @@
 //! The change that a node makes.
-ghost use Rattle.std.specs.Prelude.{◌≡◌, List, Option, [], IsTrue, not, option_map, unwrap_or};
+ghost use Rattle.std.specs.Prelude.{◌≡◌, List, Option, [], IfSome, IsTrue, not, option_map, unwrap_or};
 ghost use Rattle.std.specs.List.{list_all};
 ghost use Rattle.dump_text.specs.Names.{copy_revision_name, property_length_name};
 ghost use Rattle.dump_text.specs.HeaderLine.{has_byte};
 ghost use Rattle.dump_text.specs.PropertyList.{IsPropertyBlock, Property};
 ghost use Rattle.dump_text.specs.steps.PropertyViews.{props_bytes};
 ghost use Rattle.dump_records.specs.HeaderRules.{header_number};
-ghost use Rattle.dump_records.specs.steps.RecordViews.{record_item};
+ghost use Rattle.dump_records.specs.steps.RecordViews.{record_item, record_number};
 ghost use Rattle.dump_rules.specs.Prefix.{bare_path};
 ghost use Rattle.dump_digest.specs.RecordParts.{HasPropertyList, is_copy, is_node, node_path};
 ghost use Rattle.dump_digest.specs.steps.ContentViews.{ArePropertiesOf};
@@ -21,10 +21,11 @@ ghost use Rattle.dump_changes.specs.steps.Nodes.{IsChangeOf, has_entry, is_told}
 use dump_digest::properties_of;
 use dump_index::{NodeChange, NodeMade, Setting, Source};
 use dump_nodes::{
-    Action, action_of, bare_path, copy_path_of, copy_revision_of, has_odd_delta, has_plain_texts,
-    is_copy, kind_of, path_of,
+    Action, action_of, copy_path_of, copy_revision_of, has_odd_delta, has_plain_texts, is_copy,
+    kind_of, path_of,
 };
 use dump_records::Record;
+use dump_rules::bare_path;
 use dump_text::Props;
 
 const DIRECTORY: &[u8] = b"dir";
@@ -137,7 +138,8 @@ fn text_of(item: &Record<'_>) -> Setting
 /// The change that a node of the revision with this number makes; none where it makes none that is told.
 pub fn node_change<'a>(item: &Record<'a>, revision: u64) -> Option<NodeChange<'a>>
     requires { IsTrue (is_node (record_item item.now)) }
-    ensures { IsChangeOf (record_item item.now) revision (option_map listed_of result) }
+    ensures change { IsChangeOf (record_item item.now) revision (option_map listed_of result) }
+    ensures number { IfSome result (λ change. change.record_number ≡ record_number item.now) }
 {
     let props = properties_of(item);
     let action = action_of(item);

@@ -1,9 +1,9 @@
 //! The changes of a whole dump.
 ghost use Rattle.std.specs.Prelude.{◌≡◌, false, true, IfOk};
-ghost use Rattle.dump_records.specs.steps.RecordViews.{record_item};
+ghost use Rattle.dump_records.specs.steps.RecordViews.{record_item, record_number};
 ghost use Rattle.dump_digest.specs.RecordParts.{is_node, is_revision_record};
 ghost use Rattle.dump_changes.specs.steps.DumpReading.{IsReadingOfDump};
-ghost use Rattle.dump_changes.specs.steps.Reading.{EndsAt, IsBeforeFirst, IsCountingStep, IsPresentStep, IsReadingStep};
+ghost use Rattle.dump_changes.specs.steps.Reading.{EndsAt, IsBeforeFirst, IsCountingStep, IsNumberedStep, IsPresentStep, IsReadingStep};
 
 use crate::node::node_change;
 use dump_index::NodeChange;
@@ -74,6 +74,7 @@ impl Position {
         ensures first { IsBeforeFirst (record_item item.now) self.now result }
         ensures counting { IsCountingStep (record_item item.now) self.now result }
         ensures present { IsPresentStep (record_item item.now) self.now result }
+        ensures number { IsNumberedStep (record_item item.now) (record_number item.now) result }
     {
         let Some(number) = item.revision() else {
             return Step::OutOfOrder;
@@ -97,6 +98,7 @@ impl Position {
         ensures first { IsBeforeFirst (record_item item.now) self.now result }
         ensures counting { IsCountingStep (record_item item.now) self.now result }
         ensures present { IsPresentStep (record_item item.now) self.now result }
+        ensures number { IsNumberedStep (record_item item.now) (record_number item.now) result }
     {
         match self.present {
             Some(number) if number > 0 => match node_change(item, number) {
@@ -125,6 +127,7 @@ impl Position {
         ensures first { IsBeforeFirst (record_item item.now) self.now result }
         ensures counting { IsCountingStep (record_item item.now) self.now result }
         ensures present { IsPresentStep (record_item item.now) self.now result }
+        ensures number { IsNumberedStep (record_item item.now) (record_number item.now) result }
     {
         match item.kind() {
             RecordKind::Revision => self.revision(item),

@@ -1,7 +1,10 @@
 //! What no clause says: worked dumps, and memory that is refused.
-use crate::{End, Memory, Reading, copies_from_gap, read_changes, with_loaded_source};
+use crate::{
+    End, Memory, NodeProperty, PropertyTable, Reading, copies_from_gap, properties_at,
+    read_changes, with_loaded_source,
+};
 use dump_index::{
-    ChangeIndex, NodeChange, NodeKind, NodeMade, Setting, Source, first_out_of_order,
+    ChangeIndex, NodeChange, NodeKind, NodeMade, Setting, Source, ends_in_slash, first_out_of_order,
 };
 use dump_text::FaultKind;
 use std::alloc::Global;
@@ -195,6 +198,82 @@ fn copies_from_a_gap_are_found(rt: HostRuntime) {
 fn changes_or_no_memory(rt: HostRuntime) {
     let answered = match read_changes(rt.alloc(), BRANCHED) {
         Ok(reading) => reads(&reading, &branched()),
+        Err(refused) => refused == Memory,
+    };
+    assert!(rt; answered);
+}
+
+/// trunk has a and b in r1, loses a and has another b in r2, and has c alone in r4. In r3 a copy of trunk in r1 has another a.
+const SET: &[u8] = b"SVN-fs-dump-format-version: 3\n\n\
+Revision-number: 0\n\n\
+Revision-number: 1\n\n\
+Node-path: trunk\nNode-kind: dir\nNode-action: add\nProp-content-length: 34\nContent-length: 34\n\n\
+K 1\na\nV 1\n1\nK 1\nb\nV 1\n2\nPROPS-END\n\n\n\
+Revision-number: 2\n\n\
+Node-path: trunk\nNode-kind: dir\nNode-action: change\nProp-delta: true\nProp-content-length: 28\nContent-length: 28\n\n\
+K 1\nb\nV 1\n3\nD 1\na\nPROPS-END\n\n\n\
+Revision-number: 3\n\n\
+Node-path: copy\nNode-kind: dir\nNode-action: add\nNode-copyfrom-rev: 1\nNode-copyfrom-path: trunk\n\
+Prop-delta: true\nProp-content-length: 22\nContent-length: 22\n\n\
+K 1\na\nV 1\n5\nPROPS-END\n\n\n\
+Revision-number: 4\n\n\
+Node-path: trunk\nNode-kind: dir\nNode-action: change\nProp-content-length: 22\nContent-length: 22\n\n\
+K 1\nc\nV 1\n4\nPROPS-END\n\n\n";
+
+#[test]
+fn blocks_are_found(rt: HostRuntime) -> Result<(), Fail> {
+    let table = PropertyTable::of(rt.alloc(), SET)?;
+    let none = b"".as_slice();
+    let set = b"K 1\na\nV 1\n5\nPROPS-END\n".as_slice();
+    assert!(rt; table.block(0) == Some(none));
+    assert!(rt; table.block(7) == Some(set));
+    assert!(rt; table.block(10) == None);
+    Ok(())
+}
+
+fn property<'a>(name: &'a [u8], value: &'a [u8]) -> NodeProperty<'a> {
+    NodeProperty { name, value }
+}
+
+fn found<'a>(
+    alloc: Global,
+    dump: &'a [u8],
+    path: &[u8],
+    count: usize,
+) -> Result<Vec<NodeProperty<'a>>, Memory> {
+    let table = PropertyTable::of(alloc, dump)?;
+    let reading = read_changes(alloc, dump)?;
+    if ends_in_slash(path) || first_out_of_order(&reading.changes).is_some() {
+        return Ok(Vec::new(alloc));
+    }
+    let index = ChangeIndex::new(alloc, reading.changes)?;
+    properties_at(alloc, &table, &index, path, count)
+}
+
+fn are_found(alloc: Global, path: &[u8], count: usize, wanted: &[NodeProperty<'_>]) -> bool {
+    match found(alloc, SET, path, count) {
+        Ok(props) => props.as_slice() == wanted,
+        Err(_) => false,
+    }
+}
+
+#[test]
+fn properties_of_the_past_are_found(rt: HostRuntime) {
+    let alloc = rt.alloc();
+    let first = [property(b"a", b"1"), property(b"b", b"2")];
+    assert!(rt; are_found(alloc, b"trunk", 1, &first));
+    assert!(rt; are_found(alloc, b"trunk", 3, &[property(b"b", b"3")]));
+    let copied = [property(b"b", b"2"), property(b"a", b"5")];
+    assert!(rt; are_found(alloc, b"copy", 4, &copied));
+    assert!(rt; are_found(alloc, b"trunk", 4, &[property(b"c", b"4")]));
+}
+
+/// Run with each allocation refused in turn: the properties are found, or there is no memory.
+#[test]
+fn properties_or_no_memory(rt: HostRuntime) {
+    let wanted: &[NodeProperty<'_>] = &[property(b"b", b"3")];
+    let answered = match found(rt.alloc(), SET, b"trunk", 2) {
+        Ok(props) => props.as_slice() == wanted,
         Err(refused) => refused == Memory,
     };
     assert!(rt; answered);

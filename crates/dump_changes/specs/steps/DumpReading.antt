@@ -7,6 +7,7 @@ use Rattle.dump_filter.specs.Groups.{revision_numbers}
 use Rattle.dump_trees.specs.Changes.{Change}
 use Rattle.dump_history.specs.RecordChanges.{Patching, MakesChange}
 use Rattle.dump_changes.specs.ListedDumps.{AreListedIn, IsOutOfPlace, are_numbered, rise_from}
+use Rattle.dump_changes.specs.NodeProperties.{HaveNodeNumbers}
 use Rattle.dump_changes.specs.declared.read.End.{End}
 use Rattle.dump_changes.specs.declared.read.End.TheVariants.{Whole, NoChange, OutOfOrder, Broken}
 use Rattle.dump_changes.specs.declared.read.Reading.{Reading}
@@ -31,4 +32,5 @@ pub record IsReadingOfDump (dump : List ℕ) (reading : Reading) : Type 0 where
   pub numbered : reading.numbered ≡ are_numbered records
   pub rise : rise_from 0 (revision_numbers records) ≡ true
   pub listed : AreListedIn records reading.changes.items
+  pub nodes : HaveNodeNumbers records reading.changes.items
   pub ends : EndsReading dump records reading.end

@@ -100,6 +100,14 @@ IsPresentStep r at (steps.Revision number next) = revision_behind r at.present �
 IsPresentStep r at (steps.Other next) = revision_behind r at.present ≡ next.present
 IsPresentStep r at (steps.Makes c) = revision_behind r at.present ≡ at.present
 
+-- the step tells whether the record, which has this number, is a node; its change has the number
+abbrev pub IsNumberedStep : DumpRecord → ℕ → Step → Type 0
+IsNumberedStep r number steps.NoChange = ⊤
+IsNumberedStep r number steps.OutOfOrder = ⊤
+IsNumberedStep r number (steps.Revision its next) = is_node r ≡ false
+IsNumberedStep r number (steps.Other next) = is_node r ≡ false
+IsNumberedStep r number (steps.Makes c) = (is_node r ≡ true) × (c.record_number ≡ number)
+
 -- what was read up to the position, where the reading ends so
 abbrev pub EndsAt : Position → Vec NodeChange → Vec ℕ → End → Reading → Type 0
 EndsAt at changes numbers end reading = (reading.changes ≡ changes) × (reading.numbers ≡ numbers)

@@ -2,14 +2,14 @@ use Rattle.dump_changes.proofs.Prelude.{◌≡◌, true, false, Some, sym, ap, �
 use Rattle.dump_changes.proofs.ChangeLemmas.{told_change, makes_told, told_if_makes, told_block}
 use Rattle.dump_changes.proofs.node.node_change.Goals as goal
 
-pub returns-then-not-is_told : goal.returns-then-not-is_told
-returns-then-not-is_told c patched change makes =
+pub returns-then-not-is_told-clause-change : goal.returns-then-not-is_told-clause-change
+returns-then-not-is_told-clause-change c patched change makes =
     let its = told_if_makes patched (record_item c.args.item.now) change makes in
     let bad : false ≡ true = sym c.if-not-is_told.true ∙ c.is_told.ensures (Some its.0) its.1 ∙ its.2 in
     absurd (cc)
 
-pub returns : goal.returns
-returns c patched =
+pub returns-clause-change : goal.returns-clause-change
+returns-clause-change c patched =
     let r = record_item c.args.item.now in
     let block = told_block r c.properties_of-props.result c.is_told.result c.properties_of-props.ensures.found
     c.is_told.ensures c.if-not-is_told.false in (

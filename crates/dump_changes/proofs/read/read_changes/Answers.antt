@@ -22,7 +22,7 @@ loop-item-preserved-in-Revision c =
     read_revision c.args.dump.now c.loop-item.cutter c.next.new.self c.loop-item.at c.loop-item.changes.items
     c.loop-item.numbers.items c.loop-item.invariant c.in-Item.item step c.in-Revision.number c.in-Revision.behind
     c.push.new.self.items c.in-Revision.ensures.reading c.in-Revision.ensures.first
-    c.in-Revision.ensures.counting c.in-Revision.ensures.present c.in_ok-push-in-Revision.ensures.items
+    c.in-Revision.ensures.counting c.in-Revision.ensures.present c.in-Revision.ensures.number c.in_ok-push-in-Revision.ensures.items
 
 pub loop-item-smaller-in-Other : goal.loop-item-smaller-in-Other
 loop-item-smaller-in-Other c =
@@ -37,6 +37,7 @@ loop-item-preserved-in-Other c =
     read_other c.args.dump.now c.loop-item.cutter c.next.new.self c.loop-item.at c.loop-item.changes.items
     c.loop-item.numbers.items c.loop-item.invariant c.in-Item.item step c.in-Other.behind c.in-Other.ensures.reading
     c.in-Other.ensures.first c.in-Other.ensures.counting c.in-Other.ensures.present
+    c.in-Other.ensures.number
 
 pub loop-item-smaller : goal.loop-item-smaller
 loop-item-smaller c =
@@ -51,6 +52,7 @@ loop-item-preserved c =
     read_more c.args.dump.now c.loop-item.cutter c.next.new.self c.loop-item.at c.loop-item.changes.items
     c.loop-item.numbers.items c.loop-item.invariant c.in-Item.item step c.in-Makes.change c.push-in-Makes.new.self.items
     c.in-Makes.ensures.reading c.in-Makes.ensures.first c.in-Makes.ensures.counting c.in-Makes.ensures.present
+    c.in-Makes.ensures.number
     c.in_ok-push-in-Makes.ensures.items
 
 pub returns-in-NoChange : goal.returns-in-NoChange

@@ -7,7 +7,7 @@ use Rattle.dump_changes.proofs.read.Position.node.Goals as goal
 
 pub returns-in-Some-node_change-clause-reading : goal.returns-in-Some-node_change-clause-reading
 returns-in-Some-node_change-clause-reading c patched =
-    let its = c.in-Some-node_change.ensures patched in (
+    let its = c.in-Some-node_change.ensures.change patched in (
       its.0,
       subst (λ (n : ℕ). IsListed (listed_of c.in-Some-node_change.change) (record { revision = n; change = its.0 }))
           its.2.revision its.2,
