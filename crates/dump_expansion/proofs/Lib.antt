@@ -1,0 +1,7 @@
+pub mod ByChanges
+pub mod ChangeValues
+pub mod ExpandingLemmas
+pub mod JoinLemmas
+pub mod NodeLemmas
+pub mod SteadLemmas
+pub mod Values

@@ -1,0 +1,3 @@
+pub mod ByChanges
+pub mod GivenSteads
+pub mod steps

@@ -1,0 +1,4 @@
+pub mod Given
+pub mod LeftParts
+pub mod NewNodes
+pub mod NodeTexts

@@ -1,0 +1,21 @@
+-- The nodes that are written in place of others, as the format knows them.
+use Rattle.std.specs.Prelude.{map}
+use Rattle.dump_history.specs.WrittenNodes as format
+use Rattle.dump_index.specs.declared.change.NodeKind.{NodeKind}
+use Rattle.dump_index.specs.declared.change.NodeKind.TheVariants as kinds
+use Rattle.dump_changes.specs.steps.ChangedProperties.{as_property}
+use Rattle.dump_expansion.specs.declared.written_node.NewNode.{NewNode}
+use Rattle.dump_expansion.specs.declared.written_node.NewNode.TheVariants as nodes
+
+-- the kind that a copy says it has
+abbrev pub written_kind : NodeKind → format.NodeKind
+written_kind kinds.Folder = format.NodeKind.Dir
+written_kind kinds.File = format.NodeKind.File
+
+-- the node that is meant
+abbrev pub written_of : NewNode → format.WrittenNode
+written_of (nodes.Deletion path) = format.WrittenNode.Deletion path.items
+written_of (nodes.Copy kind revision source path) =
+    format.WrittenNode.Copy (written_kind kind) revision source.items path.items
+written_of (nodes.Folder replaces path entries) =
+    format.WrittenNode.Folder replaces path.items (map as_property entries.items)

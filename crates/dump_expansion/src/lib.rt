@@ -1,0 +1,35 @@
+//! Writes the expanded form of a dump: in place of some of its nodes it writes other nodes.
+//!
+//! A [`NewNode`] is a deletion, a copy or a directory with its properties. A [`Stead`] says which node of the dump has such
+//! nodes in its place, and whether the node itself follows them. [`expanded`] takes only nodes that a load reads as they
+//! are meant:
+//!
+//! ```
+//! steads.push(Stead {
+//!     record_number: COPY_NUMBER,
+//!     nodes,
+//!     keeps: false,
+//! })?;
+//! if !can_all_be_written(&steads) {
+//!     return Ok(false);
+//! }
+//! let text = expanded(alloc, &dump, &steads)?;
+//! ```
+//!
+//! `tests::replaces` runs this. All else in the dump is written as it is. Whether the new dump loads to the same trees isn't
+//! looked at: the caller has to choose the nodes so.
+//! [`laws::steads_are_by_changes`] says which changes are made in place of those of each revision.
+#![tactic(auto)]
+
+mod expanding;
+pub mod laws;
+mod written_node;
+
+pub use dump_changes::NodeProperty;
+pub use dump_index::NodeKind;
+pub use dump_rules::Memory;
+pub use expanding::{Stead, can_all_be_written, expanded};
+pub use written_node::NewNode;
+
+#[cfg(test)]
+mod tests;

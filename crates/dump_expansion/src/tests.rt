@@ -1,0 +1,160 @@
+//! What no clause says: expanded dumps, compared with what the format says of them, and failures of allocations.
+use crate::{Memory, NewNode, NodeKind, NodeProperty, Stead, can_all_be_written, expanded};
+use std::alloc::Global;
+use std::test::Fail;
+
+const HEAD: &str = "SVN-fs-dump-format-version: 2\n\nRevision-number: 0\n\nRevision-number: 1\n\n\
+Node-path: a\nNode-kind: dir\nNode-action: add\n\n\n\
+Node-path: a/f\nNode-kind: file\nNode-action: add\n\n\nRevision-number: 2\n\n";
+
+const COPY: &str = "Node-path: b\nNode-kind: dir\nNode-action: add\nNode-copyfrom-rev: 1\n\
+Node-copyfrom-path: a\n\n\n";
+
+/// Which record the copy is.
+const COPY_NUMBER: u64 = 6;
+
+const TAIL: &str = "Revision-number: 3\n\n";
+
+const DELETION: &str = "Node-path: b\nNode-action: delete\n\n\n";
+
+const FOLDER_AND_COPY: &str = "Node-path: b\nNode-kind: dir\nNode-action: add\n\
+Prop-content-length: 33\nContent-length: 33\n\n\
+K 10\nsvn:ignore\nV 2\nx\n\nPROPS-END\n\n\n\
+Node-path: b/f\nNode-kind: file\nNode-action: add\n\
+Node-copyfrom-rev: 1\nNode-copyfrom-path: a/f\n\n\n";
+
+/// The dump with these nodes in revision 2.
+fn dump_with(alloc: Global, nodes: &str) -> Result<Vec<u8>, Memory> {
+    let mut dump = Vec::from_slice(alloc, HEAD.as_bytes())?;
+    dump.extend_from_slice(nodes.as_bytes())?;
+    dump.extend_from_slice(TAIL.as_bytes())?;
+    Ok(dump)
+}
+
+/// A deletion of this path.
+fn deletion(alloc: Global, path: &[u8]) -> Result<NewNode<'static>, Memory> {
+    let path = Vec::from_slice(alloc, path)?;
+    Ok(NewNode::Deletion { path })
+}
+
+/// The directory `b`, with a property of this name.
+fn folder(alloc: Global, name: &'static [u8]) -> Result<NewNode<'static>, Memory> {
+    let path = Vec::from_slice(alloc, b"b")?;
+    let entries = Vec::from_slice(
+        alloc,
+        &[NodeProperty {
+            name,
+            value: b"x\n",
+        }],
+    )?;
+    Ok(NewNode::Folder {
+        replaces: false,
+        path,
+        entries,
+    })
+}
+
+/// A copy of `a/f`, as it is in this revision, to `b/f`.
+fn copy(alloc: Global, revision: u64) -> Result<NewNode<'static>, Memory> {
+    let source = Vec::from_slice(alloc, b"a/f")?;
+    let path = Vec::from_slice(alloc, b"b/f")?;
+    Ok(NewNode::Copy {
+        kind: NodeKind::File,
+        revision,
+        source,
+        path,
+    })
+}
+
+/// Whether the copy is replaced by a directory and a copy of its content.
+fn replaces(alloc: Global) -> Result<bool, Memory> {
+    let dump = dump_with(alloc, COPY)?;
+    let mut nodes = Vec::new(alloc);
+    nodes.push(folder(alloc, b"svn:ignore")?)?;
+    nodes.push(copy(alloc, 1)?)?;
+    let mut steads = Vec::new(alloc);
+    steads.push(Stead {
+        record_number: COPY_NUMBER,
+        nodes,
+        keeps: false,
+    })?;
+    if !can_all_be_written(&steads) {
+        return Ok(false);
+    }
+    let text = expanded(alloc, &dump, &steads)?;
+    let wanted = dump_with(alloc, FOLDER_AND_COPY)?;
+    Ok(text.as_slice() == wanted.as_slice())
+}
+
+#[test]
+fn a_copy_is_replaced(rt: HostRuntime) -> Result<(), Fail> {
+    assert!(rt; replaces(rt.alloc())?);
+    Ok(())
+}
+
+#[test]
+fn replaced_or_no_memory(rt: HostRuntime) {
+    let answer = replaces(rt.alloc());
+    assert!(rt; matches!(answer, Ok(true) | Err(Memory)));
+}
+
+/// Whether the dump has these nodes in revision 2, if a deletion of `b` is given for this record, which is kept.
+fn precedes(alloc: Global, record_number: u64, wanted: &str) -> Result<bool, Memory> {
+    let dump = dump_with(alloc, COPY)?;
+    let mut nodes = Vec::new(alloc);
+    nodes.push(deletion(alloc, b"b")?)?;
+    let mut steads = Vec::new(alloc);
+    steads.push(Stead {
+        record_number,
+        nodes,
+        keeps: true,
+    })?;
+    if !can_all_be_written(&steads) {
+        return Ok(false);
+    }
+    let text = expanded(alloc, &dump, &steads)?;
+    let wanted = dump_with(alloc, wanted)?;
+    Ok(text.as_slice() == wanted.as_slice())
+}
+
+const DELETED_FIRST: &str = "Node-path: b\nNode-action: delete\n\n\n\
+Node-path: b\nNode-kind: dir\nNode-action: add\nNode-copyfrom-rev: 1\nNode-copyfrom-path: a\n\n\n";
+
+#[test]
+fn a_node_is_kept_after_others(rt: HostRuntime) -> Result<(), Fail> {
+    let alloc = rt.alloc();
+    assert!(rt; precedes(alloc, COPY_NUMBER, DELETED_FIRST)?);
+    assert!(rt; precedes(alloc, COPY_NUMBER - 1, COPY)?);
+    assert!(rt; precedes(alloc, COPY_NUMBER + 2, COPY)?);
+    Ok(())
+}
+
+/// Whether a deletion of this path can be written.
+fn can_delete(alloc: Global, path: &[u8]) -> Result<bool, Memory> {
+    Ok(deletion(alloc, path)?.can_be_written())
+}
+
+#[test]
+fn nodes_that_cannot_be_written(rt: HostRuntime) -> Result<(), Fail> {
+    let alloc = rt.alloc();
+    assert!(rt; can_delete(alloc, b"a/b")? && !can_delete(alloc, b"a/./b")?);
+    assert!(rt; !can_delete(alloc, b"a\nb")? && !can_delete(alloc, b"a\0b")?);
+    assert!(rt; !copy(alloc, 1_000_000_000_000_000_000)?.can_be_written());
+    assert!(rt; !folder(alloc, b"a\0")?.can_be_written());
+    Ok(())
+}
+
+/// The bytes of the deletion of `b`, to the end of its lines.
+fn bytes_of_deletion(alloc: Global) -> Result<Vec<u8>, Memory> {
+    let mut out = Vec::new(alloc);
+    deletion(alloc, b"b")?.write(alloc, &mut out)?;
+    out.extend_from_slice(b"\n")?;
+    Ok(out)
+}
+
+#[test]
+fn a_node_is_written(rt: HostRuntime) -> Result<(), Fail> {
+    let out = bytes_of_deletion(rt.alloc())?;
+    assert!(rt; out.as_slice() == DELETION.as_bytes());
+    Ok(())
+}

@@ -1,0 +1,230 @@
+//! A node that is written in place of another.
+ghost use Rattle.std.specs.Prelude.{◌≡◌, ◌&&◌, ◌++◌, ◌∷◌, [], List, IfOk, OnOk, codes, length, map, not};
+ghost use Rattle.std.specs.List.{list_all};
+ghost use Rattle.dump_text.specs.HeaderLine.{has_byte, header_text};
+ghost use Rattle.dump_text.specs.Number.{spelled_number};
+ghost use Rattle.dump_text.specs.PropertyList.{Property, property_block_text, sized_text};
+ghost use Rattle.dump_text.specs.steps.KnownValues.{name_text};
+ghost use Rattle.dump_records.specs.DumpText.{line_feeds};
+ghost use Rattle.dump_history.specs.WrittenNodes.{WrittenNode, are_plain_entries, can_be_written, is_plain_path, is_readable, kind_word, line, making_word, node_bytes};
+ghost use Rattle.dump_changes.specs.steps.ChangedProperties.{as_property};
+ghost use Rattle.dump_expansion.specs.steps.NewNodes.{written_kind, written_of};
+ghost use Rattle.dump_expansion.specs.steps.NodeTexts.{lfs_after};
+
+use dump_changes::NodeProperty;
+use dump_index::NodeKind;
+use dump_nodes::is_canonical;
+use dump_rules::Memory;
+use dump_text::{HeaderName, push_block_end, push_header, push_property, spell};
+use std::alloc::Global;
+
+/// A node that is written in place of another. Its paths are written as they are; a dump's own have no leading slash.
+#[derive(Debug, Drop)]
+pub enum NewNode<'t> {
+    /// What is at the path is deleted.
+    Deletion {
+        path: Vec<u8>,
+    },
+    /// The source, as it is in this revision, is copied to the path, where nothing is.
+    Copy {
+        /// What kind of node the source is. A load doesn't look at it.
+        kind: NodeKind,
+        revision: u64,
+        source: Vec<u8>,
+        path: Vec<u8>,
+    },
+    /// A directory with these properties is made, where nothing is or in place of what is there.
+    Folder {
+        replaces: bool,
+        path: Vec<u8>,
+        entries: Vec<NodeProperty<'t>>,
+    },
+}
+
+/// Numbers and lengths of a dump are less than this.
+const TOO_LONG: u64 = 1_000_000_000_000_000_000;
+
+/// Whether a line can have this path, and `svnadmin load` reads it as it is.
+fn is_plain_path(path: &[u8]) -> bool
+    ensures { result ≡ is_plain_path path.now }
+{
+    is_canonical(path) && !path.contains(&b'\n') && !path.contains(&0)
+}
+
+/// Whether no name has a zero byte, which `svnadmin load` rejects.
+fn are_names_plain(entries: &[NodeProperty<'_>]) -> bool
+    ensures { result ≡ list_all (λ entry. not (has_byte 0 entry.name.now)) entries.now }
+{
+    for entry in entries {
+        if entry.name.contains(&0) {
+            return false;
+        }
+    }
+    true
+}
+
+/// How many bytes these take in a property block, with the line of their length.
+fn part_size(bytes: &[u8]) -> u64
+    ensures { result ≡ length (sized_text (codes "K") (spelled_number (length bytes.now)) bytes.now) }
+{
+    let length = bytes.len() as u64;
+    spell(length).bytes().len() as u64 + length + 4
+}
+
+/// Whether a number in a line can be the length of the block of these properties.
+fn is_block_readable(entries: &[NodeProperty<'_>]) -> bool
+    ensures { result ≡ is_readable (length (property_block_text (map as_property entries.now))) }
+{
+    let mut size = b"PROPS-END\n".len() as u64;
+    for entry in entries {
+        size = size.saturating_add(part_size(entry.name));
+        size = size.saturating_add(part_size(entry.value));
+    }
+    size < TOO_LONG
+}
+
+/// Whether a node can have these properties, as [`NewNode::can_be_written`] asks.
+#[tactic(auto, using(crate::proofs::NodeLemmas::plain_entries))]
+fn are_entries_plain(entries: &[NodeProperty<'_>]) -> bool
+    ensures { let ps = map as_property entries.now in
+        result ≡ (are_plain_entries ps && is_readable (length (property_block_text ps))) }
+{
+    are_names_plain(entries) && is_block_readable(entries)
+}
+
+/// Adds a header line.
+fn push_line(out: &mut Vec<u8>, name: HeaderName, value: &[u8]) -> Result<(), Memory>
+    ensures { OnOk result (out.new.items ≡ out.old.items ++ (header_text (line (name_text name) value.now) ++ 10 ∷ [])) }
+{
+    out.extend_from_slice(name.bytes())?;
+    out.extend_from_slice(b": ")?;
+    out.extend_from_slice(value)?;
+    Ok(out.extend_from_slice(b"\n")?)
+}
+
+/// Adds a node that deletes what is at the path.
+fn push_deletion(out: &mut Vec<u8>, path: &[u8]) -> Result<(), Memory>
+    ensures { OnOk result (out.new.items ≡ out.old.items ++ node_bytes (WrittenNode.Deletion path.now)) }
+{
+    push_line(out, HeaderName::NodePath, path)?;
+    push_line(out, HeaderName::NodeAction, b"delete")?;
+    Ok(out.extend_from_slice(b"\n")?)
+}
+
+/// The word for a kind.
+fn kind_word(kind: NodeKind) -> &'static [u8]
+    ensures { result.now ≡ kind_word (written_kind kind) }
+{
+    match kind {
+        NodeKind::Folder => b"dir",
+        NodeKind::File => b"file",
+    }
+}
+
+/// Adds a node that copies the source, as it is in this revision, to the path.
+fn push_copy(
+    out: &mut Vec<u8>,
+    kind: NodeKind,
+    revision: u64,
+    source: &[u8],
+    path: &[u8],
+) -> Result<(), Memory>
+    ensures { OnOk result (out.new.items
+        ≡ out.old.items ++ node_bytes (WrittenNode.Copy (written_kind kind) revision source.now path.now)) }
+{
+    push_line(out, HeaderName::NodePath, path)?;
+    push_line(out, HeaderName::NodeKind, kind_word(kind))?;
+    push_line(out, HeaderName::NodeAction, b"add")?;
+    push_header(out, HeaderName::NodeCopyfromRev.bytes(), revision)?;
+    push_line(out, HeaderName::NodeCopyfromPath, source)?;
+    Ok(out.extend_from_slice(b"\n")?)
+}
+
+/// The block of these properties.
+fn block_of(alloc: Global, entries: &[NodeProperty<'_>]) -> Result<Vec<u8>, Memory>
+    ensures { IfOk result (λ block. block.items ≡ property_block_text (map as_property entries.now)) }
+{
+    let mut block = Vec::new(alloc);
+    for entry in entries {
+        push_property(&mut block, entry.name, entry.value)?;
+    }
+    push_block_end(&mut block)?;
+    Ok(block)
+}
+
+/// The word for what makes something, and replaces what is there or not.
+fn making_word(replaces: bool) -> &'static [u8]
+    ensures { result.now ≡ making_word replaces }
+{
+    if replaces { b"replace" } else { b"add" }
+}
+
+/// Adds a node that makes a directory with the properties of this block.
+fn push_folder(out: &mut Vec<u8>, replaces: bool, path: &[u8], block: &[u8]) -> Result<(), Memory>
+    ensures { (entries : List Property) → block.now ≡ property_block_text entries
+        → OnOk result (out.new.items ≡ out.old.items ++ node_bytes (WrittenNode.Folder replaces path.now entries)) }
+{
+    push_line(out, HeaderName::NodePath, path)?;
+    push_line(out, HeaderName::NodeKind, b"dir")?;
+    push_line(out, HeaderName::NodeAction, making_word(replaces))?;
+    let size = block.len() as u64;
+    push_header(out, HeaderName::PropContentLength.bytes(), size)?;
+    push_header(out, HeaderName::ContentLength.bytes(), size)?;
+    out.extend_from_slice(b"\n")?;
+    Ok(out.extend_from_slice(block)?)
+}
+
+impl<'t> NewNode<'t> {
+    /// Whether `svnadmin load` reads the node as it is meant. Its paths have to be canonical, and they and the names of
+    /// properties without bytes that a line or a name can't have; its revision and the length of its properties have to be
+    /// less than 10^18.
+    pub fn can_be_written(&self) -> bool
+        ensures { result ≡ can_be_written (written_of self.now) }
+    {
+        match self {
+            NewNode::Deletion { path } => is_plain_path(path),
+            NewNode::Copy {
+                revision,
+                source,
+                path,
+                ..
+            } => is_plain_path(path) && is_plain_path(source) && *revision < TOO_LONG,
+            NewNode::Folder { path, entries, .. } => {
+                is_plain_path(path) && are_entries_plain(entries)
+            }
+        }
+    }
+
+    /// Adds its bytes, to the end of its properties.
+    pub fn write(&self, alloc: Global, out: &mut Vec<u8>) -> Result<(), Memory>
+        ensures { OnOk result (out.new.items ≡ out.old.items ++ node_bytes (written_of self.now)) }
+    {
+        match self {
+            NewNode::Deletion { path } => push_deletion(out, path),
+            NewNode::Copy {
+                kind,
+                revision,
+                source,
+                path,
+            } => push_copy(out, *kind, *revision, source, path),
+            NewNode::Folder {
+                replaces,
+                path,
+                entries,
+            } => {
+                let block = block_of(alloc, entries)?;
+                push_folder(out, *replaces, path, &block)
+            }
+        }
+    }
+
+    /// The empty lines that are written after it.
+    pub(crate) fn end(&self) -> &'static [u8]
+        ensures { result.now ≡ line_feeds (lfs_after (written_of self.now)) }
+    {
+        match self {
+            NewNode::Deletion { .. } | NewNode::Copy { .. } => b"\n",
+            NewNode::Folder { .. } => b"\n\n",
+        }
+    }
+}
