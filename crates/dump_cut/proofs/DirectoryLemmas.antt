@@ -1,7 +1,11 @@
 -- The directories above paths, told from the texts of the paths.
-use Rattle.std.proofs.Common.{◌≡◌, ℕ, ◌+◌, ◌<◌, ◌≤◌, Bool, true, false, not, ◌&&◌, ◌||◌, ◌==◌, List, [], ◌∷◌, length, take, get_or, nat_eq, nat_lt, bytes_eq, Some, refl, sym, ap, ap₂, ◌∙◌, subst, inl, inr, arith}
-use Rattle.std.specs.List.{list_any}
+use Rattle.std.proofs.Common.{◌≡◌, ℕ, ◌+◌, ◌<◌, ◌≤◌, Bool, true, false, not, ◌&&◌, ◌||◌, ◌==◌, List, [], ◌∷◌, length, take, get_or, nat_eq, nat_lt, bytes_eq, Bor, Some, refl, sym, ap, ap₂, ◌∙◌, subst, inl, inr, arith}
+use Rattle.std.specs.List.{dedup, list_any}
+use Rattle.std.specs.List.Sorted.{IsSorted, IsStrictlySortedBy}
 use Rattle.std.specs.Cmp.{both_ways}
+use Rattle.std.specs.Cmp.Lexicographic.{slice_cmp, on_texts, texts_ties}
+use Rattle.std.specs.Ordering.{nat_cmp}
+use Rattle.std.proofs.lemmas.List.Kept.{IsStrictlySortedBy-dedup}
 use Rattle.std.proofs.lemmas.Bool.{and_parts, and_from, cases_lt, eq-eqb, eqb-true, false_from_ne_true, lt-ltb, ltb-true, or_cases, or_left, or_right}
 use Rattle.std.proofs.lemmas.Slice.Eq.{bytes_eq-Decides}
 use Rattle.dump_trees.specs.Paths.{below, names_of}
@@ -9,11 +13,21 @@ use Rattle.dump_trees.specs.Restriction.{is_root}
 use Rattle.dump_trees.specs.Siblings.{has_name_behind, is_above_included}
 use Rattle.dump_index.specs.Effects.{goes_on, stands_over}
 use Rattle.dump_index.specs.steps.Touching.{rest_text}
+use Rattle.dump_index.specs.steps.Names.{texts_of}
+use Rattle.dump_index.proofs.ChildLemmas.{same_texts, strict_texts}
 use Rattle.dump_index.proofs.FrontLemmas.{cut_goes_on, cut_length, goes_on_cut}
 use Rattle.dump_index.proofs.RestLemmas.{rest_same, rest_over, rest_none, split_some}
 use Rattle.dump_cut.specs.steps.ExcludedPaths.{paths_of}
 use Rattle.dump_cut.specs.steps.ExcludedTexts.{is_text_below}
 use Rattle.dump_cut.proofs.RangeLemmas.{below_goes_on}
+
+-- names that are sorted, each once
+pub once_ordered : (sorted once : List (Bor (List ℕ))) → IsSorted (λ one two. slice_cmp nat_cmp one.now two.now) sorted
+    → once ≡ dedup same_texts sorted → IsStrictlySortedBy (slice_cmp nat_cmp) (texts_of once)
+once_ordered sorted once up is =
+    strict_texts once (subst
+    (λ (ns : List (Bor (List ℕ))). IsStrictlySortedBy (λ one two. slice_cmp nat_cmp one.now two.now) ns) (sym is)
+    (IsStrictlySortedBy-dedup (on_texts (λ (text : Bor (List ℕ)). text.now)) (λ one two. texts_ties one.now two.now) sorted up))
 
 -- whether the text is the part of a path before a slash that comes before this place
 abbrev pub is_front_within : ℕ → List ℕ → List ℕ → Bool

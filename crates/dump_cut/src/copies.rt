@@ -7,7 +7,7 @@ ghost use Rattle.dump_index.specs.declared.change.NodeMade.TheVariants.{CopyOf};
 use dump_index::{NodeChange, NodeMade, Source};
 
 /// The source of the change, if it makes a copy.
-pub(crate) fn source_of<'a>(change: &NodeChange<'a>) -> Option<Source<'a>>
+pub fn source_of<'a>(change: &NodeChange<'a>) -> Option<Source<'a>>
     ensures copy { IfSome result (λ source. change.now.made ≡ Some (CopyOf source)) }
     ensures none { IsNone result → IsFalse (is_copied (option_map listed_made change.now.made)) }
 {

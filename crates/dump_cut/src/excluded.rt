@@ -1,6 +1,9 @@
 //! The paths that a cut excludes.
 ghost use Rattle.std.specs.Prelude.{◌≡◌, ◌++◌, ◌∷◌, [], ℕ, List, IfOk, IsTrue, OnErr, OnOk, bytes_eq, false, map, not, true};
+ghost use Rattle.std.specs.Cmp.Lexicographic.{slice_cmp};
 ghost use Rattle.std.specs.List.{list_all, list_any};
+ghost use Rattle.std.specs.List.Sorted.{IsStrictlySortedBy};
+ghost use Rattle.std.specs.Ordering.{nat_cmp};
 ghost use Rattle.dump_trees.specs.CanonicalPaths.{canonical_paths};
 ghost use Rattle.dump_trees.specs.Paths.{NodePath, names_of, path_text};
 ghost use Rattle.dump_trees.specs.Returns.{is_covered, lie_apart, rests_covered};
@@ -167,11 +170,13 @@ impl Excluded {
         Ok(paths)
     }
 
-    /// The directories above these paths, each once: the root, and each part of a path before a slash.
+    /// The directories above these paths, each once and in the order of their bytes: the root, and each part of a path before
+    /// a slash.
     pub fn directories_above(&self, alloc: Global) -> Result<Vec<&[u8]>, Memory>
         ensures named { OnOk result (IsTrue (list_all has_node_names (paths_of self.now))) }
         ensures above { IfOk result (λ directories. (directory : List ℕ) → is_child_named (texts_of directories.items) directory
             ≡ is_above_included (paths_of self.now) (names_of directory)) }
+        ensures ordered { IfOk result (λ directories. IsStrictlySortedBy (slice_cmp nat_cmp) (texts_of directories.items)) }
     {
         let mut directories: Vec<&[u8]> = Vec::new(alloc);
         directories.push(b"".as_slice())?;

@@ -76,6 +76,7 @@ mod taken;
 mod trimming;
 
 pub use canonical::canonical_prefix;
+pub use copies::source_of;
 pub use deletes::Deletes;
 pub use dump_rules::Memory;
 pub use excluded::Excluded;

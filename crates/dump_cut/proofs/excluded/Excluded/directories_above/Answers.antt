@@ -6,7 +6,7 @@ use Rattle.dump_index.specs.Children.{is_child_named}
 use Rattle.dump_index.specs.Effects.{goes_on}
 use Rattle.dump_index.specs.steps.Names.{texts_of}
 use Rattle.dump_index.proofs.ChildLemmas.{dedup_named, moved_named}
-use Rattle.dump_cut.proofs.DirectoryLemmas.{above_texts}
+use Rattle.dump_cut.proofs.DirectoryLemmas.{above_texts, once_ordered}
 use Rattle.dump_cut.proofs.RangeLemmas.{shown_twice}
 use Rattle.dump_cut.proofs.excluded.Excluded.directories_above.Goals as goal
 
@@ -22,3 +22,8 @@ returns-clause-above c directory =
     (shown_twice (λ path. path.items) (λ path. path.now) c.loop-path.yielded
     ∙ (ap (map (λ path. path.items)) all.0 ∙ c.self.view_is))
     ∙ sym (above_texts directory c.args.self.now)))))
+
+pub returns-clause-ordered : goal.returns-clause-ordered
+returns-clause-ordered c =
+    once_ordered c.sort_unstable.new.self.items c.dedup.new.self.items c.sort_unstable.ensures.sorted
+    (dedup_is _ _ _ c.dedup.ensures.filtered)
