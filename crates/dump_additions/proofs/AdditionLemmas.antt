@@ -1,0 +1,424 @@
+-- What is in place of the changes of a dump that loads does the same.
+use Rattle.std.proofs.Common.{◌≡◌, ◌⊎◌, ℕ, suc, ◌+◌, true, List, [], ◌∷◌, ◌++◌, length, map, take, drop, Option, Some, None, option_map, option_and_then, is_some, refl, sym, ap, ap₂, ◌∙◌, subst, append_assoc, append-nil, arith, inl, inr}
+use Rattle.std.specs.Prelude.{IfSome, slice_get}
+use Rattle.std.specs.List.{AllZip}
+use Rattle.std.proofs.lemmas.List.{length-append}
+use Rattle.dump_text.specs.PropertyList.{Property}
+use Rattle.dump_records.specs.RecordText.{DumpRecord}
+use Rattle.dump_filter.specs.FilterLaws.{keep_all}
+use Rattle.dump_trees.specs.Branches.{Branch, tree_of}
+use Rattle.dump_trees.specs.Changes.{Change, Made, TextChange, edited_with, step, steps}
+use Rattle.dump_trees.specs.ComingBack.{properties_of}
+use Rattle.dump_trees.specs.Expansions.{AllExpand, AllRevisionsExpand, Expands}
+use Rattle.dump_trees.specs.Looking.{Placed, end_of, look, placed_from}
+use Rattle.dump_trees.specs.Paths.{NodePath, names_of}
+use Rattle.dump_trees.specs.Revisions.{loaded, loaded_over}
+use Rattle.dump_trees.specs.Trees.{Node, Tree, root_alone}
+use Rattle.dump_trees.specs.WritingOut.{folder_of}
+use Rattle.dump_trees.proofs.cuts.CheckedLoads.{AreFrom, Pushed, all_from, from_append, from_more, of_one, one_from, placed_append, placed_cut, pushed, steps_then}
+use Rattle.dump_trees.proofs.expansions.FiniteLemmas.{HasEntries}
+use Rattle.dump_trees.proofs.expansions.FiniteSteps.{AllFinite, IsFinite, finite_stands, finite_step, finite_steps}
+use Rattle.dump_trees.proofs.expansions.EveryLemmas.{finite_more}
+use Rattle.dump_trees.proofs.expansions.LookLemmas.{look_finds, look_finds_each}
+use Rattle.dump_trees.proofs.histories.FrontLemmas.{loaded_behind}
+use Rattle.dump_trees.proofs.histories.KeptNumbers.{length_push}
+use Rattle.dump_history.specs.RecordChanges.{Patching}
+use Rattle.dump_history.specs.WrittenNodes.{WrittenNode, replacing, written_change}
+use Rattle.dump_history.specs.ExpandedDumps.{OwnForm, Stead}
+use Rattle.dump_history.specs.ExpandedText.{changes_for, expanded_changes}
+use Rattle.dump_history.proofs.cuts.TrimmedLaw.{each_change_stays}
+use Rattle.dump_index.specs.IndexLaws.{HasText, IsListed}
+use Rattle.dump_index.specs.InOrder.{are_in_order}
+use Rattle.dump_index.specs.Kinds.{kind_look}
+use Rattle.dump_index.specs.Listed.{Listed, all_placed, listed_of}
+use Rattle.dump_index.specs.ToldKinds.{kind_meant}
+use Rattle.dump_index.specs.declared.change.NodeChange.{NodeChange}
+use Rattle.dump_index.specs.declared.change.NodeKind.{NodeKind}
+use Rattle.dump_index.specs.declared.change.Setting.TheVariants.{Keeps}
+use Rattle.dump_index.proofs.LawLemmas.{end_same}
+use Rattle.dump_index.proofs.ToldLemmas.{index_tells_kinds}
+use Rattle.dump_changes.specs.NodeProperties.{ArePropertiesAt, ListNodes, property_blocks}
+use Rattle.dump_expansion.specs.ByChanges.{expanded_by}
+use Rattle.dump_expansion.specs.GivenSteads.{GivenStead, left_alone}
+use Rattle.dump_additions.specs.Additions.{AreNodesOf, IsAddition, IsNodeOfForm}
+use Rattle.dump_additions.specs.declared.parts.Form.{Form}
+use Rattle.dump_additions.specs.declared.parts.Form.TheVariants.{Copy, Directory, File}
+use Rattle.dump_additions.specs.Parts.{ArePartsOf, PartMeant}
+use Rattle.dump_additions.specs.steps.WrittenParts.{AreChangesFor, AreEntriesAt, IsChangeOfForm}
+use Rattle.dump_additions.proofs.CopyLemmas.{copy_expands, early, in_trees}
+use Rattle.dump_additions.proofs.EntryLemmas.{set_again}
+
+-- the properties of a node of a finite tree make themselves
+own_again : (tree : Tree) → IsFinite tree → (path : NodePath) (node : Node) → tree path ≡ Some node
+    → edited_with (properties_of node) [] ≡ properties_of node
+own_again tree finite path node at = cases (s.branch) (s.whole.entries) (sym (s.has []) ∙ (ap tree (append-nil path) ∙ at))
+  where
+    s : Rattle.dump_trees.proofs.expansions.FiniteLemmas.Stands tree path
+    s = finite_stands tree finite path node at
+
+    cases : (branch : Branch) → HasEntries branch → tree_of branch [] ≡ Some node
+        → edited_with (properties_of node) [] ≡ properties_of node
+    cases (Branch.Folder props inside) (made, more) is =
+        let same : Node.Folder props ≡ node = (let both : Some (Node.Folder props) ≡ Some node = is in cc) in
+        subst (λ n. edited_with (properties_of n) [] ≡ properties_of n) same (set_again made.0 props made.1)
+    cases (Branch.File props text) (entries, made) is =
+        let same : Node.File props text ≡ node = (let both : Some (Node.File props text) ≡ Some node = is in cc) in
+        subst (λ n. edited_with (properties_of n) [] ≡ properties_of n) same (set_again entries props made)
+
+-- a change that sets no text
+no_text_of : (text : Option TextChange) → HasText Keeps text → text ≡ None
+no_text_of None is = refl
+no_text_of (Some change) is = absurd is
+
+some_kind : (o : Option NodeKind) (n : Option Node)
+    → option_map kind_meant o ≡ option_map Rattle.dump_trees.specs.LoadCheck.kind_of_node n → is_some o ≡ is_some n
+some_kind None None is = refl
+some_kind None (Some node) is = absurd (cc)
+some_kind (Some kind) None is = absurd (cc)
+some_kind (Some kind) (Some node) is = refl
+
+module _ (patched : Patching) (records : List DumpRecord) (changes : List NodeChange) (revisions : List (List Change))
+    (trees : List Tree) (excluded : List NodePath) (lists : ListNodes patched records changes (placed_from 1 revisions))
+    (ordered : are_in_order 0 changes ≡ true) (loads : loaded_over root_alone revisions ≡ Some trees) where
+  abbrev listed : List Listed
+  listed = map listed_of changes
+
+  abbrev here : List Placed
+  here = placed_from 1 revisions
+
+  abbrev blocks : List (List ℕ)
+  blocks = property_blocks records
+
+  abbrev Addition : ℕ → Listed → GivenStead → Type 0
+  Addition = IsAddition blocks listed excluded
+
+  -- what is found in the past
+  properties_found : (text : List ℕ) (count : ℕ) (props : List Property) → ArePropertiesAt blocks listed text count props
+      → (node : Node) → look root_alone here count (names_of text) ≡ Some node → properties_of node ≡ props
+  properties_found text count props are node at = are patched records changes here node refl refl lists ordered at
+
+  module _ (number : ℕ) (old : Tree) (there : slice_get trees number ≡ Some old) (finite : IsFinite old) where
+    entries_found : (path source rest : NodePath) (text : List ℕ) (entries : List Property) → names_of text ≡ source ++ rest
+        → ArePropertiesAt blocks listed text (end_of (all_placed listed) number) entries
+        → AreEntriesAt old number path source rest entries
+    entries_found path source rest text entries text_is are node at =
+        let found = properties_found text (end_of (all_placed listed) number) entries are node
+        (ap₂ (λ n p. look root_alone here n p) (sym (end_same listed here lists.listed number)) text_is
+        ∙ (look_finds_each root_alone revisions trees number old (source ++ rest) loads there ∙ at)) in
+        subst (λ es. edited_with es [] ≡ properties_of node) found (own_again old finite (source ++ rest) node at)
+
+    form_found : (path source : NodePath) (form : Form) (rest : NodePath) (w : WrittenNode)
+        → IsNodeOfForm blocks listed excluded number path source form rest w
+        → IsChangeOfForm old number path source form rest (written_change w)
+    form_found path source Copy rest w (is, kind) = is
+    form_found path source Directory rest w (text, entries, text_is, change_is, are) =
+        (entries, change_is, entries_found path source rest text entries text_is are)
+    form_found path source File rest w is = absurd is
+
+    nodes_found : (path source : NodePath) (parts : List PartMeant) (nodes : List WrittenNode)
+        → AreNodesOf blocks listed excluded number path source parts nodes
+        → AreChangesFor old number path source parts (map written_change nodes)
+    nodes_found path source [] [] are = tt
+    nodes_found path source [] (w ∷ nodes) are = absurd are
+    nodes_found path source (part ∷ parts) [] are = absurd are
+    nodes_found path source (part ∷ parts) (w ∷ nodes) (is, are) =
+        (form_found path source part.form part.rest w is, nodes_found path source parts nodes are)
+
+  -- whether what is in place of the change at a place is itself, or an addition
+  abbrev pub IsSteadAt : ℕ → Listed → Stead → Type 0
+  IsSteadAt place l s = (s ≡ left_alone)
+      ⊎ ((g : GivenStead) × Addition place l g × (s ≡ record { nodes = g.nodes; own = OwnForm.LeftOut }))
+
+  -- so of the changes from this place on
+  abbrev pub AreSteadsFrom : ℕ → List Listed → List Stead → Type 0
+  AreSteadsFrom place [] steads = steads ≡ []
+  AreSteadsFrom place (l ∷ ls) [] = ⊥
+  AreSteadsFrom place (l ∷ ls) (s ∷ steads) = IsSteadAt place l s × AreSteadsFrom (suc place) ls steads
+
+  -- in a revision, after the ones that load to these trees
+  module _ (rs : List (List Change)) (older more : List Tree) (youngest : Tree) (joined : trees ≡ older ++ more)
+      (begins : loaded_over root_alone rs ≡ Some older) (last : slice_get older (length rs) ≡ Some youngest)
+      (all : AllFinite (slice_get older)) where
+    size : (changes : List Change) → length (rs ++ changes ∷ []) ≡ suc (length rs)
+    size changes = length_push rs changes
+
+    -- after some of its changes, before this one
+    module _ (ds : List Change) (before : Tree) (finite : IsFinite before)
+        (done : steps (slice_get older) youngest ds ≡ Some before) (c : Change) (behind : List Placed)
+        (is_here : here ≡ placed_from 1 (rs ++ (ds ++ c ∷ []) ∷ []) ++ behind)
+        (late : AreFrom (suc (length rs)) behind) where
+      abbrev place : ℕ
+      place = length (placed_from 1 (rs ++ ds ∷ []))
+
+      cut : placed_from 1 (rs ++ (ds ++ c ∷ []) ∷ []) ≡ placed_from 1 (rs ++ ds ∷ []) ++ of_one (1 + length rs) (c ∷ [])
+      cut = placed_cut 1 rs ds (c ∷ [])
+
+      next_place : length (placed_from 1 (rs ++ (ds ++ c ∷ []) ∷ [])) ≡ suc place
+      next_place = ap length cut ∙ length_push (placed_from 1 (rs ++ ds ∷ [])) (record { revision = 1 + length rs; change = c })
+
+      one_late : AreFrom (suc (length rs)) (of_one (1 + length rs) (c ∷ []))
+      one_late =
+          subst (λ n. AreFrom n (of_one (1 + length rs) (c ∷ [])))
+          (let same : 1 + length rs ≡ suc (length rs) = omega arith in same) (one_from (1 + length rs) (c ∷ []))
+
+      push_before : Pushed root_alone rs older ds before
+      push_before = pushed root_alone rs older youngest ds before begins last done
+
+      kind_before : (p : NodePath) → is_some (kind_look listed place p) ≡ is_some (before p)
+      kind_before p =
+          some_kind (kind_look listed place p) (before p)
+          (index_tells_kinds changes here lists.listed (rs ++ ds ∷ []) (of_one (1 + length rs) (c ∷ []) ++ behind)
+          (older ++ before ∷ []) before p
+          (is_here ∙ (ap (λ (ps : List Placed). ps ++ behind) cut
+          ∙ append_assoc (placed_from 1 (rs ++ ds ∷ [])) (of_one (1 + length rs) (c ∷ [])) behind))
+          (subst (λ n. AreFrom n (of_one (1 + length rs) (c ∷ []) ++ behind)) (sym (size ds))
+          (from_append (suc (length rs)) (of_one (1 + length rs) (c ∷ [])) behind one_late late))
+          push_before.loads push_before.last)
+
+      look_after : (after : Tree) → step (slice_get older) before c ≡ Some after → (p : NodePath)
+          → look root_alone here (suc place) p ≡ after p
+      look_after after at p =
+          let push = pushed root_alone rs older youngest (ds ++ c ∷ []) after begins last
+          (steps_then (slice_get older) youngest ds (c ∷ [])
+          ∙ (ap (option_and_then (λ t. steps (slice_get older) t (c ∷ []))) done
+          ∙ ap (option_and_then (λ t. steps (slice_get older) t [])) at)) in
+          ap₂ (λ ps n. look root_alone ps n p) is_here (sym next_place)
+          ∙ look_finds root_alone (rs ++ (ds ++ c ∷ []) ∷ []) behind (older ++ after ∷ []) after p push.loads push.last
+          (subst (λ n. AreFrom n behind) (sym (size (ds ++ c ∷ []))) late)
+
+      -- what is in place of a copy
+      addition_expands : (after : Tree) (at : step (slice_get older) before c ≡ Some after) (n : ℕ) (l : Listed)
+          → IsListed l (record { revision = n; change = c }) → (g : GivenStead) → Addition place l g
+          → Expands keep_all (slice_get older) before c (map written_change g.nodes)
+      addition_expands after at n l is g a =
+          subst (λ ws. Expands keep_all (slice_get older) before c (map written_change ws))
+          (sym (ap (λ (x : GivenStead). x.nodes) a.given))
+          (subst (λ w. Expands keep_all (slice_get older) before c (w ∷ map written_change a.nodes)) (sym root_is)
+          (copy_expands changes revisions trees ordered lists.listed loads older more joined all before after finite c at
+          a.number a.source makes no_text excluded a.parts a.is_root.own (map written_change a.nodes) parts_are changes_are own_is))
+        where
+          path_is : names_of l.path ≡ c.path
+          path_is = sym is.path
+
+          makes : c.made ≡ Some (Made.Copied a.number a.source)
+          makes = is.made ∙ a.copies
+
+          no_text : c.text ≡ None
+          no_text = no_text_of c.text (subst (λ s. HasText s c.text) a.no_text is.text)
+
+          old : (old : Tree) × (slice_get older a.number ≡ Some old)
+          old = early changes revisions trees ordered lists.listed loads older more joined all before after finite c at a.number
+              a.source makes no_text
+
+          root_is : written_change a.root ≡ replacing (is_some (before c.path)) (folder_of c.path a.is_root.own)
+          root_is =
+              a.is_root.makes
+              ∙ ap₂ (λ b p. replacing b (folder_of p a.is_root.own))
+              (kind_before (names_of l.path) ∙ ap (λ p. is_some (before p)) path_is) path_is
+
+          parts_are : ArePartsOf listed excluded a.number c.path a.source [] (record { form = Directory; rest = [] } ∷ a.parts)
+          parts_are =
+              subst (λ p. ArePartsOf listed excluded a.number p a.source [] (record { form = Directory; rest = [] } ∷ a.parts))
+              path_is a.are_parts
+
+          changes_are : AreChangesFor old.0 a.number c.path a.source a.parts (map written_change a.nodes)
+          changes_are =
+              nodes_found a.number old.0
+              (in_trees changes revisions trees ordered lists.listed loads older more joined all before after finite c at a.number
+              a.source makes no_text)
+              (all a.number old.0 old.1) c.path a.source a.parts a.nodes
+              (subst (λ p. AreNodesOf blocks listed excluded a.number p a.source a.parts a.nodes) path_is a.are_nodes)
+
+          finite_after : IsFinite after
+          finite_after = subst (λ o. IfSome o IsFinite) at (finite_step (slice_get older) all before finite c)
+
+          own_is : (node : Node) → after c.path ≡ Some node → edited_with a.is_root.own [] ≡ properties_of node
+          own_is node there =
+              let found = properties_found l.path (suc place) a.is_root.own a.is_root.own_are node
+              (ap (look root_alone here (suc place)) path_is ∙ (look_after after at c.path ∙ there)) in
+              subst (λ es. edited_with es [] ≡ properties_of node) found (own_again after finite_after c.path node there)
+
+      -- what is in place of any change
+      stead_expands : (n : ℕ) (l : Listed) → IsListed l (record { revision = n; change = c }) → (s : Stead)
+          → IsSteadAt place l s → Expands keep_all (slice_get older) before c (changes_for s c)
+      stead_expands n l is s (inl alone) =
+          subst (λ x. Expands keep_all (slice_get older) before c (changes_for x c)) (sym alone)
+          (each_change_stays (slice_get older) before c)
+      stead_expands n l is s (inr (g, a, same)) =
+          subst (λ x. Expands keep_all (slice_get older) before c (changes_for x c)) (sym same)
+          (subst (λ cs. Expands keep_all (slice_get older) before c cs) (sym (append-nil (map written_change g.nodes)))
+          (λ after at. addition_expands after at n l is g a after at))
+
+    -- the changes of the revision
+    changes_expand : (cs ds : List Change) (before : Tree) → IsFinite before
+        → steps (slice_get older) youngest ds ≡ Some before → (behind : List Placed)
+        → here ≡ placed_from 1 (rs ++ (ds ++ cs) ∷ []) ++ behind → AreFrom (suc (length rs)) behind → (place : ℕ)
+        → place ≡ length (placed_from 1 (rs ++ ds ∷ [])) → (ls : List Listed) → AllZip IsListed ls (of_one (1 + length rs) cs)
+        → (steads : List Stead) → AreSteadsFrom place ls steads
+        → AllExpand keep_all (slice_get older) before cs (expanded_changes steads cs)
+    changes_expand [] ds before finite done behind is_here late place place_is ls zip [] are = refl
+    changes_expand [] ds before finite done behind is_here late place place_is ls zip (s ∷ steads) are = refl
+    changes_expand (c ∷ cs) ds before finite done behind is_here late place place_is [] zip steads are = absurd zip
+    changes_expand (c ∷ cs) ds before finite done behind is_here late place place_is (l ∷ ls) zip [] are = absurd are
+    changes_expand (c ∷ cs) ds before finite done behind is_here late place place_is (l ∷ ls) (is, zip) (s ∷ steads) (own, are) = (
+      changes_for s c,
+      expanded_changes steads cs,
+      refl,
+      stead_expands ds before finite done c (of_one (1 + length rs) cs ++ behind) with_c late_too (1 + length rs) l is s
+          (subst (λ n. IsSteadAt n l s) place_is own),
+      λ after at.
+          changes_expand cs (ds ++ c ∷ []) after
+          (subst (λ o. IfSome o IsFinite) at (finite_step (slice_get older) all before finite c))
+          (steps_then (slice_get older) youngest ds (c ∷ [])
+          ∙ (ap (option_and_then (λ t. steps (slice_get older) t (c ∷ []))) done
+          ∙ ap (option_and_then (λ t. steps (slice_get older) t [])) at))
+          behind (is_here ∙ ap (λ ds'. placed_from 1 (rs ++ ds' ∷ []) ++ behind) (sym (append_assoc ds (c ∷ []) cs))) late
+          (suc place)
+          (ap suc place_is
+          ∙ sym (ap length (placed_cut 1 rs ds (c ∷ []))
+          ∙ length_push (placed_from 1 (rs ++ ds ∷ [])) (record { revision = 1 + length rs; change = c })))
+          ls zip steads are,
+    )
+      where
+        with_c : here ≡ placed_from 1 (rs ++ (ds ++ c ∷ []) ∷ []) ++ (of_one (1 + length rs) cs ++ behind)
+        with_c =
+            is_here
+            ∙ (ap (λ ds'. placed_from 1 (rs ++ ds' ∷ []) ++ behind) (sym (append_assoc ds (c ∷ []) cs))
+            ∙ (ap (λ (ps : List Placed). ps ++ behind) (placed_cut 1 rs (ds ++ c ∷ []) cs)
+            ∙ append_assoc (placed_from 1 (rs ++ (ds ++ c ∷ []) ∷ [])) (of_one (1 + length rs) cs) behind))
+
+        late_too : AreFrom (suc (length rs)) (of_one (1 + length rs) cs ++ behind)
+        late_too =
+            from_append (suc (length rs)) (of_one (1 + length rs) cs) behind
+            (subst (λ n. AreFrom n (of_one (1 + length rs) cs))
+            (let same : 1 + length rs ≡ suc (length rs) = omega arith in same) (one_from (1 + length rs) cs))
+            late
+
+  -- lists of two parts
+  record AreSplitAt (place : ℕ) (ls rest : List Listed) (steads : List Stead) : Type 0 where
+    pub first : AreSteadsFrom place ls (take (length ls) steads)
+    pub others : AreSteadsFrom (place + length ls) rest (drop (length ls) steads)
+
+  split_steads : (place : ℕ) (ls rest : List Listed) (steads : List Stead) → AreSteadsFrom place (ls ++ rest) steads
+      → AreSplitAt place ls rest steads
+  split_steads place [] rest steads are = record {
+    first = refl;
+    others = subst (λ n. AreSteadsFrom n rest steads) (let same : place ≡ place + 0 = omega arith in same) are;
+  }
+  split_steads place (l ∷ ls) rest [] are = absurd are
+  split_steads place (l ∷ ls) rest (s ∷ steads) (own, are) =
+      let more = split_steads (suc place) ls rest steads are in
+      record {
+        first = (own, more.first);
+        others = subst (λ n. AreSteadsFrom n rest (drop (length ls) steads))
+            (let same : suc place + length ls ≡ place + suc (length ls) = omega arith in same) more.others;
+      }
+
+  record AreListedApart (ls : List Listed) (xs ys : List Placed) : Type 0 where
+    pub front : List Listed
+    pub back : List Listed
+    pub joined : ls ≡ front ++ back
+    pub first : AllZip IsListed front xs
+    pub others : AllZip IsListed back ys
+
+  split_listed : (ls : List Listed) (xs ys : List Placed) → AllZip IsListed ls (xs ++ ys) → AreListedApart ls xs ys
+  split_listed ls [] ys all = record { front = []; back = ls; joined = refl; first = tt; others = all }
+  split_listed [] (x ∷ xs) ys all = absurd all
+  split_listed (l ∷ ls) (x ∷ xs) ys (is, all) =
+      let more = split_listed ls xs ys all in
+      record {
+        front = l ∷ more.front;
+        back = more.back;
+        joined = ap (λ ms. l ∷ ms) more.joined;
+        first = (is, more.first);
+        others = more.others;
+      }
+
+  zip_size : (ls : List Listed) (number : ℕ) (cs : List Change) → AllZip IsListed ls (of_one number cs) → length ls ≡ length cs
+  zip_size [] number [] all = refl
+  zip_size [] number (c ∷ cs) all = absurd all
+  zip_size (l ∷ ls) number [] all = absurd all
+  zip_size (l ∷ ls) number (c ∷ cs) (is, all) = ap suc (zip_size ls number cs all)
+
+  one_size : (number : ℕ) (cs : List Change) → length (of_one number cs) ≡ length cs
+  one_size number [] = refl
+  one_size number (c ∷ cs) = ap suc (one_size number cs)
+
+  -- the changes of all revisions
+  pub revisions_expand : (left rs : List (List Change)) (older : List Tree) (youngest : Tree) → here ≡ placed_from 1 (rs ++ left)
+      → loaded_over root_alone rs ≡ Some older → slice_get older (length rs) ≡ Some youngest → AllFinite (slice_get older)
+      → IsFinite youngest → loaded older youngest left ≡ Some trees → (ls : List Listed)
+      → AllZip IsListed ls (placed_from (suc (length rs)) left) → (steads : List Stead)
+      → AreSteadsFrom (length (placed_from 1 rs)) ls steads
+      → AllRevisionsExpand keep_all older youngest left (expanded_by steads left)
+  revisions_expand [] rs older youngest is_here begins last all finite leads ls zip steads are = refl
+  revisions_expand (cs ∷ left) rs older youngest is_here begins last all finite leads ls zip steads are = (
+    expanded_changes (take (length cs) steads) cs,
+    expanded_by (drop (length cs) steads) left,
+    refl,
+    first,
+    λ tree at.
+        let push = pushed root_alone rs older youngest cs tree begins last at in
+        revisions_expand left (rs ++ cs ∷ []) (older ++ tree ∷ []) tree
+        (is_here ∙ ap (placed_from 1) (sym (append_assoc rs (cs ∷ []) left))) push.loads push.last
+        (finite_more older tree all (finite_tree tree at))
+        (finite_tree tree at) (sym (ap (option_and_then (λ t. loaded (older ++ t ∷ []) t left)) at) ∙ leads) parts.back
+        (subst (λ n. AllZip IsListed parts.back (placed_from n left)) (ap suc (sym (length_push rs cs))) parts.others)
+        (drop (length cs) steads)
+        (subst (λ n. AreSteadsFrom n parts.back (drop (length cs) steads)) next_place
+        (subst (λ n. AreSteadsFrom (length (placed_from 1 rs) + length parts.front) parts.back (drop n steads)) parts_size
+        its.others)),
+  )
+    where
+      joined : (more : List Tree) × (trees ≡ older ++ more)
+      joined = loaded_behind older youngest (cs ∷ left) trees leads
+
+      finite_tree : (tree : Tree) → steps (slice_get older) youngest cs ≡ Some tree → IsFinite tree
+      finite_tree tree at = subst (λ o. IfSome o IsFinite) at (finite_steps (slice_get older) all cs youngest finite)
+
+      parts : AreListedApart ls (of_one (suc (length rs)) cs) (placed_from (suc (suc (length rs))) left)
+      parts = split_listed ls (of_one (suc (length rs)) cs) (placed_from (suc (suc (length rs))) left) zip
+
+      parts_size : length parts.front ≡ length cs
+      parts_size = zip_size parts.front (suc (length rs)) cs parts.first
+
+      its : AreSplitAt (length (placed_from 1 rs)) parts.front parts.back steads
+      its = split_steads (length (placed_from 1 rs)) parts.front parts.back steads
+          (subst (λ ms. AreSteadsFrom (length (placed_from 1 rs)) ms steads) parts.joined are)
+
+      one_more : placed_from 1 (rs ++ cs ∷ []) ≡ placed_from 1 rs ++ of_one (1 + length rs) cs
+      one_more =
+          placed_append 1 rs (cs ∷ [])
+          ∙ ap (λ (ps : List Placed). placed_from 1 rs ++ ps) (append-nil (of_one (1 + length rs) cs))
+
+      next_place : length (placed_from 1 rs) + length parts.front ≡ length (placed_from 1 (rs ++ cs ∷ []))
+      next_place =
+          ap (λ n. length (placed_from 1 rs) + n) (parts_size ∙ sym (one_size (1 + length rs) cs))
+          ∙ sym (ap length one_more ∙ length-append (placed_from 1 rs) (of_one (1 + length rs) cs))
+
+      none_done : length (placed_from 1 rs) ≡ length (placed_from 1 (rs ++ [] ∷ []))
+      none_done =
+          ap length (sym (placed_append 1 rs ([] ∷ []) ∙ append-nil (placed_from 1 rs)))
+
+      here_now : here ≡ placed_from 1 (rs ++ ([] ++ cs) ∷ []) ++ placed_from (suc (suc (length rs))) left
+      here_now =
+          is_here
+          ∙ (ap (placed_from 1) (sym (append_assoc rs (cs ∷ []) left))
+          ∙ (placed_append 1 (rs ++ cs ∷ []) left
+          ∙ ap (λ n. placed_from 1 (rs ++ cs ∷ []) ++ placed_from n left)
+          (ap (λ n. 1 + n) (length_push rs cs)
+          ∙ (let same : 1 + suc (length rs) ≡ suc (suc (length rs)) = omega arith in same))))
+
+      later : AreFrom (suc (length rs)) (placed_from (suc (suc (length rs))) left)
+      later =
+          from_more (suc (length rs)) (suc (suc (length rs))) (omega arith) (placed_from (suc (suc (length rs))) left)
+          (all_from (suc (suc (length rs))) left)
+
+      first : AllExpand keep_all (slice_get older) youngest cs (expanded_changes (take (length cs) steads) cs)
+      first =
+          changes_expand rs older joined.0 youngest joined.1 begins last all cs [] youngest finite refl
+          (placed_from (suc (suc (length rs))) left) here_now later (length (placed_from 1 rs)) none_done parts.front
+          (subst (λ n. AllZip IsListed parts.front (of_one n cs))
+          (let same : suc (length rs) ≡ 1 + length rs = omega arith in same) parts.first)
+          (take (length cs) steads)
+          (subst (λ n. AreSteadsFrom (length (placed_from 1 rs)) parts.front (take n steads)) parts_size its.first)

@@ -1,0 +1,11 @@
+pub mod AdditionLaw
+pub mod AdditionLemmas
+pub mod CopyLemmas
+pub mod EntryLemmas
+pub mod ExpandLemmas
+pub mod NodeLemmas
+pub mod NumberLemmas
+pub mod PartLemmas
+pub mod RootLemmas
+pub mod StepLemmas
+pub mod WrittenLemmas

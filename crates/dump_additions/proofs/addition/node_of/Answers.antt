@@ -1,0 +1,15 @@
+use Rattle.std.proofs.Common.{sym, subst}
+use Rattle.dump_trees.specs.Paths.{names_of}
+use Rattle.dump_expansion.specs.steps.NewNodes.{written_of}
+use Rattle.dump_additions.specs.Additions.{IsNodeOfForm}
+use Rattle.dump_additions.specs.steps.Nodes.{IsDirectoryNode}
+use Rattle.dump_additions.proofs.addition.node_of.Goals as goal
+
+pub returns-in_ok-directory_node-in-Directory : goal.returns-in_ok-directory_node-in-Directory
+returns-in_ok-directory_node-in-Directory c = λ excluded.
+    subst (λ f. IsNodeOfForm c.args.table.now c.args.index.now excluded c.args.source.revision (names_of c.args.path.now)
+    (names_of c.args.source.path.now) f (names_of c.args.part.now.rest.items)
+    (written_of c.in_ok-directory_node-in-Directory.field-0)) (sym c.in-Directory.is)
+    (subst (λ t. IsDirectoryNode c.args.table.now c.args.index.now c.args.source.revision (names_of c.args.path.now)
+    (names_of c.args.source.path.now) (names_of t) (written_of c.in_ok-directory_node-in-Directory.field-0))
+    c.deref-in-Directory.ensures.value c.in_ok-directory_node-in-Directory.ensures)

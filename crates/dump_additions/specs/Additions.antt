@@ -1,0 +1,90 @@
+-- What is written in place of the copies of a dump with which something excluded comes back.
+use Rattle.std.specs.Prelude.{◌≡◌, ℕ, suc, false, List, [], ◌∷◌, ◌++◌, Option, Some, None, is_some, ⊤}
+use Rattle.std.specs.List.{AllZip}
+use Rattle.dump_text.specs.PropertyList.{Property}
+use Rattle.dump_trees.specs.Changes.{Made}
+use Rattle.dump_trees.specs.Looking.{end_of}
+use Rattle.dump_trees.specs.Paths.{NodePath, names_of}
+use Rattle.dump_trees.specs.WritingOut.{copy_of, folder_of}
+use Rattle.dump_history.specs.WrittenNodes.{WrittenNode, replacing, written_change}
+use Rattle.dump_history.specs.WrittenNodes as format
+use Rattle.dump_index.specs.Kinds.{kind_look}
+use Rattle.dump_index.specs.Listed.{Listed, all_placed}
+use Rattle.dump_index.specs.declared.change.NodeKind.{NodeKind}
+use Rattle.dump_index.specs.declared.change.NodeKind.TheVariants as kinds
+use Rattle.dump_index.specs.declared.change.Setting.TheVariants.{Keeps}
+use Rattle.dump_changes.specs.NodeProperties.{ArePropertiesAt}
+use Rattle.dump_expansion.specs.GivenSteads.{GivenStead}
+use Rattle.dump_additions.specs.declared.parts.Form.{Form}
+use Rattle.dump_additions.specs.declared.parts.Form.TheVariants.{Copy, Directory, File}
+use Rattle.dump_additions.specs.Parts.{ArePartsOf, PartMeant, TakesWhole, kind_in}
+
+-- the kind that a copy says that it is of
+abbrev pub kind_said : WrittenNode → Option format.NodeKind
+kind_said (WrittenNode.Deletion path) = None
+kind_said (WrittenNode.Copy kind number source path) = Some kind
+kind_said (WrittenNode.Folder replaces path entries) = None
+kind_said (WrittenNode.File replaces path entries text md5 sha1) = None
+
+-- the node says that it copies a node of this kind, if there is one
+abbrev pub SaysKind : Option NodeKind → WrittenNode → Type 0
+SaysKind None w = ⊤
+SaysKind (Some kinds.Folder) w = kind_said w ≡ Some format.NodeKind.Dir
+SaysKind (Some kinds.File) w = kind_said w ≡ Some format.NodeKind.File
+
+module _ (blocks : List (List ℕ)) (listed : List Listed) (excluded : List NodePath) (number : ℕ) (path source : NodePath) where
+  -- the node writes what exists at this rest of the source in this form: no node writes a file
+  abbrev pub IsNodeOfForm : Form → NodePath → WrittenNode → Type 0
+  IsNodeOfForm Copy rest w = (written_change w ≡ copy_of number (source ++ rest) (path ++ rest))
+      × SaysKind (kind_in listed number (source ++ rest)) w
+  IsNodeOfForm Directory rest w = (text : List ℕ) × (entries : List Property) × (names_of text ≡ source ++ rest)
+      × (written_change w ≡ folder_of (path ++ rest) entries)
+      × ArePropertiesAt blocks listed text (end_of (all_placed listed) number) entries
+  IsNodeOfForm File rest w = ⊥
+
+  abbrev pub IsNodeOf : PartMeant → WrittenNode → Type 0
+  IsNodeOf part w = IsNodeOfForm part.form part.rest w
+
+  -- the nodes write the parts, one each
+  abbrev pub AreNodesOf : List PartMeant → List WrittenNode → Type 0
+  AreNodesOf parts nodes = AllZip IsNodeOf parts nodes
+
+module _ (blocks : List (List ℕ)) (listed : List Listed) (excluded : List NodePath) where
+  -- the node makes a directory at the path of the change at this place, with the properties that are there after it; it
+  -- replaces what exists there before it, if something does
+  pub record IsRootOf (place : ℕ) (l : Listed) (w : WrittenNode) : Type 0 where
+    pub own : List Property
+    pub own_are : ArePropertiesAt blocks listed l.path (suc place) own
+    pub makes : written_change w
+        ≡ replacing (is_some (kind_look listed place (names_of l.path))) (folder_of (names_of l.path) own)
+
+  -- the change at this place copies a directory, and these nodes write it, with what is in it
+  pub record IsAddition (place : ℕ) (l : Listed) (g : GivenStead) : Type 0 where
+    pub number : ℕ
+    pub source : NodePath
+    pub copies : l.made ≡ Some (Made.Copied number source)
+    pub no_text : l.text ≡ Keeps
+    pub parts : List PartMeant
+    pub are_parts : ArePartsOf listed excluded number (names_of l.path) source []
+        (record { form = Directory; rest = [] } ∷ parts)
+    pub root : WrittenNode
+    pub is_root : IsRootOf place l root
+    pub nodes : List WrittenNode
+    pub are_nodes : AreNodesOf blocks listed excluded number (names_of l.path) source parts nodes
+    pub given : g ≡ record { number = l.record_number; nodes = root ∷ nodes; keeps = false }
+
+  -- nothing comes back with what is made at the path
+  abbrev pub BringsNone : NodePath → Option Made → Type 0
+  BringsNone path None = ⊤
+  BringsNone path (Some Made.NewFolder) = ⊤
+  BringsNone path (Some Made.NewFile) = ⊤
+  BringsNone path (Some (Made.Copied number source)) = TakesWhole listed excluded number path source []
+
+  -- of the changes from this place on, those with which something comes back have these in their place, in order
+  pub data AreAdditionsFrom : ℕ → List Listed → List GivenStead → Type 0 where
+    NoChange : (place : ℕ) → AreAdditionsFrom place [] []
+    Kept : (place : ℕ) (l : Listed) (more : List Listed) (given : List GivenStead) → BringsNone (names_of l.path) l.made
+        → AreAdditionsFrom (suc place) more given → AreAdditionsFrom place (l ∷ more) given
+    Added : (place : ℕ) (l : Listed) (more : List Listed) (g : GivenStead) (given : List GivenStead)
+        → IsAddition place l g → AreAdditionsFrom (suc place) more given
+        → AreAdditionsFrom place (l ∷ more) (g ∷ given)

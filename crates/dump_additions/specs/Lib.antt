@@ -1,0 +1,4 @@
+pub mod AdditionLaws
+pub mod Additions
+pub mod Parts
+pub mod steps
