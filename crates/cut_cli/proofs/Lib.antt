@@ -3,4 +3,5 @@ pub mod CutLemmas
 pub mod DriveLemmas
 pub mod FrontLemmas
 pub mod MapLemmas
+pub mod UnfollowedLemmas
 mod Values

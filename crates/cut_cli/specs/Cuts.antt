@@ -163,6 +163,7 @@ IsObstacleTo m dump (Unread reason) = IsUnreadFor m.drop dump reason
 IsObstacleTo m dump (Refused refused) = (listed : List Listed) × BeginsWithChanges dump listed
     × IsFirstRefused listed (Some refused)
 IsObstacleTo m dump ComesBack = (listed : List Listed) × IsTakenDump dump listed × Returns m dump listed
+    × (m.side ≡ Exclude → m.follow ≡ false)
 IsObstacleTo m dump (OddDelete place) = (listed : List Listed) × (excluded : List NodePath) × IsTakenDump dump listed
     × ExcludesAsAsked m dump listed excluded
     × ((placed : List Placed) → AllZip IsListed listed placed → HasOddDelete excluded (kinds_told_by listed) placed place)

@@ -9,7 +9,7 @@ pub const HELP: &str = "usage: svndumpcut include|exclude [OPTIONS] PREFIX...
 
 Reads the dump of a whole Subversion repository on standard input, and writes a
 dump without some paths on standard output. include keeps what is at and below
-each prefix, and the directories above; exclude keeps everything else.
+each prefix, and the directories above; exclude keeps what no prefix matches.
 
   --targets FILE     more prefixes, one a line; may be given again
   --map FILE         write the new number of each revision to this file

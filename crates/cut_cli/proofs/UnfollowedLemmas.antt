@@ -1,0 +1,67 @@
+-- Under exclude something can come back only if copies are not followed.
+use Rattle.std.proofs.Common.{◌≡◌, ◌≢◌, ◌⊎◌, ℕ, Bool, true, false, List, [], ◌∷◌, map, Option, Some, None, refl, sym, ap, ◌∙◌, subst, inl, inr}
+use Rattle.std.specs.List.{AllZip}
+use Rattle.dump_rules.specs.declared.options.Side.{Side}
+use Rattle.dump_rules.specs.declared.options.Side.TheVariants.{Exclude, Include}
+use Rattle.dump_trees.specs.Changes.{Made}
+use Rattle.dump_trees.specs.Following.{Way}
+use Rattle.dump_trees.specs.Looking.{Placed, placed_from}
+use Rattle.dump_trees.specs.Paths.{NodePath}
+use Rattle.dump_history.specs.RecordChanges.{Patching}
+use Rattle.dump_index.specs.IndexLaws.{HasProps, HasText, IsListed}
+use Rattle.dump_index.specs.Listed.{Listed, listed_of}
+use Rattle.dump_changes.specs.ListedDumps.{without_number}
+use Rattle.cut_cli.specs.Cuts.{AreChangesOf, BringsSomeBack, IsAskedBy, IsTakenDump, LeadsNowhere, Returns}
+use Rattle.cut_cli.specs.Words.{CutMeaning}
+
+-- some reading of text deltas
+no_patch : Patching
+no_patch delta old = None
+
+-- the change with what another one makes
+abbrev made_as : Option Made → Placed → Placed
+made_as made p = record p { change = record p.change { made = made } }
+
+listed_as : (l other : Listed) (p : Placed) → without_number l ≡ without_number other → IsListed l p
+    → IsListed other (made_as other.made p)
+listed_as l other p same is = record {
+  revision = is.revision ∙ ap (λ (x : Listed). x.revision) same;
+  path = is.path ∙ ap (λ (x : Listed). Rattle.dump_trees.specs.Paths.names_of x.path) same;
+  deletes = is.deletes ∙ ap (λ (x : Listed). x.deletes) same;
+  made = refl;
+  props = subst (λ s. HasProps s p.change.props) (ap (λ (x : Listed). x.props) same) is.props;
+  text = subst (λ s. HasText s p.change.text) (ap (λ (x : Listed). x.text) same) is.text;
+}
+
+all_as : (one other : List Listed) (placed : List Placed) → map without_number one ≡ map without_number other
+    → AllZip IsListed one placed → (others : List Placed) × AllZip IsListed other others
+all_as [] [] placed same all = ([], tt)
+all_as [] (o ∷ other) placed same all = absurd (cc)
+all_as (l ∷ one) [] placed same all = absurd (cc)
+all_as (l ∷ one) (o ∷ other) [] same all = absurd all
+all_as (l ∷ one) (o ∷ other) (p ∷ placed) same (is, all) =
+    let (others, zip) = all_as one other placed (ap (Rattle.std.specs.Prelude.drop 1) same) all in (
+      made_as o.made p ∷ others,
+      (listed_as l o p (let first : without_number l ≡ without_number o = cc in first) is, zip),
+    )
+
+-- an index of a dump that is read is of some changes
+some_placed : (dump : List ℕ) (listed : List Listed) → AreChangesOf dump listed
+    → (placed : List Placed) × AllZip IsListed listed placed
+some_placed dump listed (inl (changes, (records, has, makes), same)) =
+    let (revisions, make, all) = makes no_patch in
+    (placed_from 1 revisions, subst (λ ls. AllZip IsListed ls (placed_from 1 revisions)) same all)
+some_placed dump listed (inr (changes, (records, has, other, rise, makes), same)) =
+    let (placed, make, all) = makes no_patch in
+    all_as (map listed_of changes) listed placed same all
+
+pub back_is_unfollowed : (m : CutMeaning) (dump : List ℕ) (listed : List Listed) → IsTakenDump dump listed
+    → Returns m dump listed → m.side ≡ Exclude → m.follow ≡ false
+back_is_unfollowed m dump listed (are, loads) (excluded, asked, back) side = cases m.follow refl
+  where
+    cases : (b : Bool) → m.follow ≡ b → b ≡ false
+    cases false is = refl
+    cases true is =
+        let (placed, all) = some_placed dump listed are in
+        let follows = subst (λ s. IsAskedBy s m dump listed excluded) side asked in
+        absurd (back placed all (follows.followed is placed all))
