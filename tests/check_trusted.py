@@ -63,6 +63,8 @@ class File:
             indent, words = len(line) - len(line.lstrip()), line.split()
             if not words or words[0] in ("use", "--") or line.startswith("pub use"):
                 continue
+            if indent and words[0] == "module":
+                raise SystemExit(f"tests/check_trusted.py: {crate}, {path}: a module in a module, whose names are not seen")
             if indent == 0:
                 module, depth = (line, 2) if words[0] == "module" else ("", 2 if words[-1] == "mutual" else 0)
             head = HEAD.match(line.strip())
