@@ -1,5 +1,5 @@
 -- Examples of the definitions, which the right ones meet and wrong ones do not.
-use Rattle.std.proofs.Common.{◌≡◌, ℕ, Bool, true, false, List, [], ◌∷◌, Some, Vec, Global, codes, refl}
+use Rattle.std.proofs.Common.{◌≡◌, ℕ, Bool, true, false, List, [], ◌∷◌, Some, None, Vec, Global, Bor, codes, map, refl}
 use Rattle.dump_records.specs.RecordText.{DumpRecord}
 use Rattle.dump_history.specs.ExpandedDumps.{OwnForm, Stead}
 use Rattle.dump_history.specs.WrittenNodes as format
@@ -81,6 +81,10 @@ module _ (path source : Vec ℕ Global) (entries : Vec NodeProperty Global) (p :
   directory_copied : written_of (nodes.Copy kinds.Folder 7 source path)
       ≡ format.WrittenNode.Copy format.NodeKind.Dir 7 source.items path.items
   directory_copied = refl
+
+  file_made : (text md5 : Bor (List ℕ)) → written_of (nodes.File true path entries text (Some md5) None)
+      ≡ format.WrittenNode.File true path.items (map as_property entries.items) text.now (Some md5.now) None
+  file_made text md5 = refl
 
   property_set : as_property p ≡ record { name = p.name.now; value = Some p.value.now }
   property_set = refl

@@ -1,8 +1,8 @@
 //! Writes the expanded form of a dump: in place of some of its nodes it writes other nodes.
 //!
-//! A [`NewNode`] is a deletion, a copy or a directory with its properties. A [`Stead`] says which node of the dump has such
-//! nodes in its place, and whether the node itself follows them. [`expanded`] takes only nodes that a load reads as they
-//! are meant:
+//! A [`NewNode`] is a deletion, a copy, a directory with its properties or a file with its properties and its text. A
+//! [`Stead`] says which node of the dump has such nodes in its place, and whether the node itself follows them.
+//! [`expanded`] takes only nodes that a load reads as they are meant:
 //!
 //! ```
 //! steads.push(Stead {

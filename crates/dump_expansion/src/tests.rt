@@ -23,6 +23,21 @@ K 10\nsvn:ignore\nV 2\nx\n\nPROPS-END\n\n\n\
 Node-path: b/f\nNode-kind: file\nNode-action: add\n\
 Node-copyfrom-rev: 1\nNode-copyfrom-path: a/f\n\n\n";
 
+/// The digests of `hello` and a line feed.
+const MD5: &[u8] = b"b1946ac92492d2347c6235b4d2611184";
+
+const SHA1: &[u8] = b"f572d396fae9206628714fb2ce00f72e94f2258f";
+
+const FILES: &str = "Node-path: b\nNode-kind: file\nNode-action: add\n\
+Prop-content-length: 36\nText-content-length: 6\n\
+Text-content-md5: b1946ac92492d2347c6235b4d2611184\n\
+Text-content-sha1: f572d396fae9206628714fb2ce00f72e94f2258f\n\
+Content-length: 42\n\n\
+K 14\nsvn:executable\nV 1\n*\nPROPS-END\nhello\n\n\n\
+Node-path: b\nNode-kind: file\nNode-action: replace\n\
+Prop-content-length: 36\nText-content-length: 6\nContent-length: 42\n\n\
+K 14\nsvn:executable\nV 1\n*\nPROPS-END\nhello\n\n\n";
+
 /// The dump with these nodes in revision 2.
 fn dump_with(alloc: Global, nodes: &str) -> Result<Vec<u8>, Memory> {
     let mut dump = Vec::from_slice(alloc, HEAD.as_bytes())?;
@@ -66,12 +81,34 @@ fn copy(alloc: Global, revision: u64) -> Result<NewNode<'static>, Memory> {
     })
 }
 
-/// Whether the copy is replaced by a directory and a copy of its content.
-fn replaces(alloc: Global) -> Result<bool, Memory> {
+/// The executable file `b` with a line, and perhaps digests of it.
+fn file(
+    alloc: Global,
+    replaces: bool,
+    md5: Option<&'static [u8]>,
+    sha1: Option<&'static [u8]>,
+) -> Result<NewNode<'static>, Memory> {
+    let path = Vec::from_slice(alloc, b"b")?;
+    let entries = Vec::from_slice(
+        alloc,
+        &[NodeProperty {
+            name: b"svn:executable",
+            value: b"*",
+        }],
+    )?;
+    Ok(NewNode::File {
+        replaces,
+        path,
+        entries,
+        text: b"hello\n",
+        md5,
+        sha1,
+    })
+}
+
+/// Whether the dump has what is wanted in revision 2, if these nodes replace the copy.
+fn replaces(alloc: Global, nodes: Vec<NewNode<'static>>, wanted: &str) -> Result<bool, Memory> {
     let dump = dump_with(alloc, COPY)?;
-    let mut nodes = Vec::new(alloc);
-    nodes.push(folder(alloc, b"svn:ignore")?)?;
-    nodes.push(copy(alloc, 1)?)?;
     let mut steads = Vec::new(alloc);
     steads.push(Stead {
         record_number: COPY_NUMBER,
@@ -82,20 +119,42 @@ fn replaces(alloc: Global) -> Result<bool, Memory> {
         return Ok(false);
     }
     let text = expanded(alloc, &dump, &steads)?;
-    let wanted = dump_with(alloc, FOLDER_AND_COPY)?;
+    let wanted = dump_with(alloc, wanted)?;
     Ok(text.as_slice() == wanted.as_slice())
+}
+
+/// Whether the copy is replaced by a directory and a copy of its content.
+fn replaces_by_folder(alloc: Global) -> Result<bool, Memory> {
+    let mut nodes = Vec::new(alloc);
+    nodes.push(folder(alloc, b"svn:ignore")?)?;
+    nodes.push(copy(alloc, 1)?)?;
+    replaces(alloc, nodes, FOLDER_AND_COPY)
+}
+
+/// Whether the copy is replaced by a file with digests, and that by one without.
+fn replaces_by_files(alloc: Global) -> Result<bool, Memory> {
+    let mut nodes = Vec::new(alloc);
+    nodes.push(file(alloc, false, Some(MD5), Some(SHA1))?)?;
+    nodes.push(file(alloc, true, None, None)?)?;
+    replaces(alloc, nodes, FILES)
 }
 
 #[test]
 fn a_copy_is_replaced(rt: HostRuntime) -> Result<(), Fail> {
-    assert!(rt; replaces(rt.alloc())?);
+    assert!(rt; replaces_by_folder(rt.alloc())?);
     Ok(())
 }
 
 #[test]
 fn replaced_or_no_memory(rt: HostRuntime) {
-    let answer = replaces(rt.alloc());
+    let answer = replaces_by_folder(rt.alloc());
     assert!(rt; matches!(answer, Ok(true) | Err(Memory)));
+}
+
+#[test]
+fn files_are_written_with_their_text(rt: HostRuntime) -> Result<(), Fail> {
+    assert!(rt; replaces_by_files(rt.alloc())?);
+    Ok(())
 }
 
 /// Whether the dump has these nodes in revision 2, if a deletion of `b` is given for this record, which is kept.
@@ -141,6 +200,9 @@ fn nodes_that_cannot_be_written(rt: HostRuntime) -> Result<(), Fail> {
     assert!(rt; !can_delete(alloc, b"a\nb")? && !can_delete(alloc, b"a\0b")?);
     assert!(rt; !copy(alloc, 1_000_000_000_000_000_000)?.can_be_written());
     assert!(rt; !folder(alloc, b"a\0")?.can_be_written());
+    assert!(rt; file(alloc, false, Some(MD5), None)?.can_be_written());
+    assert!(rt; !file(alloc, false, Some(b"a\nb"), None)?.can_be_written());
+    assert!(rt; !file(alloc, false, None, Some(b"a\0"))?.can_be_written());
     Ok(())
 }
 

@@ -1,15 +1,16 @@
 //! A node that is written in place of another.
-ghost use Rattle.std.specs.Prelude.{◌≡◌, ◌&&◌, ◌++◌, ◌∷◌, [], List, IfOk, OnOk, codes, length, map, not};
+ghost use Rattle.std.specs.Prelude.{◌≡◌, ◌&&◌, ◌+◌, ◌-◌, ◌^◌, ◌++◌, ◌∷◌, [], List, IfOk, OnOk, codes, length, map, min, not, option_copied};
 ghost use Rattle.std.specs.List.{list_all};
+ghost use Rattle.dump_text.specs.HeaderBlock.{lines_bytes};
 ghost use Rattle.dump_text.specs.HeaderLine.{has_byte, header_text};
 ghost use Rattle.dump_text.specs.Number.{spelled_number};
 ghost use Rattle.dump_text.specs.PropertyList.{Property, property_block_text, sized_text};
 ghost use Rattle.dump_text.specs.steps.KnownValues.{name_text};
 ghost use Rattle.dump_records.specs.DumpText.{line_feeds};
-ghost use Rattle.dump_history.specs.WrittenNodes.{WrittenNode, are_plain_entries, can_be_written, is_plain_path, is_readable, kind_word, line, making_word, node_bytes};
+ghost use Rattle.dump_history.specs.WrittenNodes.{WrittenNode, are_plain_entries, can_be_written, is_plain_option, is_plain_path, is_plain_value, is_readable, kind_word, line, line_of_some, making_word, node_bytes};
 ghost use Rattle.dump_changes.specs.steps.ChangedProperties.{as_property};
 ghost use Rattle.dump_expansion.specs.steps.NewNodes.{written_kind, written_of};
-ghost use Rattle.dump_expansion.specs.steps.NodeTexts.{lfs_after};
+ghost use Rattle.dump_expansion.specs.steps.NodeTexts.{file_lines, lfs_after};
 
 use dump_changes::NodeProperty;
 use dump_index::NodeKind;
@@ -39,16 +40,43 @@ pub enum NewNode<'t> {
         path: Vec<u8>,
         entries: Vec<NodeProperty<'t>>,
     },
+    /// A file with these properties and this text is made, where nothing is or in place of what is there.
+    File {
+        replaces: bool,
+        path: Vec<u8>,
+        entries: Vec<NodeProperty<'t>>,
+        text: &'t [u8],
+        /// The digests of the text in hexadecimal, if they are known.
+        md5: Option<&'t [u8]>,
+        sha1: Option<&'t [u8]>,
+    },
 }
 
 /// Numbers and lengths of a dump are less than this.
 const TOO_LONG: u64 = 1_000_000_000_000_000_000;
 
+/// Whether a line can have this value, and `svnadmin load` reads it as it is.
+fn is_plain_value(value: &[u8]) -> bool
+    ensures { result ≡ is_plain_value value.now }
+{
+    !value.contains(&b'\n') && !value.contains(&0)
+}
+
 /// Whether a line can have this path, and `svnadmin load` reads it as it is.
 fn is_plain_path(path: &[u8]) -> bool
     ensures { result ≡ is_plain_path path.now }
 {
-    is_canonical(path) && !path.contains(&b'\n') && !path.contains(&0)
+    is_canonical(path) && is_plain_value(path)
+}
+
+/// Whether a line can have this digest, or there is none.
+fn is_plain_digest(digest: Option<&[u8]>) -> bool
+    ensures { result ≡ is_plain_option (option_copied digest.entry) }
+{
+    match digest {
+        Some(value) => is_plain_value(value),
+        None => true,
+    }
 }
 
 /// Whether no name has a zero byte, which `svnadmin load` rejects.
@@ -71,25 +99,34 @@ fn part_size(bytes: &[u8]) -> u64
     spell(length).bytes().len() as u64 + length + 4
 }
 
-/// Whether a number in a line can be the length of the block of these properties.
-fn is_block_readable(entries: &[NodeProperty<'_>]) -> bool
-    ensures { result ≡ is_readable (length (property_block_text (map as_property entries.now))) }
+/// How many bytes the block of these properties has. `u64::MAX` stands for any larger number.
+fn block_size(entries: &[NodeProperty<'_>]) -> u64
+    ensures { result ≡ min (length (property_block_text (map as_property entries.now))) (2 ^ 64 - 1) }
 {
     let mut size = b"PROPS-END\n".len() as u64;
     for entry in entries {
         size = size.saturating_add(part_size(entry.name));
         size = size.saturating_add(part_size(entry.value));
     }
-    size < TOO_LONG
+    size
 }
 
-/// Whether a node can have these properties, as [`NewNode::can_be_written`] asks.
+/// Whether a directory can have these properties, as [`NewNode::can_be_written`] asks.
 #[tactic(auto, using(crate::proofs::NodeLemmas::plain_entries))]
 fn are_entries_plain(entries: &[NodeProperty<'_>]) -> bool
     ensures { let ps = map as_property entries.now in
         result ≡ (are_plain_entries ps && is_readable (length (property_block_text ps))) }
 {
-    are_names_plain(entries) && is_block_readable(entries)
+    are_names_plain(entries) && block_size(entries) < TOO_LONG
+}
+
+/// Whether a file can have these properties and this text, as [`NewNode::can_be_written`] asks.
+#[tactic(auto, using(crate::proofs::NodeLemmas::plain_entries))]
+fn is_content_plain(entries: &[NodeProperty<'_>], text: &[u8]) -> bool
+    ensures { let ps = map as_property entries.now in
+        result ≡ (are_plain_entries ps && is_readable (length (property_block_text ps) + length text.now)) }
+{
+    are_names_plain(entries) && block_size(entries).saturating_add(text.len() as u64) < TOO_LONG
 }
 
 /// Adds a header line.
@@ -174,10 +211,68 @@ fn push_folder(out: &mut Vec<u8>, replaces: bool, path: &[u8], block: &[u8]) -> 
     Ok(out.extend_from_slice(block)?)
 }
 
+/// Adds the line of a digest, if there is one.
+fn push_digest(out: &mut Vec<u8>, name: HeaderName, digest: Option<&[u8]>) -> Result<(), Memory>
+    ensures { OnOk result (out.new.items
+        ≡ out.old.items ++ lines_bytes (line_of_some (name_text name) (option_copied digest.entry))) }
+{
+    match digest {
+        Some(value) => push_line(out, name, value),
+        None => Ok(()),
+    }
+}
+
+/// Adds the lines of a file, to the length of its text.
+fn push_file_lines(
+    out: &mut Vec<u8>,
+    replaces: bool,
+    path: &[u8],
+    block_size: u64,
+    text_size: u64,
+) -> Result<(), Memory>
+    ensures { OnOk result (out.new.items
+        ≡ out.old.items ++ lines_bytes (file_lines replaces path.now block_size text_size)) }
+{
+    push_line(out, HeaderName::NodePath, path)?;
+    push_line(out, HeaderName::NodeKind, b"file")?;
+    push_line(out, HeaderName::NodeAction, making_word(replaces))?;
+    push_header(out, HeaderName::PropContentLength.bytes(), block_size)?;
+    Ok(push_header(out, HeaderName::TextContentLength.bytes(), text_size)?)
+}
+
+/// Adds a node that makes a file with the properties of this block and this text.
+fn push_file(
+    out: &mut Vec<u8>,
+    replaces: bool,
+    path: &[u8],
+    block: &[u8],
+    text: &[u8],
+    md5: Option<&[u8]>,
+    sha1: Option<&[u8]>,
+) -> Result<(), Memory>
+    ensures { (entries : List Property) → block.now ≡ property_block_text entries
+        → OnOk result (out.new.items ≡ out.old.items ++ node_bytes (WrittenNode.File replaces path.now entries text.now
+        (option_copied md5.entry) (option_copied sha1.entry))) }
+{
+    let block_size = block.len() as u64;
+    let text_size = text.len() as u64;
+    push_file_lines(out, replaces, path, block_size, text_size)?;
+    push_digest(out, HeaderName::TextContentMd5, md5)?;
+    push_digest(out, HeaderName::TextContentSha1, sha1)?;
+    push_header(
+        out,
+        HeaderName::ContentLength.bytes(),
+        block_size + text_size,
+    )?;
+    out.extend_from_slice(b"\n")?;
+    out.extend_from_slice(block)?;
+    Ok(out.extend_from_slice(text)?)
+}
+
 impl<'t> NewNode<'t> {
-    /// Whether `svnadmin load` reads the node as it is meant. Its paths have to be canonical, and they and the names of
-    /// properties without bytes that a line or a name can't have; its revision and the length of its properties have to be
-    /// less than 10^18.
+    /// Whether `svnadmin load` reads the node as it is meant. Its paths have to be canonical, and they, its digests and the
+    /// names of properties without bytes that a line or a name can't have; its revision and the length of its properties,
+    /// with its text, have to be less than 10^18. Whether the digests are those of the text isn't looked at.
     pub fn can_be_written(&self) -> bool
         ensures { result ≡ can_be_written (written_of self.now) }
     {
@@ -192,10 +287,23 @@ impl<'t> NewNode<'t> {
             NewNode::Folder { path, entries, .. } => {
                 is_plain_path(path) && are_entries_plain(entries)
             }
+            NewNode::File {
+                path,
+                entries,
+                text,
+                md5,
+                sha1,
+                ..
+            } => {
+                is_plain_path(path)
+                    && is_content_plain(entries, text)
+                    && is_plain_digest(*md5)
+                    && is_plain_digest(*sha1)
+            }
         }
     }
 
-    /// Adds its bytes, to the end of its properties.
+    /// Adds its bytes, to the end of its properties or its text.
     pub fn write(&self, alloc: Global, out: &mut Vec<u8>) -> Result<(), Memory>
         ensures { OnOk result (out.new.items ≡ out.old.items ++ node_bytes (written_of self.now)) }
     {
@@ -215,6 +323,17 @@ impl<'t> NewNode<'t> {
                 let block = block_of(alloc, entries)?;
                 push_folder(out, *replaces, path, &block)
             }
+            NewNode::File {
+                replaces,
+                path,
+                entries,
+                text,
+                md5,
+                sha1,
+            } => {
+                let block = block_of(alloc, entries)?;
+                push_file(out, *replaces, path, &block, text, *md5, *sha1)
+            }
         }
     }
 
@@ -224,7 +343,7 @@ impl<'t> NewNode<'t> {
     {
         match self {
             NewNode::Deletion { .. } | NewNode::Copy { .. } => b"\n",
-            NewNode::Folder { .. } => b"\n\n",
+            NewNode::Folder { .. } | NewNode::File { .. } => b"\n\n",
         }
     }
 }

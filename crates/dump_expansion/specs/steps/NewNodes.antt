@@ -1,5 +1,5 @@
 -- The nodes that are written in place of others, as the format knows them.
-use Rattle.std.specs.Prelude.{map}
+use Rattle.std.specs.Prelude.{map, option_copied}
 use Rattle.dump_history.specs.WrittenNodes as format
 use Rattle.dump_index.specs.declared.change.NodeKind.{NodeKind}
 use Rattle.dump_index.specs.declared.change.NodeKind.TheVariants as kinds
@@ -19,3 +19,6 @@ written_of (nodes.Copy kind revision source path) =
     format.WrittenNode.Copy (written_kind kind) revision source.items path.items
 written_of (nodes.Folder replaces path entries) =
     format.WrittenNode.Folder replaces path.items (map as_property entries.items)
+written_of (nodes.File replaces path entries text md5 sha1) =
+    format.WrittenNode.File replaces path.items (map as_property entries.items) text.now
+    (option_copied md5) (option_copied sha1)

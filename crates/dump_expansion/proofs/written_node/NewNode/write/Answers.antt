@@ -1,4 +1,4 @@
-use Rattle.std.proofs.Common.{◌≡◌, ℕ, List, ◌++◌, map, OnOk, sym, ap, ◌∙◌, subst}
+use Rattle.std.proofs.Common.{◌≡◌, ℕ, List, ◌++◌, map, OnOk, option_copied, sym, ap, ◌∙◌, subst}
 use Rattle.dump_text.specs.PropertyList.{property_block_text}
 use Rattle.dump_history.specs.WrittenNodes.{WrittenNode, node_bytes}
 use Rattle.dump_changes.specs.steps.ChangedProperties.{as_property}
@@ -19,3 +19,18 @@ returns-in_ok-block-in-Folder c =
     (c.push_folder.ensures entries
     (c.deref-in-Folder-3.ensures.value ∙ c.in_ok-block-in-Folder.ensures
     ∙ ap (λ es. property_block_text (map as_property es)) c.deref-in-Folder.ensures.value)))
+
+pub returns-in_ok-block-in-File : goal.returns-in_ok-block-in-File
+returns-in_ok-block-in-File c =
+    let text = c.args.out.now.items in
+    let more = c.push_file.new.out.items in
+    let entries = map as_property c.in-File.entries.items in
+    subst (λ (node : NewNode). OnOk c.push_file.result (more ≡ text ++ node_bytes (written_of node)))
+    (sym c.in-File.is)
+    (subst (λ (path : List ℕ). OnOk c.push_file.result
+    (more ≡ text ++ node_bytes (WrittenNode.File c.in-File.replaces path entries c.in-File.text.now
+    (option_copied c.in-File.md5) (option_copied c.in-File.sha1))))
+    c.deref-in-File-2.ensures.value
+    (c.push_file.ensures entries
+    (c.deref-in-File-3.ensures.value ∙ c.in_ok-block-in-File.ensures
+    ∙ ap (λ es. property_block_text (map as_property es)) c.deref-in-File.ensures.value)))

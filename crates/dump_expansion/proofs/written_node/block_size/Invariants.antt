@@ -1,7 +1,7 @@
 use Rattle.std.proofs.Common.{◌≡◌, ◌-◌, ◌+◌, ◌^◌, take, map, flat_map, length, min}
 use Rattle.dump_text.specs.PropertyList.{entry_text}
 use Rattle.dump_changes.specs.steps.ChangedProperties.{as_property}
-use Rattle.dump_expansion.proofs.written_node.is_block_readable.Given as goal
+use Rattle.dump_expansion.proofs.written_node.block_size.Given as goal
 
 abbrev pub invariant-loop-entry : goal.invariant-loop-entry
 invariant-loop-entry l =
