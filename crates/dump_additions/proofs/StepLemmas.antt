@@ -3,7 +3,7 @@ use Rattle.std.proofs.Common.{◌≡◌, ℕ, zero, suc, ◌+◌, ◌-◌, ◌<�
 use Rattle.std.specs.Prelude.{IsNone, slice_get, take}
 use Rattle.std.specs.List.{AllZip, list_all}
 use Rattle.std.proofs.lemmas.Bool.{and_from}
-use Rattle.std.proofs.lemmas.List.{map-append}
+use Rattle.std.proofs.lemmas.List.{get_or-map, length-map, map-append, take_all, take_more}
 use Rattle.std.proofs.lemmas.List.Folds.{list_all-append}
 use Rattle.dump_trees.specs.Changes.{Made, is_copied}
 use Rattle.dump_trees.specs.Following.{Way, followed_told}
@@ -15,32 +15,13 @@ use Rattle.dump_index.specs.Listed.{Listed, listed_of}
 use Rattle.dump_index.specs.ToldKinds.{kinds_told_by}
 use Rattle.dump_index.specs.declared.change.NodeChange.{NodeChange}
 use Rattle.dump_index.specs.declared.change.Setting.TheVariants.{Keeps}
+use Rattle.dump_index.proofs.KeyLemmas.{listed_at}
 use Rattle.dump_expansion.specs.GivenSteads.{GivenStead}
 use Rattle.dump_expansion.specs.steps.Given.{given_of}
 use Rattle.dump_expansion.specs.declared.expanding.Stead as code
 use Rattle.dump_additions.specs.Additions.{Added, AreAdditionsFrom, BringsNone, IsAddition, Kept, NoChange}
 use Rattle.dump_additions.specs.steps.Nodes.{BringsSome, CannotBeAdded, IsAdditionIfSome, IsFirstNotAdded}
 use Rattle.dump_additions.specs.Parts.{TakesSomeBack, TakesWhole}
-
-take_next : (xs : List NodeChange) (k : ℕ) (d : NodeChange) → k < length xs → (more : List Listed)
-    → take (suc k) (map listed_of xs) ++ more ≡ take k (map listed_of xs) ++ listed_of (get_or xs k d) ∷ more
-take_next [] k d low more = absurd (omega (arith, low))
-take_next (x ∷ xs) zero d low more = refl
-take_next (x ∷ xs) (suc k) d low more =
-    ap (λ ls. listed_of x ∷ ls) (take_next xs k d (let less : k < length xs = omega (arith, low) in less) more)
-
-take_all : (xs : List NodeChange) (k : ℕ) → length xs ≤ k → take k (map listed_of xs) ≡ map listed_of xs
-take_all [] zero low = refl
-take_all [] (suc k) low = refl
-take_all (x ∷ xs) zero low = absurd (let none : length (x ∷ xs) ≤ 0 = low in omega (arith, none))
-take_all (x ∷ xs) (suc k) low =
-    ap (λ ls. listed_of x ∷ ls) (take_all xs k (let less : length xs ≤ k = omega (arith, low) in less))
-
-pub got : (xs : List NodeChange) (k : ℕ) (d : NodeChange) → k < length xs
-    → slice_get (map listed_of xs) k ≡ Some (listed_of (get_or xs k d))
-got [] k d low = absurd (omega (arith, low))
-got (x ∷ xs) zero d low = refl
-got (x ∷ xs) (suc k) d low = got xs k d (let less : k < length xs = omega (arith, low) in less)
 
 -- a change that makes no copy brings nothing
 pub no_copy : (blocks : List (List ℕ)) (listed : List Listed) (excluded : List NodePath) (path : NodePath) (made : Option Made)
@@ -98,10 +79,16 @@ module _ (blocks : List (List ℕ)) (listed : List Listed) (excluded : List Node
     abbrev here : Listed
     here = listed_of (get_or xs place d)
 
+    low_listed : place < length listed
+    low_listed = subst (λ n. place < n) (sym (length-map xs listed_of) ∙ ap length xs_are) low
+
+    here_is : get_or listed place (listed_of d) ≡ here
+    here_is = ap (λ ls. get_or ls place (listed_of d)) (sym xs_are) ∙ get_or-map listed_of xs place d (listed_of d) low
+
     next : (more : List Listed) → take (place + 1) listed ++ more ≡ take place listed ++ here ∷ more
     next more =
-        ap₂ (λ n ls. take n ls ++ more) (let one : place + 1 ≡ suc place = omega arith in one) (sym xs_are)
-        ∙ (take_next xs place d low more ∙ ap (λ ls. take place ls ++ here ∷ more) xs_are)
+        ap (λ ls. ls ++ more) (take_more listed place (listed_of d) low_listed ∙ ap (λ l. take place listed ++ l ∷ []) here_is)
+        ∙ append_assoc (take place listed) (here ∷ []) more
 
     plus : place + 1 ≡ suc place
     plus = omega arith
@@ -140,7 +127,7 @@ module _ (blocks : List (List ℕ)) (listed : List Listed) (excluded : List Node
           (subst (AreAdditionsFrom blocks listed excluded 0 (take place listed ++ [])) (append-nil done)
           (going.goes_on [] [] (NoChange place)));
       change = here;
-      is_at = ap (λ ls. slice_get ls place) (sym xs_are) ∙ got xs place d low;
+      is_at = ap (λ ls. slice_get ls place) (sym xs_are) ∙ listed_at xs place d low;
       comes_back = back;
       why = subst (λ n. CannotBeAdded blocks listed excluded n here) (let same : (place + 1) - 1 ≡ place = omega arith in same) is;
     }
@@ -165,7 +152,7 @@ module _ (blocks : List (List ℕ)) (listed : List Listed) (excluded : List Node
       whole : take place listed ++ [] ≡ listed
       whole =
           append-nil (take place listed)
-          ∙ (ap (take place) (sym xs_are) ∙ (take_all xs place low ∙ xs_are))
+          ∙ take_all place listed (subst (λ n. n ≤ place) (sym (length-map xs listed_of) ∙ ap length xs_are) low)
 
 -- a change that isn't there
 abbrev pub no_change : NodeChange
