@@ -1,9 +1,9 @@
 -- What is written so far of a dump with other nodes in place of some.
-use Rattle.std.proofs.Common.{◌≡◌, ℕ, ◌+◌, ◌-◌, ◌≤◌, Bool, true, false, List, [], ◌∷◌, ◌++◌, length, length-append, map, take, drop, refl, sym, ap, ◌∙◌, subst, arith, append_assoc}
+use Rattle.std.proofs.Common.{◌≡◌, ℕ, ◌+◌, ◌-◌, ◌≤◌, Bool, true, false, List, [], ◌∷◌, ◌++◌, length, length-append, take, drop, flat_map, refl, sym, ap, ap₂, ◌∙◌, subst, arith, append-nil, append_assoc}
 use Rattle.std.proofs.lemmas.List.{drop-drop, drop_all, length-drop, take-append-drop}
 use Rattle.std.proofs.Math.Seq.{drop-append_seam, take-append_seam}
 use Rattle.dump_text.specs.HeaderBlock.{block_text}
-use Rattle.dump_records.specs.DumpText.{Ending, HasRecords, IsCutInto}
+use Rattle.dump_records.specs.DumpText.{Ending, HasRecords}
 use Rattle.dump_records.specs.RecordText.{DumpRecord, record_text}
 use Rattle.dump_records.specs.declared.cutter.Cut.{Cut}
 use Rattle.dump_records.specs.declared.cutter.Cut.TheVariants as cuts
@@ -17,14 +17,15 @@ use Rattle.dump_records.proofs.ListLaw.{each_dump_has_one_list}
 use Rattle.dump_records.proofs.Prefixes.{is_front}
 use Rattle.dump_records.proofs.Unique.{records_once}
 use Rattle.dump_history.specs.ExpandedDumps.{own_records}
-use Rattle.dump_history.specs.ExpandedText.{AreRecordTexts, IsExpandedText}
-use Rattle.dump_history.specs.WrittenNodes.{WrittenNode, node_record}
-use Rattle.dump_expansion.specs.GivenSteads.{GivenStead, own_form, steads_in}
+use Rattle.dump_history.specs.WrittenNodes.{WrittenNode}
+use Rattle.dump_expansion.specs.GivenSteads.{GivenStead, IsExpandedBy, own_form, steads_in}
+use Rattle.dump_expansion.specs.steps.ExpandedBytes.{IsExactlyExpandedBy, expanded_bytes, first_lfs, lfs_behind, stead_bytes, unread_bytes}
 use Rattle.dump_expansion.specs.steps.Given.{can_all_be_written}
 use Rattle.dump_expansion.specs.steps.LeftParts.{IsLeftFrom}
 use Rattle.dump_expansion.specs.steps.NodeTexts.{nodes_text}
-use Rattle.dump_expansion.proofs.JoinLemmas.{CutBefore, Joins, after_lfs, both_join, cut_before, cut_texts, lfs_join, nodes_join}
-use Rattle.dump_expansion.proofs.SteadLemmas.{may_all, none_given, records_with}
+use Rattle.dump_expansion.proofs.ByteLemmas.{AllStand, behind_gap, dump_bytes, own_bytes}
+use Rattle.dump_expansion.proofs.JoinLemmas.{are_texts}
+use Rattle.dump_expansion.proofs.SteadLemmas.{bytes_with, may_all, none_given, own_with_lfs}
 
 -- the byte after a record
 after_is : (r : DumpRecord) → place_after r ≡ r.place + length (record_text r)
@@ -33,43 +34,45 @@ after_is r =
     let front = length-append (block_text r.headers) r.props in
     omega arith
 
--- the text has the written records. The dump from the byte `from` on has those that the cutter gave and that are not
--- written yet, and then those that it gives next
+-- the text is the expanded dump as far as the byte `from`. From there on the dump has some bytes that are not written yet,
+-- then the records that the cutter gives next, and then what can't be read
 pub record ExpandedSoFar (given : List GivenStead) (dump : List ℕ) (cutter : CutterState) (text : List ℕ)
     (left : List GivenStead) (from : ℕ) : Type 0 where
   pub dump_is : cutter.dump ≡ dump
   pub records : List DumpRecord
   pub ending : Ending
   pub has : HasRecords dump records ending
+  pub stand : AllStand dump (unread_bytes dump ending) (drop cutter.number records)
   pub inside : from ≤ length dump
-  pub pending : List DumpRecord
-  pub number : ℕ
-  pub cut : IsCutInto number from (drop from dump) (pending ++ drop cutter.number records) has.0
-  pub written : List DumpRecord
-  pub joins : Joins written text
-  pub are : records_with 0 records given
-      ≡ written ++ (pending ++ records_with cutter.number (drop cutter.number records) left)
+  pub pending : List ℕ
+  pub left_is : drop from dump
+      ≡ pending ++ (own_bytes dump (drop cutter.number records) ++ unread_bytes dump ending)
+  pub is : expanded_bytes dump records ending (steads_in 0 records given)
+      ≡ text ++ (pending ++ (bytes_with dump cutter.number (drop cutter.number records) left ++ unread_bytes dump ending))
 
 pub none_written : (given : List GivenStead) (dump : List ℕ) (cutter : CutterState) (text : List ℕ)
     → cutter ≡ record { dump = dump; number = 0 } → text ≡ [] → ExpandedSoFar given dump cutter text given 0
 none_written given dump cutter text is none =
     let law = each_dump_has_one_list dump in
+    let bytes = dump_bytes dump law.0 law.1 law.2 in
     subst (λ (c : CutterState). ExpandedSoFar given dump c text given 0) (sym is) record {
       dump_is = refl;
       records = law.0;
       ending = law.1;
       has = law.2;
+      stand = bytes.1;
       inside = omega arith;
-      pending = [];
-      number = 0;
-      cut = law.2.1;
-      written = [];
-      joins = subst (Joins []) (sym none) (lfs_join 0);
-      are = refl;
+      pending = first_lfs dump;
+      left_is = bytes.0;
+      is = ap (λ t. t ++ expanded_bytes dump law.0 law.1 (steads_in 0 law.0 given)) (sym none);
     }
 
 module _ (given : List GivenStead) (dump : List ℕ) (cutter after : CutterState) (text : List ℕ)
     (left : List GivenStead) (from : ℕ) (so_far : ExpandedSoFar given dump cutter text left from) where
+  -- what can't be read
+  abbrev end : List ℕ
+  end = unread_bytes dump so_far.ending
+
   module _ (item : Record) (step : CutStep cutter (cuts.Item item) after) where
     abbrev pub found : DumpRecord
     found = record_item item
@@ -109,113 +112,112 @@ module _ (given : List GivenStead) (dump : List ℕ) (cutter after : CutterState
         → ExpandedSoFar given dump after more others start
     moved more others start = subst (λ (c : CutterState). ExpandedSoFar given dump c more others start) (sym step.3)
 
-    cut_next : IsCutInto so_far.number from (drop from dump) (so_far.pending ++ found ∷ later) so_far.has.0
-    cut_next =
-        subst (λ (rs : List DumpRecord). IsCutInto so_far.number from (drop from dump) (so_far.pending ++ rs) so_far.has.0)
-        next_is so_far.cut
+    stand_next : AllStand dump end (found ∷ later)
+    stand_next = subst (AllStand dump end) next_is so_far.stand
 
-    are_next : records_with 0 so_far.records given
-        ≡ so_far.written ++ (so_far.pending ++ records_with cutter.number (found ∷ later) left)
-    are_next =
-        so_far.are
-        ∙ ap (λ (rs : List DumpRecord). so_far.written ++ (so_far.pending ++ records_with cutter.number rs left)) next_is
+    left_next : drop from dump ≡ so_far.pending ++ (own_bytes dump (found ∷ later) ++ end)
+    left_next =
+        so_far.left_is ∙ ap (λ (rs : List DumpRecord). so_far.pending ++ (own_bytes dump rs ++ end)) next_is
+
+    is_next : expanded_bytes dump so_far.records so_far.ending (steads_in 0 so_far.records given)
+        ≡ text ++ (so_far.pending ++ (bytes_with dump cutter.number (found ∷ later) left ++ end))
+    is_next =
+        so_far.is
+        ∙ ap (λ (rs : List DumpRecord). text ++ (so_far.pending ++ (bytes_with dump cutter.number rs left ++ end))) next_is
 
     -- the record is as it is
     pub pass_on : (others : List GivenStead)
-        → ((rest : List DumpRecord) → records_with cutter.number (found ∷ rest) left
-        ≡ found ∷ records_with (cutter.number + 1) rest others)
+        → ((rest : List DumpRecord) → bytes_with dump cutter.number (found ∷ rest) left
+        ≡ own_with_lfs dump found ++ bytes_with dump (cutter.number + 1) rest others)
         → ExpandedSoFar given dump after text others from
     pass_on others passes = moved text others from record {
       dump_is = so_far.dump_is;
       records = so_far.records;
       ending = so_far.ending;
       has = so_far.has;
+      stand = stand_next.2;
       inside = so_far.inside;
-      pending = so_far.pending ++ found ∷ [];
-      number = so_far.number;
-      cut = subst (λ (rs : List DumpRecord). IsCutInto so_far.number from (drop from dump) rs so_far.has.0)
-          (sym (append_assoc so_far.pending (found ∷ []) later)) cut_next;
-      written = so_far.written;
-      joins = so_far.joins;
-      are = are_next
-          ∙ ap (λ (rs : List DumpRecord). so_far.written ++ (so_far.pending ++ rs)) (passes later)
-          ∙ ap (λ (rs : List DumpRecord). so_far.written ++ rs)
-          (sym (append_assoc so_far.pending (found ∷ []) (records_with (cutter.number + 1) later others)));
+      pending = so_far.pending ++ own_with_lfs dump found;
+      left_is = left_next ∙ regrouped so_far.pending (own_with_lfs dump found) (own_bytes dump later) end;
+      is = is_next
+          ∙ ap (λ t. text ++ (so_far.pending ++ (t ++ end))) (passes later)
+          ∙ ap (λ t. text ++ t) (regrouped so_far.pending (own_with_lfs dump found)
+          (bytes_with dump (cutter.number + 1) later others) end);
     }
-
-    here : CutBefore from (drop from dump) so_far.pending found later so_far.has.0
-    here = cut_before so_far.number from (drop from dump) so_far.pending found later so_far.has.0 cut_next
+      where
+        regrouped : (a b c d : List ℕ) → a ++ ((b ++ c) ++ d) ≡ (a ++ b) ++ (c ++ d)
+        regrouped a b c d = simp append_assoc
 
     module _ (place : ℕ) (place_is : place ≡ found.place) where
-      pub low : from ≤ place
-      low = let at = here.at in omega arith
+      -- the dump from the record on
+      own_is : drop place dump ≡ own_bytes dump (found ∷ later) ++ end
+      own_is = ap (λ n. drop n dump) place_is ∙ stand_next.1
 
       pub high : place ≤ length dump
-      high =
-          let at = here.at in
-          let sizes = ap length here.is ∙ length-append here.front here.own in
+      high = let fits = stand_next.0 in omega arith
+
+      -- as many bytes are before it as are not written yet
+      before_is : from + length so_far.pending ≡ place
+      before_is =
+          let sizes = ap length left_next ∙ length-append so_far.pending (own_bytes dump (found ∷ later) ++ end) in
           let size = length-drop from dump in
+          let rest = ap length own_is in
+          let rest_size = length-drop place dump in
           let inside = so_far.inside in
+          let fits = high in
           omega arith
 
+      pub low : from ≤ place
+      low = let at = before_is in omega arith
+
       -- what the dump has before it and after the byte `from`
-      lent : take (place - from) (drop from dump) ≡ here.front
+      lent : take (place - from) (drop from dump) ≡ so_far.pending
       lent =
-          let at = here.at in
-          let size : place - from ≡ length here.front = omega arith in
+          let at = before_is in
+          let size : place - from ≡ length so_far.pending = omega arith in
           ap (λ n. take n (drop from dump)) size
-          ∙ ap (take (length here.front)) here.is
-          ∙ take-append_seam here.front here.own
+          ∙ ap (take (length so_far.pending)) left_next
+          ∙ take-append_seam so_far.pending (own_bytes dump (found ∷ later) ++ end)
 
-      -- and from it on
-      own_is : drop place dump ≡ here.own
-      own_is =
-          let at = here.at in
-          let sum : place ≡ from + length here.front = omega arith in
-          ap (λ n. drop n dump) sum ∙ sym (drop-drop (length here.front) from dump)
-          ∙ ap (drop (length here.front)) here.is ∙ drop-append_seam here.front here.own
-
-      -- and after it
-      rest_is : drop (place_after found) dump ≡ here.after
+      -- the dump after it
+      rest_is : drop (place_after found) dump ≡ lfs_behind dump found ++ (own_bytes dump later ++ end)
       rest_is =
-          let at = after_is found in
-          let sum : place_after found ≡ place + length (record_text found) = omega arith in
-          ap (λ n. drop n dump) sum ∙ sym (drop-drop (length (record_text found)) place dump)
-          ∙ ap (drop (length (record_text found))) (own_is ∙ here.begins.spelled)
-          ∙ drop-append_seam (record_text found) here.after
+          ap (λ n. drop n dump) (after_is found) ∙ sym (drop-drop (length (record_text found)) found.place dump)
+          ∙ ap (drop (length (record_text found))) (stand_next.1
+          ∙ regrouped (record_text found) (lfs_behind dump found) (own_bytes dump later) end)
+          ∙ drop-append_seam (record_text found) (lfs_behind dump found ++ (own_bytes dump later ++ end))
+        where
+          regrouped : (a b c d : List ℕ) → ((a ++ b) ++ c) ++ d ≡ a ++ (b ++ (c ++ d))
+          regrouped a b c d = simp append_assoc
 
       module _ (nodes : List WrittenNode) (others : List GivenStead) (more : List ℕ)
           (more_is : more ≡ (text ++ take (place - from) (drop from dump)) ++ nodes_text nodes) where
-        abbrev new : List DumpRecord
-        new = map (node_record found.place found.version) nodes
+        -- what is left of the record
+        abbrev kept : Bool → List ℕ
+        kept keeps = flat_map (λ own. record_text own ++ lfs_behind dump found) (own_records found (own_form keeps))
 
-        abbrev now : List DumpRecord
-        now = (so_far.written ++ so_far.pending) ++ new
-
-        joins_now : Joins now more
-        joins_now =
-            subst (Joins now) (sym (more_is ∙ ap (λ t. (text ++ t) ++ nodes_text nodes) lent))
-            (both_join (so_far.written ++ so_far.pending) new (text ++ here.front) (nodes_text nodes)
-            (both_join so_far.written so_far.pending text here.front so_far.joins here.joins)
-            (nodes_join found.place found.version nodes))
-
-        are_now : (kept : List DumpRecord)
-            → records_with cutter.number (found ∷ later) left
-            ≡ (new ++ kept) ++ records_with (cutter.number + 1) later others
-            → records_with 0 so_far.records given
-            ≡ now ++ (kept ++ records_with (cutter.number + 1) later others)
-        are_now kept takes =
-            are_next
-            ∙ ap (λ (rs : List DumpRecord). so_far.written ++ (so_far.pending ++ rs)) takes
-            ∙ regrouped so_far.written so_far.pending new kept (records_with (cutter.number + 1) later others)
+        is_now : (keeps : Bool)
+            → bytes_with dump cutter.number (found ∷ later) left
+            ≡ stead_bytes dump found (record { nodes = nodes; own = own_form keeps })
+            ++ bytes_with dump (cutter.number + 1) later others
+            → expanded_bytes dump so_far.records so_far.ending (steads_in 0 so_far.records given)
+            ≡ more ++ (kept keeps ++ (bytes_with dump (cutter.number + 1) later others ++ end))
+        is_now keeps takes =
+            is_next
+            ∙ ap (λ t. text ++ (so_far.pending ++ (t ++ end))) takes
+            ∙ regrouped text so_far.pending (nodes_text nodes) (kept keeps)
+            (bytes_with dump (cutter.number + 1) later others) end
+            ∙ ap (λ t. t ++ (kept keeps ++ (bytes_with dump (cutter.number + 1) later others ++ end)))
+            (sym (more_is ∙ ap (λ t. (text ++ t) ++ nodes_text nodes) lent))
           where
-            regrouped : (a b c d e : List DumpRecord) → a ++ (b ++ ((c ++ d) ++ e)) ≡ ((a ++ b) ++ c) ++ (d ++ e)
-            regrouped a b c d e = simp append_assoc
+            regrouped : (a b c d e f : List ℕ) → a ++ (b ++ (((c ++ d) ++ e) ++ f)) ≡ ((a ++ b) ++ c) ++ (d ++ (e ++ f))
+            regrouped a b c d e f = simp append_assoc
 
         -- other nodes are written, and the record stays or goes
         pub expand_on : (keeps : Bool) (start : ℕ)
-            → ((rest : List DumpRecord) → records_with cutter.number (found ∷ rest) left
-            ≡ (new ++ own_records found (own_form keeps)) ++ records_with (cutter.number + 1) rest others)
+            → ((rest : List DumpRecord) → bytes_with dump cutter.number (found ∷ rest) left
+            ≡ stead_bytes dump found (record { nodes = nodes; own = own_form keeps })
+            ++ bytes_with dump (cutter.number + 1) rest others)
             → IsLeftFrom dump found keeps start
             → ExpandedSoFar given dump after more others start
         expand_on true start takes is =
@@ -225,93 +227,78 @@ module _ (given : List GivenStead) (dump : List ℕ) (cutter after : CutterState
               records = so_far.records;
               ending = so_far.ending;
               has = so_far.has;
+              stand = stand_next.2;
               inside = omega arith;
-              pending = found ∷ [];
-              number = here.number;
-              cut = (0, here.own, here.after, ap (λ n. drop n dump) (is ∙ sym place_is) ∙ own_is, omega arith, here.begins, here.cut);
-              written = now;
-              joins = joins_now;
-              are = are_now (found ∷ []) (takes later);
+              pending = own_with_lfs dump found ++ [];
+              left_is = ap (λ n. drop n dump) is ∙ stand_next.1
+                  ∙ append_assoc (own_with_lfs dump found) (own_bytes dump later) end
+                  ∙ ap (λ t. t ++ (own_bytes dump later ++ end)) (sym (append-nil (own_with_lfs dump found)));
+              is = is_now true (takes later);
             }
         expand_on false start takes (lfs, gap, is) =
-            let inside = high in
-            let sizes = ap length own_is ∙ ap length here.begins.spelled
-            ∙ length-append (record_text found) here.after in
-            let size = length-drop place dump in
-            let rest_size = length-drop (place_after found) dump in
-            let bound = gap.bound in
+            let fits = stand_next.0 in
             let at = after_is found in
-            let sum : start ≡ found.place + length (record_text found) + lfs = omega arith in
-            let rest = drop lfs (drop (place_after found) dump) in
-            let cut : IsCutInto (here.number + 1) (found.place + length (record_text found) + lfs) rest later so_far.has.0 =
-            after_lfs (here.number + 1) (found.place + length (record_text found)) lfs here.after rest later so_far.has.0
-            here.cut (sym rest_is ∙ gap.spelled) gap.stop in
-            let there : drop start dump ≡ rest =
-            ap (λ n. drop n dump) is ∙ sym (drop-drop lfs (place_after found) dump) in
+            let bound = gap.bound in
+            let size = length-drop (place_after found) dump in
             moved more others start record {
               dump_is = so_far.dump_is;
               records = so_far.records;
               ending = so_far.ending;
               has = so_far.has;
+              stand = stand_next.2;
               inside = omega arith;
               pending = [];
-              number = here.number + 1;
-              cut = subst (λ (t : List ℕ). IsCutInto (here.number + 1) start t later so_far.has.0) (sym there)
-                  (subst (λ (n : ℕ). IsCutInto (here.number + 1) n rest later so_far.has.0) (sym sum) cut);
-              written = now;
-              joins = joins_now;
-              are = are_now [] (takes later);
+              left_is = ap (λ n. drop n dump) is ∙ sym (drop-drop lfs (place_after found) dump)
+                  ∙ behind_gap (drop (place_after found) dump) (own_bytes dump later ++ end) lfs gap
+                  (rest_is ∙ ap (λ n. first_lfs (drop n dump) ++ (own_bytes dump later ++ end)) (sym (after_is found)));
+              is = is_now false (takes later);
             }
 
   -- the end
 
-  module _ (records : List DumpRecord) (has : HasRecords dump records Ending.Whole)
-      (written : can_all_be_written given ≡ true) where
-    same : (records ≡ so_far.records) × (Ending.Whole ≡ so_far.ending)
-    same = records_once dump records so_far.records Ending.Whole so_far.ending has so_far.has
+  -- where nothing is given for the rest, all is written with the rest of the dump
+  with_rest : bytes_with dump cutter.number (drop cutter.number so_far.records) left
+      ≡ own_bytes dump (drop cutter.number so_far.records)
+      → IsExactlyExpandedBy given dump (text ++ drop from dump)
+  with_rest none records ending has =
+      let same = records_once dump records so_far.records ending so_far.ending has so_far.has in
+      ap (λ t. text ++ t) so_far.left_is
+      ∙ ap (λ t. text ++ (so_far.pending ++ (t ++ end))) (sym none)
+      ∙ sym so_far.is
+      ∙ sym (ap₂ (λ (rs : List DumpRecord) (e : Ending). expanded_bytes dump rs e (steads_in 0 rs given)) same.0 same.1)
 
-    -- where nothing is given for the rest, all is written with the rest of the dump
-    with_rest : records_with cutter.number (drop cutter.number so_far.records) left ≡ drop cutter.number so_far.records
-        → IsExpandedText records (steads_in 0 records given) (text ++ drop from dump)
-    with_rest none =
-        let rest = so_far.pending ++ drop cutter.number so_far.records in
-        let no_end : so_far.has.0 ≡ [] = whole_end so_far.ending (sym same.1) so_far.has in
-        let (lfs, after, at, texts) = cut_texts so_far.number from (drop from dump) rest
-        (subst (λ (t : List ℕ). IsCutInto so_far.number from (drop from dump) rest t) no_end so_far.cut) in
-        let (n, front, joined, all) = so_far.joins lfs after rest texts in
-        let whole : records_with 0 records given ≡ so_far.written ++ rest =
-        ap (λ (rs : List DumpRecord). records_with 0 rs given) same.0 ∙ so_far.are
-        ∙ ap (λ (rs : List DumpRecord). so_far.written ++ (so_far.pending ++ rs)) none in
-        record {
-          may = may_all 0 records given written;
-          lfs = n;
-          front = front;
-          spelled = ap (λ t. text ++ t) at ∙ joined;
-          texts = subst (λ (rs : List DumpRecord). AreRecordTexts rs front) (sym whole) all;
-        }
-      where
-        whole_end : (ending : Ending) → ending ≡ Ending.Whole → (all : HasRecords dump so_far.records ending)
-            → all.0 ≡ []
-        whole_end Ending.Whole is all = all.3.0
-        whole_end (Ending.Broken fault place) is all = absurd cc
+  -- so is it where the dump has no more records
+  no_more : (ending : Ending) → EndsAfter cutter.dump cutter.number ending
+      → IsExactlyExpandedBy given dump (text ++ drop from dump)
+  no_more ending ends =
+      let (all, has, count) = subst (λ d. EndsAfter d cutter.number ending) so_far.dump_is ends in
+      let equal = (records_once dump so_far.records all so_far.ending ending so_far.has has).0 in
+      let size = ap length equal in
+      let none : drop cutter.number so_far.records ≡ [] = drop_all cutter.number so_far.records (omega arith) in
+      with_rest (subst (λ (rs : List DumpRecord). bytes_with dump cutter.number rs left ≡ own_bytes dump rs) (sym none) refl)
 
-    -- nothing is left to be written
-    pub expanded_early : left ≡ [] → IsExpandedText records (steads_in 0 records given) (text ++ drop from dump)
-    expanded_early none =
-        let rest = drop cutter.number so_far.records in
-        with_rest (ap (records_with cutter.number rest) none ∙ none_given cutter.number rest)
+  -- nothing is left to be written
+  pub expanded_early : left ≡ [] → IsExactlyExpandedBy given dump (text ++ drop from dump)
+  expanded_early none =
+      let rest = drop cutter.number so_far.records in
+      with_rest (ap (bytes_with dump cutter.number rest) none ∙ none_given dump cutter.number rest)
 
-    -- the cutter gives no record
-    pub expanded_late : (found : Cut) → CutStep cutter found after → ((item : Record) → found ≡ cuts.Item item → ⊥)
-        → IsExpandedText records (steads_in 0 records given) (text ++ drop from dump)
-    expanded_late (cuts.Item item) step other = absurd (other item refl)
-    expanded_late (cuts.Fault fault place) step other =
-        let (all, broken, count) = subst (λ d. EndsAfter d cutter.number (Ending.Broken fault place)) so_far.dump_is step.0 in
-        let clash = (records_once dump records all Ending.Whole (Ending.Broken fault place) has broken).1 in
-        absurd cc
-    expanded_late cuts.Finished step other =
-        let (all, ends, count) = subst (λ d. EndsAfter d cutter.number Ending.Whole) so_far.dump_is step.0 in
-        let equal = (records_once dump so_far.records all so_far.ending Ending.Whole so_far.has ends).0 in
-        let size = ap length equal in
-        let none : drop cutter.number so_far.records ≡ [] = drop_all cutter.number so_far.records (omega arith) in
-        with_rest (subst (λ (rs : List DumpRecord). records_with cutter.number rs left ≡ rs) (sym none) refl)
+  -- the cutter gives no record
+  pub expanded_late : (found : Cut) → CutStep cutter found after → ((item : Record) → found ≡ cuts.Item item → ⊥)
+      → IsExactlyExpandedBy given dump (text ++ drop from dump)
+  expanded_late (cuts.Item item) step other = absurd (other item refl)
+  expanded_late (cuts.Fault fault place) step other = no_more (Ending.Broken fault place) step.0
+  expanded_late cuts.Finished step other = no_more Ending.Whole step.0
+
+-- such a text of a whole dump has the records that are in place of the dump's
+pub has_its_records : (given : List GivenStead) (dump text : List ℕ) → can_all_be_written given ≡ true
+    → IsExactlyExpandedBy given dump text → IsExpandedBy given dump text
+has_its_records given dump text written is records has =
+    let (lfs, front, spelled, texts) = are_texts dump records (steads_in 0 records given) in
+    record {
+      may = may_all 0 records given written;
+      lfs = lfs;
+      front = front;
+      spelled = is records Ending.Whole has ∙ spelled;
+      texts = texts;
+    }

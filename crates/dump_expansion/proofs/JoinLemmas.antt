@@ -1,15 +1,14 @@
--- Texts of records, one after the other, and dumps that are cut before one of their records.
-use Rattle.std.proofs.Common.{◌≡◌, ℕ, ◌+◌, false, List, [], ◌∷◌, ◌++◌, length, length-append, map, refl, sym, ap, ◌∙◌, subst, arith, append_assoc}
+-- Texts of records, one after the other, and the records of an expanded dump.
+use Rattle.std.proofs.Common.{◌≡◌, ℕ, ◌+◌, List, [], ◌∷◌, ◌++◌, length, map, drop, flat_map, refl, sym, ap, ◌∙◌, subst, append-nil, append_assoc}
 use Rattle.std.proofs.lemmas.List.{replicate-append-replicate}
-use Rattle.dump_text.specs.HeaderBlock.{starts_with_lf}
-use Rattle.dump_text.proofs.Unique.{blank_once}
-use Rattle.dump_records.specs.DumpText.{IsCutInto, line_feeds}
-use Rattle.dump_records.specs.RecordText.{BeginsWithRecord, DumpRecord, record_text}
-use Rattle.dump_records.proofs.CutLemmas.{lfs_length}
-use Rattle.dump_records.proofs.Unique.{front_of}
+use Rattle.dump_records.specs.DumpText.{Ending, line_feeds}
+use Rattle.dump_records.specs.RecordText.{DumpRecord, record_text}
+use Rattle.dump_history.specs.ExpandedDumps.{Stead, expanded_records, own_records}
 use Rattle.dump_history.specs.ExpandedText.{AreRecordTexts}
 use Rattle.dump_history.specs.WrittenNodes.{WrittenNode, node_bytes, node_record}
+use Rattle.dump_expansion.specs.steps.ExpandedBytes.{expanded_bytes, first_lfs, lfs_behind, stead_bytes, steads_bytes}
 use Rattle.dump_expansion.specs.steps.NodeTexts.{lfs_after, nodes_text}
+use Rattle.dump_expansion.proofs.ByteLemmas.{lfs_are}
 
 -- texts that join
 
@@ -51,72 +50,44 @@ nodes_join place version (w ∷ nodes) =
     (lfs_join (lfs_after w)))
     (nodes_join place version nodes)
 
--- a text that is cut
+-- records as they are in the dump, and what is in place of them
 
--- the text up to this record, and from there on
-pub record CutBefore (place : ℕ) (text : List ℕ) (rs : List DumpRecord) (r : DumpRecord) (rest : List DumpRecord)
-    (end : List ℕ) : Type 0 where
-  pub front : List ℕ
-  pub own : List ℕ
-  pub after : List ℕ
-  pub is : text ≡ front ++ own
-  pub at : r.place ≡ place + length front
-  pub joins : Joins rs front
-  pub number : ℕ
-  pub begins : BeginsWithRecord number own r after
-  pub cut : IsCutInto (number + 1) (r.place + length (record_text r)) after rest end
+own_join : (lfs : List ℕ) (n : ℕ) (rs : List DumpRecord) → lfs ≡ line_feeds n
+    → Joins rs (flat_map (λ r. record_text r ++ lfs) rs)
+own_join lfs n [] is = lfs_join 0
+own_join lfs n (r ∷ rs) is =
+    let one = r ∷ [] in
+    both_join one rs (record_text r ++ lfs) (flat_map (λ r. record_text r ++ lfs) rs)
+    (subst (λ t. Joins one (record_text r ++ t)) (sym is)
+    (both_join one [] (record_text r) (line_feeds n) (record_joins r) (lfs_join n)))
+    (own_join lfs n rs is)
 
-pub cut_before : (number place : ℕ) (text : List ℕ) (rs : List DumpRecord) (r : DumpRecord) (rest : List DumpRecord)
-    (end : List ℕ) → IsCutInto number place text (rs ++ r ∷ rest) end → CutBefore place text rs r rest end
-cut_before number place text [] r rest end (lfs, front, after, is, at, b, more) = record {
-  front = line_feeds lfs;
-  own = front;
-  after = after;
-  is = is;
-  at = at ∙ ap (λ n. place + n) (sym (lfs_length lfs));
-  joins = lfs_join lfs;
-  number = number;
-  begins = b;
-  cut = more;
-}
-cut_before number place text (s ∷ rs) r rest end (lfs, front, after, is, at, b, more) =
-    let left = cut_before (number + 1) (s.place + length (record_text s)) after rs r rest end more in
-    let first = line_feeds lfs ++ record_text s in
-    let size = length-append (line_feeds lfs) (record_text s) in
-    let gap = lfs_length lfs in
-    let sizes = length-append first left.front in
-    let there = left.at in
-    record {
-      front = first ++ left.front;
-      own = left.own;
-      after = left.after;
-      is = is ∙ ap (λ t. line_feeds lfs ++ t) (b.spelled ∙ ap (λ t. record_text s ++ t) left.is)
-          ∙ sym (append_assoc (line_feeds lfs) (record_text s) (left.front ++ left.own))
-          ∙ sym (append_assoc first left.front left.own);
-      at = omega arith;
-      joins = both_join (s ∷ []) rs first left.front
-          (both_join [] (s ∷ []) (line_feeds lfs) (record_text s) (lfs_join lfs) (record_joins s)) left.joins;
-      number = left.number;
-      begins = left.begins;
-      cut = left.cut;
-    }
+pub steads_join : (dump : List ℕ) (records : List DumpRecord) (steads : List Stead)
+    → Joins (expanded_records records steads) (steads_bytes dump records steads)
+steads_join dump [] steads = lfs_join 0
+steads_join dump (r ∷ records) [] = lfs_join 0
+steads_join dump (r ∷ records) (stead ∷ steads) =
+    let lfs = lfs_behind dump r in
+    let new = map (node_record r.place r.version) stead.nodes in
+    let left = own_records r stead.own in
+    both_join (new ++ left) (expanded_records records steads) (stead_bytes dump r stead) (steads_bytes dump records steads)
+    (both_join new left (nodes_text stead.nodes) (flat_map (λ own. record_text own ++ lfs) left)
+    (nodes_join r.place r.version stead.nodes)
+    (own_join lfs (length lfs) left (lfs_are (drop (r.place + length (record_text r)) dump))))
+    (steads_join dump records steads)
 
--- it can be cut after the line feeds that it begins with
-pub after_lfs : (number place lfs : ℕ) (text rest : List ℕ) (rs : List DumpRecord) (end : List ℕ)
-    → IsCutInto number place text rs end → text ≡ line_feeds lfs ++ rest → starts_with_lf rest ≡ false
-    → IsCutInto number (place + lfs) rest rs end
-after_lfs number place lfs text rest [] end (n, is, stop) spelled stops =
-    let same = blank_once n lfs end rest stop stops (sym is ∙ spelled) in
-    (0, sym same.1, stop)
-after_lfs number place lfs text rest (r ∷ rs) end (n, front, after, is, at, b, more) spelled stops =
-    let same = blank_once n lfs front rest (front_of number front r after b) stops (sym is ∙ spelled) in
-    let count = same.0 in
-    (0, front, after, sym same.1, omega arith, b, more)
-
--- records to the end
-pub cut_texts : (number place : ℕ) (text : List ℕ) (records : List DumpRecord) → IsCutInto number place text records []
-    → (lfs : ℕ) × (front : List ℕ) × (text ≡ line_feeds lfs ++ front) × AreRecordTexts records front
-cut_texts number place text [] (lfs, is, stop) = (lfs, [], is, refl)
-cut_texts number place text (r ∷ records) (lfs, front, after, is, at, b, more) =
-    let (n, t, at_end, texts) = cut_texts (number + 1) (r.place + length (record_text r)) after records more in
-    (lfs, front, is, (n, t, b.spelled ∙ ap (λ u. record_text r ++ u) at_end, texts))
+-- a whole dump that is expanded has the records that are in place of its own
+pub are_texts : (dump : List ℕ) (records : List DumpRecord) (steads : List Stead)
+    → (lfs : ℕ) × (front : List ℕ) × (expanded_bytes dump records Ending.Whole steads ≡ line_feeds lfs ++ front)
+    × AreRecordTexts (expanded_records records steads) front
+are_texts dump records steads =
+    let lfs = first_lfs dump in
+    let first = subst (Joins []) (sym (lfs_are dump)) (lfs_join (length lfs)) in
+    let (n, front, is, texts) =
+    both_join [] (expanded_records records steads) lfs (steads_bytes dump records steads) first
+    (steads_join dump records steads) 0 [] [] refl in (
+      n,
+      front,
+      sym (append_assoc lfs (steads_bytes dump records steads) []) ∙ is,
+      subst (λ (rs : List DumpRecord). AreRecordTexts rs front) (append-nil (expanded_records records steads)) texts,
+    )

@@ -1,4 +1,5 @@
 pub mod ByChanges
+pub mod ByteLemmas
 pub mod ChangeValues
 pub mod ExpandingLemmas
 pub mod JoinLemmas

@@ -1,41 +1,55 @@
 -- What is in place of each record of a dump.
-use Rattle.std.proofs.Common.{◌≡◌, ℕ, ◌+◌, Bool, true, false, ◌&&◌, ◌==◌, List, [], ◌∷◌, ◌++◌, if◌then◌else◌, refl, ap, IsTrue}
+use Rattle.std.proofs.Common.{◌≡◌, ℕ, ◌+◌, Bool, true, false, ◌&&◌, ◌==◌, List, [], ◌∷◌, ◌++◌, if◌then◌else◌, refl, ap, ap₂, IsTrue, append-nil}
 use Rattle.std.proofs.lemmas.Bool.{and_from, and_parts}
 use Rattle.std.specs.List.{AllZip, list_all}
-use Rattle.dump_records.specs.RecordText.{DumpRecord}
+use Rattle.dump_records.specs.RecordText.{DumpRecord, record_text}
 use Rattle.dump_digest.specs.RecordParts.{is_node}
-use Rattle.dump_history.specs.ExpandedDumps.{expanded_records, may_stand, stead_records}
+use Rattle.dump_history.specs.ExpandedDumps.{may_stand}
 use Rattle.dump_history.specs.WrittenNodes.{WrittenNode, can_be_written}
 use Rattle.dump_expansion.specs.GivenSteads.{GivenStead, left_alone, own_form, stead_at, steads_in}
+use Rattle.dump_expansion.specs.steps.ExpandedBytes.{lfs_behind, stead_bytes, steads_bytes}
 use Rattle.dump_expansion.specs.steps.Given.{can_all_be_written}
+use Rattle.dump_expansion.proofs.ByteLemmas.{own_bytes}
 
--- the records from this number on, with what is in place of them
-abbrev pub records_with : ℕ → List DumpRecord → List GivenStead → List DumpRecord
-records_with number records given = expanded_records records (steads_in number records given)
+-- the bytes in place of the records from this number on
+abbrev pub bytes_with : List ℕ → ℕ → List DumpRecord → List GivenStead → List ℕ
+bytes_with dump number records given = steads_bytes dump records (steads_in number records given)
 
--- where nothing is given the records are as they are
-pub none_given : (number : ℕ) (records : List DumpRecord) → records_with number records [] ≡ records
-none_given number [] = refl
-none_given number (r ∷ records) = ap (λ (rs : List DumpRecord). r ∷ rs) (none_given (number + 1) records)
+-- a record's own bytes, with the line feeds that follow it
+abbrev pub own_with_lfs : List ℕ → DumpRecord → List ℕ
+own_with_lfs dump r = record_text r ++ lfs_behind dump r
 
--- so is a record with another number
-pub other_number : (number : ℕ) (r : DumpRecord) (g : GivenStead) (given : List GivenStead)
-    → (g.number == number) ≡ false → (rest : List DumpRecord)
-    → records_with number (r ∷ rest) (g ∷ given) ≡ r ∷ records_with (number + 1) rest (g ∷ given)
-other_number number r g given other rest = rw other refl
+module _ (dump : List ℕ) where
+  -- where nothing is given the records are as they are
+  pub none_given : (number : ℕ) (records : List DumpRecord) → bytes_with dump number records [] ≡ own_bytes dump records
+  none_given number [] = refl
+  none_given number (r ∷ records) =
+      ap₂ (λ s t. s ++ t) (append-nil (own_with_lfs dump r)) (none_given (number + 1) records)
 
--- and one that is no node
-pub no_node : (number : ℕ) (r : DumpRecord) (g : GivenStead) (given : List GivenStead)
-    → (g.number == number) ≡ true → is_node r ≡ false → (rest : List DumpRecord)
-    → records_with number (r ∷ rest) (g ∷ given) ≡ r ∷ records_with (number + 1) rest given
-no_node number r g given same other rest = rw same (rw other refl)
+  -- so is a record with another number
+  pub other_number : (number : ℕ) (r : DumpRecord) (g : GivenStead) (given : List GivenStead)
+      → (g.number == number) ≡ false → (rest : List DumpRecord)
+      → bytes_with dump number (r ∷ rest) (g ∷ given)
+      ≡ own_with_lfs dump r ++ bytes_with dump (number + 1) rest (g ∷ given)
+  other_number number r g given other rest =
+      rw other (ap (λ t. t ++ bytes_with dump (number + 1) rest (g ∷ given)) (append-nil (own_with_lfs dump r)))
 
--- a node has what is given for it
-pub node_takes : (number : ℕ) (r : DumpRecord) (g : GivenStead) (given : List GivenStead)
-    → (g.number == number) ≡ true → is_node r ≡ true → (rest : List DumpRecord)
-    → records_with number (r ∷ rest) (g ∷ given)
-    ≡ stead_records r (record { nodes = g.nodes; own = own_form g.keeps }) ++ records_with (number + 1) rest given
-node_takes number r g given same node rest = rw same (rw node refl)
+  -- and one that is no node
+  pub no_node : (number : ℕ) (r : DumpRecord) (g : GivenStead) (given : List GivenStead)
+      → (g.number == number) ≡ true → is_node r ≡ false → (rest : List DumpRecord)
+      → bytes_with dump number (r ∷ rest) (g ∷ given)
+      ≡ own_with_lfs dump r ++ bytes_with dump (number + 1) rest given
+  no_node number r g given same other rest =
+      rw same (rw other
+      (ap (λ t. t ++ bytes_with dump (number + 1) rest given) (append-nil (own_with_lfs dump r))))
+
+  -- a node has what is given for it
+  pub node_takes : (number : ℕ) (r : DumpRecord) (g : GivenStead) (given : List GivenStead)
+      → (g.number == number) ≡ true → is_node r ≡ true → (rest : List DumpRecord)
+      → bytes_with dump number (r ∷ rest) (g ∷ given)
+      ≡ stead_bytes dump r (record { nodes = g.nodes; own = own_form g.keeps })
+      ++ bytes_with dump (number + 1) rest given
+  node_takes number r g given same node rest = rw same (rw node refl)
 
 -- it may have it, if all nodes can be written
 may_nodes : (r : DumpRecord) (nodes : List WrittenNode) (keeps : Bool) → is_node r ≡ true

@@ -1,6 +1,9 @@
 -- Examples of the definitions, which the right ones meet and wrong ones do not.
-use Rattle.std.proofs.Common.{◌≡◌, ℕ, Bool, true, false, List, [], ◌∷◌, Some, None, Vec, Global, Bor, codes, map, refl}
+use Rattle.std.proofs.Common.{◌≡◌, ℕ, Bool, true, false, List, [], ◌∷◌, ◌++◌, Some, None, Vec, Global, Bor, codes, map, refl, sym, ap, ◌∙◌}
+use Rattle.dump_text.specs.declared.fault.FaultKind.TheVariants.{HeaderCut}
+use Rattle.dump_records.specs.DumpText.{Ending}
 use Rattle.dump_records.specs.RecordText.{DumpRecord}
+use Rattle.dump_records.proofs.ListLaw.{each_dump_has_one_list}
 use Rattle.dump_history.specs.ExpandedDumps.{OwnForm, Stead}
 use Rattle.dump_history.specs.WrittenNodes as format
 use Rattle.dump_index.specs.declared.change.NodeKind.TheVariants as kinds
@@ -9,8 +12,11 @@ use Rattle.dump_expansion.specs.declared.written_node.NewNode.TheVariants as nod
 use Rattle.dump_changes.specs.declared.property_edit.NodeProperty.{NodeProperty}
 use Rattle.dump_changes.specs.steps.ChangedProperties.{as_property}
 use Rattle.dump_expansion.specs.GivenSteads.{GivenStead, steads_in}
+use Rattle.dump_expansion.specs.steps.ExpandedBytes.{IsExactlyExpandedBy, expanded_bytes, first_lfs, unread_bytes}
 use Rattle.dump_expansion.specs.steps.Given.{can_all_be_written, given_of}
 use Rattle.dump_expansion.specs.steps.NewNodes.{written_of}
+use Rattle.dump_expansion.proofs.ByteLemmas.{dump_bytes}
+use Rattle.dump_expansion.proofs.SteadLemmas.{none_given}
 
 -- a record with this line
 abbrev record_with : List ℕ → List ℕ → DumpRecord
@@ -63,6 +69,58 @@ passed = refl
 twice : steads_in 4 (node ∷ node ∷ []) (for 4 true ∷ for 4 true ∷ for 5 false ∷ [])
     ≡ stead (deletion ∷ []) OwnForm.AsItIs ∷ alone ∷ []
 twice = refl
+
+-- each dump has one expanded text, whether or not it can be read to its end
+expanded_once : (given : List GivenStead) (dump text other : List ℕ) → IsExactlyExpandedBy given dump text
+    → IsExactlyExpandedBy given dump other → text ≡ other
+expanded_once given dump text other one two =
+    let (records, ending, has, once) = each_dump_has_one_list dump in
+    one records ending has ∙ sym (two records ending has)
+
+-- which is the dump itself, if nothing is given
+given_none : (dump text : List ℕ) → IsExactlyExpandedBy [] dump text → text ≡ dump
+given_none dump text is =
+    let (records, ending, has, once) = each_dump_has_one_list dump in
+    is records ending has
+    ∙ ap (λ t. first_lfs dump ++ (t ++ unread_bytes dump ending)) (none_given dump 0 records)
+    ∙ sym (dump_bytes dump records ending has).0
+
+-- the bytes of a dump of two nodes, with line feeds around them, that breaks off after them
+
+-- the node at this place, which takes 14 bytes
+abbrev node_at : ℕ → DumpRecord
+node_at place = record node { place = place }
+
+abbrev broken : List ℕ
+broken = codes "\nNode-path: a\n\n\n\nNode-path: a\n\n\nNode"
+
+-- it, expanded by what is given
+abbrev with_given : List GivenStead → List ℕ
+with_given given =
+    let records = node_at 1 ∷ node_at 17 ∷ [] in
+    expanded_bytes broken records (Ending.Broken HeaderCut 32) (steads_in 0 records given)
+
+no_given : with_given [] ≡ broken
+no_given = refl
+
+-- with a node that isn't kept its line feeds go
+first_left_out : with_given (for 0 false ∷ [])
+    ≡ codes "\nNode-path: a\nNode-action: delete\n\n\nNode-path: a\n\n\nNode"
+first_left_out = refl
+
+last_left_out : with_given (for 1 false ∷ [])
+    ≡ codes "\nNode-path: a\n\n\n\nNode-path: a\nNode-action: delete\n\n\nNode"
+last_left_out = refl
+
+-- those of nodes that are kept stay
+both_kept : with_given (for 0 true ∷ for 1 true ∷ [])
+    ≡ codes "\nNode-path: a\nNode-action: delete\n\n\nNode-path: a\n\n\n\n"
+    ++ codes "Node-path: a\nNode-action: delete\n\n\nNode-path: a\n\n\nNode"
+both_kept = refl
+
+-- no record has the number 2, so what is given after it isn't used either
+no_such_number : with_given (for 2 false ∷ for 1 false ∷ []) ≡ broken
+no_such_number = refl
 
 -- all nodes of all that is given have to be such that can be written
 all_written : can_all_be_written (for 4 true ∷ for 5 true ∷ []) ≡ true

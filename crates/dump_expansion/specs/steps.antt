@@ -1,3 +1,4 @@
+pub mod ExpandedBytes
 pub mod Given
 pub mod LeftParts
 pub mod NewNodes

@@ -5,6 +5,7 @@ ghost use Rattle.dump_records.specs.steps.RecordViews.{record_dump, record_item}
 ghost use Rattle.dump_records.specs.steps.Standing.{IsGap};
 ghost use Rattle.dump_history.specs.WrittenNodes.{can_be_written};
 ghost use Rattle.dump_expansion.specs.GivenSteads.{IsExpandedBy};
+ghost use Rattle.dump_expansion.specs.steps.ExpandedBytes.{IsExactlyExpandedBy};
 ghost use Rattle.dump_expansion.specs.steps.Given.{can_all_be_written, given_of};
 ghost use Rattle.dump_expansion.specs.steps.NewNodes.{written_of};
 ghost use Rattle.dump_expansion.specs.steps.LeftParts.{IsLeftFrom};
@@ -51,7 +52,7 @@ pub fn can_all_be_written(steads: &[Stead<'_>]) -> bool
     true
 }
 
-/// Adds the nodes, with an empty line after each, or two after a directory.
+/// Adds the nodes, with one LF after each, or two after a directory or a file.
 fn push_nodes(alloc: Global, out: &mut Vec<u8>, nodes: &[NewNode<'_>]) -> Result<(), Memory>
     ensures { OnOk result (out.new.items ≡ out.old.items ++ nodes_text (map written_of nodes.now)) }
 {
@@ -89,12 +90,14 @@ fn left_from(dump: &[u8], node: &Record<'_>, keeps: bool) -> usize
     after + count_lfs(&dump[after..])
 }
 
-/// A whole dump with these in place of its nodes, which are given in the order of their record numbers. What is given for
-/// a record that is no node is ignored. So is what is given for a number that isn't greater than the one before it, or
-/// that the dump doesn't have, and all that is given after it.
+/// A dump with these in place of its nodes, which are given in the order of their record numbers. What is given for a
+/// record that is no node is ignored. So is what is given for a number that isn't greater than the one before it, or that
+/// the dump doesn't have, and all that is given after it. If a node isn't kept, the empty lines after it aren't either. All
+/// else is as it is in the dump, also what comes after its last record if it can't be read to its end.
 pub fn expanded(alloc: Global, dump: &[u8], steads: &[Stead<'_>]) -> Result<Vec<u8>, Memory>
     requires { IsTrue (can_all_be_written (map given_of steads.now)) }
-    ensures { IfOk result (λ text. IsExpandedBy (map given_of steads.now) dump.now text.items) }
+    ensures records { IfOk result (λ text. IsExpandedBy (map given_of steads.now) dump.now text.items) }
+    ensures bytes { IfOk result (λ text. IsExactlyExpandedBy (map given_of steads.now) dump.now text.items) }
 {
     let mut cutter = Cutter::new(dump);
     let mut text = Vec::new(alloc);

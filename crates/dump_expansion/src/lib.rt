@@ -16,8 +16,9 @@
 //! let text = expanded(alloc, &dump, &steads)?;
 //! ```
 //!
-//! `tests::replaces` runs this. All else in the dump is written as it is. Whether the new dump loads to the same trees isn't
-//! looked at: the caller has to choose the nodes so.
+//! `tests::replaces` runs this. A node that isn't kept is left out with the empty lines after it. All else in the dump is
+//! written as it is, also what can't be read. Whether the new dump loads to the same trees isn't looked at: the caller has to
+//! choose the nodes so.
 //! [`laws::steads_are_by_changes`] says which changes are made in place of those of each revision.
 #![tactic(auto)]
 

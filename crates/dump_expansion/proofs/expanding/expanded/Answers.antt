@@ -2,14 +2,14 @@ use Rattle.std.proofs.Common.{◌≡◌, ◌==◌, ◌≤◌, false, ◌∷◌, 
 use Rattle.std.proofs.lemmas.List.{nil_from_length, take_rest}
 use Rattle.dump_records.specs.declared.cutter.Cut.{Cut}
 use Rattle.dump_records.specs.steps.RecordViews.{CutStep, record_item}
-use Rattle.dump_history.specs.ExpandedText.{IsExpandedText}
-use Rattle.dump_expansion.specs.GivenSteads.{GivenStead, steads_in}
+use Rattle.dump_expansion.specs.GivenSteads.{GivenStead}
+use Rattle.dump_expansion.specs.steps.ExpandedBytes.{IsExactlyExpandedBy}
 use Rattle.dump_expansion.specs.steps.Given.{given_of}
 use Rattle.dump_expansion.specs.steps.NewNodes.{written_of}
 use Rattle.dump_expansion.specs.declared.expanding.Stead.{Stead}
 use Rattle.dump_expansion.specs.steps.NodeTexts.{nodes_text}
-use Rattle.dump_expansion.proofs.ExpandingLemmas.{expand_on, expanded_early, expanded_late, high, low, nearer, none_written, pass_on}
-use Rattle.dump_expansion.proofs.SteadLemmas.{node_takes, no_node, other_number, records_with}
+use Rattle.dump_expansion.proofs.ExpandingLemmas.{expand_on, expanded_early, expanded_late, has_its_records, high, low, nearer, none_written, pass_on}
+use Rattle.dump_expansion.proofs.SteadLemmas.{bytes_with, no_node, node_takes, other_number, own_with_lfs}
 use Rattle.dump_expansion.proofs.expanding.expanded.Goals as goal
 use Rattle.dump_expansion.proofs.expanding.expanded.Goals.{in-Item+in_default-left, in_default}
 
@@ -44,10 +44,10 @@ loop-item-preserved-then-stead-number c =
     (ne_eqb stead.record_number c.number.result c.if-stead-number.true) in
     pass_on (map given_of c.args.steads.now) c.args.dump.now c.loop-item.cutter c.next.new.self c.loop-item.text.items
     (map given_of left) c.loop-item.from c.loop-item.invariant c.in-Item.item step (map given_of left)
-    (λ rest. subst (λ (gs : List GivenStead). records_with n (record_item c.in-Item.item ∷ rest) gs
-    ≡ record_item c.in-Item.item ∷ records_with (n + 1) rest gs)
+    (λ rest. subst (λ (gs : List GivenStead). bytes_with c.args.dump.now n (record_item c.in-Item.item ∷ rest) gs
+    ≡ own_with_lfs c.args.dump.now (record_item c.in-Item.item) ++ bytes_with c.args.dump.now (n + 1) rest gs)
     (sym (first_given left stead c.in-len1-up.len_at_least c.stead-item.is))
-    (other_number n (record_item c.in-Item.item) (given_of stead) others other rest))
+    (other_number c.args.dump.now n (record_item c.in-Item.item) (given_of stead) others other rest))
 
 pub loop-item-smaller-then-not-is_node : goal.loop-item-smaller-then-not-is_node
 loop-item-smaller-then-not-is_node c =
@@ -66,9 +66,9 @@ loop-item-preserved-then-not-is_node c =
     let same = eq-eqb stead.record_number n (c.if-stead-number.false ∙ c.number.ensures ∙ step.1) in
     pass_on (map given_of c.args.steads.now) c.args.dump.now c.loop-item.cutter c.next.new.self c.loop-item.text.items
     (map given_of left) c.loop-item.from c.loop-item.invariant c.in-Item.item step others
-    (λ rest. ap (records_with n (record_item c.in-Item.item ∷ rest))
+    (λ rest. ap (bytes_with c.args.dump.now n (record_item c.in-Item.item ∷ rest))
     (first_given left stead c.in-len1-up.len_at_least c.stead-item.is)
-    ∙ no_node n (record_item c.in-Item.item) (given_of stead) others same
+    ∙ no_node c.args.dump.now n (record_item c.in-Item.item) (given_of stead) others same
     (sym c.is_node.ensures ∙ c.if-not-is_node.true) rest)
 
 pub slice_bounds-extend_from_slice-count : goal.slice_bounds-extend_from_slice-count
@@ -109,27 +109,30 @@ loop-item-preserved c =
     (c.in_ok-push_nodes.ensures
     ∙ (λ i. c.in_ok-extend_from_slice.ensures.items i ++ nodes_text (map written_of (c.deref.ensures.value i))))
     stead.keeps c.left_from-from.result
-    (λ rest. ap (records_with n (record_item c.in-Item.item ∷ rest))
+    (λ rest. ap (bytes_with c.args.dump.now n (record_item c.in-Item.item ∷ rest))
     (first_given left stead c.in-len1-up.len_at_least c.stead-item.is)
-    ∙ node_takes n (record_item c.in-Item.item) (given_of stead) others same
+    ∙ node_takes c.args.dump.now n (record_item c.in-Item.item) (given_of stead) others same
     (sym c.is_node.ensures ∙ c.if-not-is_node.false) rest)
     c.left_from-from.ensures
 
-pub returns : goal.returns
-returns c = λ records has.
+pub returns-clause-bytes : goal.returns-clause-bytes
+returns-clause-bytes c =
     let dump = c.args.dump.now in
     let given = map given_of c.args.steads.now in
     let left = map given_of c.loop-item.left.now in
     let text = c.loop-item.text.items in
-    subst (λ t. IsExpandedText records (steads_in 0 records given) t)
+    subst (IsExactlyExpandedBy given dump)
     (sym (c.in_ok-extend_from_slice-2.ensures.items ∙ ap (λ t. text ++ t) (take_rest dump c.loop-item.from)))
     (elim c.match-next.branch [
       | in-Item+in_default-left w ↦
           expanded_early given dump c.loop-item.cutter c.next.new.self text left c.loop-item.from c.loop-item.invariant
-          records has c.requires
           (ap (map given_of)
           (nil_from_length c.loop-item.left.now (let few = w.in_default-left.len_below in omega (arith, few))))
       | in_default w ↦
           expanded_late given dump c.loop-item.cutter c.next.new.self text left c.loop-item.from c.loop-item.invariant
-          records has c.requires c.next.result c.next.ensures w.in_default.not-Item
+          c.next.result c.next.ensures w.in_default.not-Item
     ])
+
+pub returns-clause-records : goal.returns-clause-records
+returns-clause-records c =
+    has_its_records (map given_of c.args.steads.now) c.args.dump.now _ c.requires (returns-clause-bytes c)
