@@ -5,4 +5,5 @@ pub mod PropertyLemmas
 pub mod ReadLemmas
 pub mod StepLemmas
 pub mod TableLemmas
+pub mod TextLemmas
 pub mod Values

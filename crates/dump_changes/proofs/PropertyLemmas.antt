@@ -69,13 +69,13 @@ changed_by patched r c (ps, has, plain, is) setting says old new made =
     (made ps has.0 (subst (λ (change : Option PropertyChange). HasProps setting change) (sym same) says))
 
 -- the listed change tells of the change of a repository that a record makes, which comes so many records after the first
-record IsMadeBy (patched : Patching) (records : List DumpRecord) (number : ℕ) (l : Listed) (p : Placed) : Type 0 where
-  further : ℕ
-  number_is : l.record_number ≡ number + further
-  r : DumpRecord
-  at : slice_get records further ≡ Some r
-  makes : MakesChange patched r p.change
-  says : IsListed l p
+pub record IsMadeBy (patched : Patching) (records : List DumpRecord) (number : ℕ) (l : Listed) (p : Placed) : Type 0 where
+  pub further : ℕ
+  pub number_is : l.record_number ≡ number + further
+  pub r : DumpRecord
+  pub at : slice_get records further ≡ Some r
+  pub makes : MakesChange patched r p.change
+  pub says : IsListed l p
 
 module _ (patched : Patching) where
   -- with one more record before it
@@ -104,7 +104,7 @@ module _ (patched : Patching) where
   abbrev numbers_of : List Listed → List ℕ
   numbers_of listed = map (λ (l : Listed). l.record_number) listed
 
-  made_by : (present : Option ℕ) (number : ℕ) (records : List DumpRecord) (placed : List Placed) (listed : List Listed)
+  pub made_by : (present : Option ℕ) (number : ℕ) (records : List DumpRecord) (placed : List Placed) (listed : List Listed)
       → NodesMake patched present records placed → AllZip IsListed listed placed
       → numbers_of listed ≡ node_numbers number records → (place : ℕ) (l : Listed) → slice_get listed place ≡ Some l
       → (p : Placed) × (slice_get placed place ≡ Some p) × IsMadeBy patched records number l p
@@ -211,7 +211,7 @@ some_group (r ∷ records) none =
     let both = or_parts (is_revision_record r) (list_any is_revision_record records) none in
     ap (λ b. cond b (group_of r records ∷ groups records) (groups records)) both.0 ∙ some_group records both.1
 
-has_revision : (patched : Patching) (records : List DumpRecord) (revisions : List (List Change))
+pub has_revision : (patched : Patching) (records : List DumpRecord) (revisions : List (List Change))
     → MakeRevisions patched records revisions → list_any is_revision_record records ≡ true
 has_revision patched records revisions makes = elim (cases_Bool (list_any is_revision_record records)) [
   | inl is ↦ is

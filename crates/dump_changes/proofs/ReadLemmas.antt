@@ -12,10 +12,10 @@ use Rattle.dump_trees.specs.Changes.{Change}
 use Rattle.dump_trees.specs.Looking.{Placed, placed_from}
 use Rattle.dump_history.specs.RecordChanges.{Patching, MakesChange}
 use Rattle.dump_history.specs.DumpChanges.{counts_from, has_ordered_nodes, MakeChanges, MakeRevisions}
-use Rattle.dump_index.specs.IndexLaws.{IsListed}
+use Rattle.dump_index.specs.IndexLaws.{AreListed, IsListed}
 use Rattle.dump_index.specs.Listed.{listed_of}
 use Rattle.dump_index.specs.declared.change.NodeChange.{NodeChange}
-use Rattle.dump_changes.specs.ListedDumps.{AreListedIn, MakesListed, are_numbered, rise_from, NodesMake, NoRecord, RevisionRecord, NodeRecord, OtherRecord}
+use Rattle.dump_changes.specs.ListedDumps.{AreListedIn, are_numbered, rise_from, NodesMake, NoRecord, RevisionRecord, NodeRecord, OtherRecord}
 use Rattle.dump_changes.specs.steps.Reading.{Reads, NoMore, Revision, Node, Other}
 
 abbrev of_one : ℕ → List Change → List Placed
@@ -281,6 +281,12 @@ module _ (patched : Patching) where
       Other next present r records placed one two
       (nodes_read next None records placed rest (sym (counts_other next r records one) ∙ counts) tt
       (some_left next r records one some))
+
+-- the dump is records to its end, which make revisions whose changes are these, whatever text deltas make
+abbrev pub MakesListed : List ℕ → List NodeChange → Type 0
+MakesListed dump changes = (records : List DumpRecord) × HasRecords dump records Ending.Whole
+    × ((patched : Patching) → (revisions : List (List Change)) × MakeRevisions patched records revisions
+    × AreListed changes (placed_from 1 revisions))
 
 -- the changes of the nodes of a dump are those of its revisions, where these are numbered one by one
 pub numbered_makes : (dump : List ℕ) (records : List DumpRecord) (changes : List NodeChange)

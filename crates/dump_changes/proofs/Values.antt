@@ -1,5 +1,12 @@
 -- Worked values of the definitions, computed and proved by the kernel.
-use Rattle.dump_changes.proofs.Prelude.{◌≡◌, ℕ, List, [], ◌∷◌, refl, codes, DumpRecord}
+use Rattle.dump_changes.proofs.Prelude.{◌≡◌, ℕ, false, List, [], ◌∷◌, Option, Some, None, inr, refl, codes, DumpRecord}
+use Rattle.dump_trees.specs.Changes.{Made}
+use Rattle.dump_index.specs.Listed.{Listed}
+use Rattle.dump_index.specs.Settings.{Edited, IsTrail, Whole}
+use Rattle.dump_index.specs.declared.change.Setting.{Setting}
+use Rattle.dump_index.specs.declared.change.Setting.TheVariants.{Edits, Keeps, Replaces}
+use Rattle.dump_index.specs.declared.trail.Part.TheVariants.{Text}
+use Rattle.dump_changes.specs.FileTexts.{IsStoredAt, TextStored, ToldText, no_text, record_texts}
 use Rattle.dump_changes.specs.NodeProperties.{node_numbers, property_blocks}
 
 abbrev one_header : List ℕ → List ℕ → List ℕ → DumpRecord
@@ -24,3 +31,60 @@ numbers_of_nodes = refl
 -- each record has a block
 blocks_of_records : property_blocks (revision ∷ node ∷ []) ≡ codes "PROPS-END\n" ∷ [] ∷ []
 blocks_of_records = refl
+
+-- a file's text, with one digest
+abbrev file : DumpRecord
+file = record {
+  place = 0;
+  version = 3;
+  headers =
+      record { name = codes "Node-path"; value = codes "f" }
+      ∷ record { name = codes "Text-content-md5"; value = codes "ab" } ∷ [];
+  props = [];
+  text = codes "x";
+}
+
+abbrev text : ToldText
+text = record { text = codes "x"; md5 = Some (codes "ab"); sha1 = None }
+
+-- each text has the digests of its own record
+texts_of_records : record_texts (file ∷ revision ∷ []) ≡ text ∷ no_text ∷ []
+texts_of_records = refl
+
+-- the file is made with its text, and gets another one as a delta
+abbrev change : Option Made → Setting → ℕ → Listed
+change made setting number = record {
+  path = codes "f";
+  deletes = false;
+  made = made;
+  props = Keeps;
+  text = setting;
+  revision = 1;
+  record_number = number;
+}
+
+abbrev changes : List Listed
+changes = change (Some Made.NewFile) Replaces 0 ∷ change None Edits 1 ∷ []
+
+-- before the delta the text is stored as a whole
+made_trail : IsTrail Text changes 1 (codes "f") (0 ∷ [])
+made_trail = Whole 1 (codes "f") 0 (change (Some Made.NewFile) Replaces 0) refl refl refl refl
+
+stored_whole : IsStoredAt (text ∷ no_text ∷ []) changes (codes "f") 1 (TextStored.Whole text)
+stored_whole = inr (
+  0,
+  change (Some Made.NewFile) Replaces 0,
+  record { trail = 0 ∷ []; sets = made_trail; is_last = refl },
+  refl,
+  (refl, refl),
+)
+
+-- behind it not
+stored_delta : IsStoredAt (text ∷ no_text ∷ []) changes (codes "f") 2 (TextStored.Delta 1)
+stored_delta = inr (
+  1,
+  change None Edits 1,
+  record { trail = 1 ∷ 0 ∷ []; sets = Edited 2 (codes "f") 1 (0 ∷ []) refl refl refl made_trail; is_last = refl },
+  refl,
+  (refl, refl),
+)

@@ -1,3 +1,4 @@
+pub mod FileTexts
 pub mod ListedDumps
 pub mod NodeProperties
 pub mod steps

@@ -4,22 +4,15 @@ use Rattle.std.specs.List.{list_any}
 use Rattle.dump_text.specs.Names.{revision_name}
 use Rattle.dump_records.specs.HeaderRules.{header_number}
 use Rattle.dump_records.specs.RecordText.{DumpRecord}
-use Rattle.dump_records.specs.DumpText.{BeginsWithRecords, Ending, HasRecords}
 use Rattle.dump_digest.specs.RecordParts.{is_node, is_revision_record}
 use Rattle.dump_filter.specs.Groups.{revision_number, revision_numbers}
 use Rattle.dump_trees.specs.Changes.{Change, Made}
-use Rattle.dump_trees.specs.Looking.{Placed, placed_from}
+use Rattle.dump_trees.specs.Looking.{Placed}
 use Rattle.dump_history.specs.RecordChanges.{MakesChange, Patching}
-use Rattle.dump_history.specs.DumpChanges.{MakeRevisions, counts_from}
+use Rattle.dump_history.specs.DumpChanges.{counts_from}
 use Rattle.dump_index.specs.IndexLaws.{AreListed}
 use Rattle.dump_index.specs.Listed.{Listed}
 use Rattle.dump_index.specs.declared.change.NodeChange.{NodeChange}
-
--- the dump is records to its end, which make revisions whose changes are these, whatever text deltas make
-abbrev pub MakesListed : List ℕ → List NodeChange → Type 0
-MakesListed dump changes = (records : List DumpRecord) × HasRecords dump records Ending.Whole
-    × ((patched : Patching) → (revisions : List (List Change)) × MakeRevisions patched records revisions
-    × AreListed changes (placed_from 1 revisions))
 
 -- whether there are revisions, and they are numbered 0, 1, 2 and so on
 abbrev pub are_numbered : List DumpRecord → Bool
@@ -70,12 +63,6 @@ abbrev pub IsOutOfPlace : List DumpRecord → DumpRecord → Type 0
 IsOutOfPlace records r = ((is_node r ≡ true) × (takes_nodes (present_behind None records) ≡ false))
     ⊎ ((is_revision_record r ≡ true) × ((number : ℕ) → header_number revision_name r.headers ≡ Some number
     → number < 18446744073709551615 → rise_from 0 (revision_numbers (records ++ r ∷ [])) ≡ false))
-
--- the dump is records to its end, whose nodes make these changes; and there is no revision, or they are not numbered 0, 1, 2
--- and so on, but by rising numbers
-abbrev pub MakesListedByNumbers : List ℕ → List NodeChange → Type 0
-MakesListedByNumbers dump changes = (records : List DumpRecord) × HasRecords dump records Ending.Whole
-    × (are_numbered records ≡ false) × (rise_from 0 (revision_numbers records) ≡ true) × AreListedIn records changes
 
 -- whether the change is a copy
 abbrev pub is_listed_copy : Listed → Bool

@@ -2,3 +2,4 @@ pub mod ChangedProperties
 pub mod DumpReading
 pub mod Nodes
 pub mod Reading
+pub mod StoredTexts

@@ -18,24 +18,30 @@
 //! `tests::other_ends_are_told` runs this.
 //!
 //! [`properties_at`] finds the properties of the node at a path after some of the changes. It takes a [`PropertyTable`] of the
-//! dump.
+//! dump. [`text_at`] finds the text of a file so, if the dump has it as a whole. It takes a [`TextTable`].
 #![tactic(auto)]
 
 pub mod laws;
 mod node;
+mod node_text;
 mod numbers;
 mod properties;
 mod property_edit;
 mod property_table;
 mod read;
+mod text_table;
+mod texts;
 
 pub use dump_rules::Memory;
 pub use node::node_change;
+pub use node_text::{NodeText, StoredText};
 pub use numbers::{copies_from_gap, with_loaded_source};
 pub use properties::properties_at;
 pub use property_edit::NodeProperty;
 pub use property_table::PropertyTable;
 pub use read::{End, Reading, read_changes};
+pub use text_table::TextTable;
+pub use texts::text_at;
 
 #[cfg(test)]
 mod tests;

@@ -1,27 +1,29 @@
 use Rattle.std.proofs.Common.{subst, arith}
 use Rattle.dump_records.specs.declared.cutter.Cut.{Cut}
 use Rattle.dump_changes.proofs.Prelude.{CutStep}
-use Rattle.dump_changes.proofs.TableLemmas.{all_blocks, nearer, no_blocks, one_more_block}
+use Rattle.dump_changes.proofs.TableLemmas.{all_parts, nearer, no_parts, one_more_part}
 use Rattle.dump_changes.proofs.property_table.PropertyTable.of.Goals as goal
 
 pub loop-item-init : goal.loop-item-init
 loop-item-init c =
-    no_blocks c.args.dump.now c.new-cutter.result c.new-blocks.result.items c.new-cutter.ensures c.new-blocks.ensures.items
+    no_parts (λ block. block.now) (λ r. r.props) c.args.dump.now c.new-cutter.result c.new-blocks.result.items
+    c.new-cutter.ensures c.new-blocks.ensures.items
 
 pub loop-item-smaller : goal.loop-item-smaller
 loop-item-smaller c =
     let step = subst (λ (x : Cut). CutStep c.loop-item.cutter x c.next.new.self) c.in-Item.is c.next.ensures in
-    let near = nearer c.args.dump.now c.loop-item.cutter c.next.new.self c.loop-item.blocks.items c.loop-item.invariant
-    c.in-Item.item step in
+    let near = nearer (λ block. block.now) (λ r. r.props) c.args.dump.now c.loop-item.cutter c.next.new.self
+    c.loop-item.blocks.items c.loop-item.invariant c.in-Item.item step in
     omega (arith, near.0, near.1)
 
 pub loop-item-preserved : goal.loop-item-preserved
 loop-item-preserved c =
     let step = subst (λ (x : Cut). CutStep c.loop-item.cutter x c.next.new.self) c.in-Item.is c.next.ensures in
-    one_more_block c.args.dump.now c.loop-item.cutter c.next.new.self c.loop-item.blocks.items c.loop-item.invariant
-    c.in-Item.item step c.property_bytes.result c.push.new.self.items c.property_bytes.ensures c.in_ok-push.ensures.items
+    one_more_part (λ block. block.now) (λ r. r.props) c.args.dump.now c.loop-item.cutter c.next.new.self
+    c.loop-item.blocks.items c.loop-item.invariant c.in-Item.item step c.property_bytes.result c.push.new.self.items
+    c.property_bytes.ensures c.in_ok-push.ensures.items
 
 pub returns : goal.returns
 returns c =
-    all_blocks c.args.dump.now c.loop-item.cutter c.next.new.self c.loop-item.blocks.items c.loop-item.invariant c.next.result
-    c.next.ensures c.in_default.not-Item
+    all_parts (λ block. block.now) (λ r. r.props) c.args.dump.now c.loop-item.cutter c.next.new.self
+    c.loop-item.blocks.items c.loop-item.invariant c.next.result c.next.ensures c.in_default.not-Item
