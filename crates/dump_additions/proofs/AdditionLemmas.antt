@@ -14,7 +14,7 @@ use Rattle.dump_trees.specs.Looking.{Placed, end_of, look, placed_from}
 use Rattle.dump_trees.specs.Paths.{NodePath, names_of}
 use Rattle.dump_trees.specs.Revisions.{loaded, loaded_over}
 use Rattle.dump_trees.specs.Trees.{Node, Tree, root_alone}
-use Rattle.dump_trees.specs.WritingOut.{folder_of}
+use Rattle.dump_trees.specs.WritingOut.{file_of, folder_of}
 use Rattle.dump_trees.proofs.cuts.CheckedLoads.{AreFrom, Pushed, all_from, from_append, from_more, of_one, one_from, placed_append, placed_cut, pushed, steps_then}
 use Rattle.dump_trees.proofs.expansions.FiniteLemmas.{HasEntries}
 use Rattle.dump_trees.proofs.expansions.FiniteSteps.{AllFinite, IsFinite, finite_stands, finite_step, finite_steps}
@@ -37,15 +37,17 @@ use Rattle.dump_index.specs.declared.change.NodeKind.{NodeKind}
 use Rattle.dump_index.specs.declared.change.Setting.TheVariants.{Keeps}
 use Rattle.dump_index.proofs.LawLemmas.{end_same}
 use Rattle.dump_index.proofs.ToldLemmas.{index_tells_kinds}
+use Rattle.dump_changes.specs.FileTexts.{IsStoredAt, TextStored, ToldText, record_texts}
 use Rattle.dump_changes.specs.NodeProperties.{ArePropertiesAt, ListNodes, property_blocks}
+use Rattle.dump_changes.proofs.TextLemmas.{whole_is_of_file}
 use Rattle.dump_expansion.specs.ByChanges.{expanded_by}
 use Rattle.dump_expansion.specs.GivenSteads.{GivenStead, left_alone}
-use Rattle.dump_additions.specs.Additions.{AreNodesOf, IsAddition, IsNodeOfForm}
+use Rattle.dump_additions.specs.Additions.{AreNodesOf, IsAddition, IsNodeOfForm, MakesRoot}
 use Rattle.dump_additions.specs.declared.parts.Form.{Form}
 use Rattle.dump_additions.specs.declared.parts.Form.TheVariants.{Copy, Directory, File}
 use Rattle.dump_additions.specs.Parts.{ArePartsOf, PartMeant}
 use Rattle.dump_additions.specs.steps.WrittenParts.{AreChangesFor, AreEntriesAt, IsChangeOfForm}
-use Rattle.dump_additions.proofs.CopyLemmas.{copy_expands, early, in_trees}
+use Rattle.dump_additions.proofs.CopyLemmas.{WritesRoot, copy_expands, early, in_trees}
 use Rattle.dump_additions.proofs.EntryLemmas.{set_again}
 
 -- the properties of a node of a finite tree make themselves
@@ -89,34 +91,56 @@ module _ (patched : Patching) (records : List DumpRecord) (changes : List NodeCh
   abbrev blocks : List (List ℕ)
   blocks = property_blocks records
 
+  abbrev texts : List ToldText
+  texts = record_texts records
+
   abbrev Addition : ℕ → Listed → GivenStead → Type 0
-  Addition = IsAddition blocks listed excluded
+  Addition = IsAddition blocks texts listed excluded
 
   -- what is found in the past
   properties_found : (text : List ℕ) (count : ℕ) (props : List Property) → ArePropertiesAt blocks listed text count props
       → (node : Node) → look root_alone here count (names_of text) ≡ Some node → properties_of node ≡ props
   properties_found text count props are node at = are patched records changes here node refl refl lists ordered at
 
+  text_found : (text : List ℕ) (count : ℕ) (its : ToldText) → IsStoredAt texts listed text count (TextStored.Whole its)
+      → (props : List Property) (found : List ℕ) → look root_alone here count (names_of text) ≡ Some (Node.File props found)
+      → found ≡ its.text
+  text_found text count its stored props found at =
+      whole_is_of_file texts listed text count its stored patched records changes here props found refl refl lists ordered at
+
   module _ (number : ℕ) (old : Tree) (there : slice_get trees number ≡ Some old) (finite : IsFinite old) where
+    -- what is looked up there is in the tree
+    looked_there : (source rest : NodePath) (text : List ℕ) → names_of text ≡ source ++ rest
+        → look root_alone here (end_of (all_placed listed) number) (names_of text) ≡ old (source ++ rest)
+    looked_there source rest text text_is =
+        ap₂ (λ n p. look root_alone here n p) (sym (end_same listed here lists.listed number)) text_is
+        ∙ look_finds_each root_alone revisions trees number old (source ++ rest) loads there
+
     entries_found : (path source rest : NodePath) (text : List ℕ) (entries : List Property) → names_of text ≡ source ++ rest
         → ArePropertiesAt blocks listed text (end_of (all_placed listed) number) entries
         → AreEntriesAt old number path source rest entries
     entries_found path source rest text entries text_is are node at =
         let found = properties_found text (end_of (all_placed listed) number) entries are node
-        (ap₂ (λ n p. look root_alone here n p) (sym (end_same listed here lists.listed number)) text_is
-        ∙ (look_finds_each root_alone revisions trees number old (source ++ rest) loads there ∙ at)) in
+        (looked_there source rest text text_is ∙ at) in
         subst (λ es. edited_with es [] ≡ properties_of node) found (own_again old finite (source ++ rest) node at)
 
     form_found : (path source : NodePath) (form : Form) (rest : NodePath) (w : WrittenNode)
-        → IsNodeOfForm blocks listed excluded number path source form rest w
+        → IsNodeOfForm blocks texts listed excluded number path source form rest w
         → IsChangeOfForm old number path source form rest (written_change w)
     form_found path source Copy rest w (is, kind) = is
     form_found path source Directory rest w (text, entries, text_is, change_is, are) =
         (entries, change_is, entries_found path source rest text entries text_is are)
-    form_found path source File rest w is = absurd is
+    form_found path source File rest w (text, entries, its, text_is, change_is, said, are, stored) = (
+      entries,
+      its.text,
+      change_is,
+      entries_found path source rest text entries text_is are,
+      λ props found at.
+          text_found text (end_of (all_placed listed) number) its stored props found (looked_there source rest text text_is ∙ at),
+    )
 
     nodes_found : (path source : NodePath) (parts : List PartMeant) (nodes : List WrittenNode)
-        → AreNodesOf blocks listed excluded number path source parts nodes
+        → AreNodesOf blocks texts listed excluded number path source parts nodes
         → AreChangesFor old number path source parts (map written_change nodes)
     nodes_found path source [] [] are = tt
     nodes_found path source [] (w ∷ nodes) are = absurd are
@@ -193,9 +217,10 @@ module _ (patched : Patching) (records : List DumpRecord) (changes : List NodeCh
       addition_expands after at n l is g a =
           subst (λ ws. Expands keep_all (slice_get older) before c (map written_change ws))
           (sym (ap (λ (x : GivenStead). x.nodes) a.given))
-          (subst (λ w. Expands keep_all (slice_get older) before c (w ∷ map written_change a.nodes)) (sym root_is)
+          (subst (λ w. Expands keep_all (slice_get older) before c (w ∷ map written_change a.nodes)) (sym root.1)
           (copy_expands changes revisions trees ordered lists.listed loads older more joined all before after finite c at
-          a.number a.source makes no_text excluded a.parts a.is_root.own (map written_change a.nodes) parts_are changes_are own_is))
+          a.number a.source makes excluded a.parts a.is_root.own (map written_change a.nodes) changes_are own_is a.form parts_are
+          root.0 root.2))
         where
           path_is : names_of l.path ≡ c.path
           path_is = sym is.path
@@ -203,40 +228,66 @@ module _ (patched : Patching) (records : List DumpRecord) (changes : List NodeCh
           makes : c.made ≡ Some (Made.Copied a.number a.source)
           makes = is.made ∙ a.copies
 
-          no_text : c.text ≡ None
-          no_text = no_text_of c.text (subst (λ s. HasText s c.text) a.no_text is.text)
-
           old : (old : Tree) × (slice_get older a.number ≡ Some old)
           old = early changes revisions trees ordered lists.listed loads older more joined all before after finite c at a.number
-              a.source makes no_text
+              a.source makes
 
-          root_is : written_change a.root ≡ replacing (is_some (before c.path)) (folder_of c.path a.is_root.own)
-          root_is =
-              a.is_root.makes
-              ∙ ap₂ (λ b p. replacing b (folder_of p a.is_root.own))
-              (kind_before (names_of l.path) ∙ ap (λ p. is_some (before p)) path_is) path_is
-
-          parts_are : ArePartsOf listed excluded a.number c.path a.source [] (record { form = Directory; rest = [] } ∷ a.parts)
+          parts_are : ArePartsOf listed excluded a.number c.path a.source [] (record { form = a.form; rest = [] } ∷ a.parts)
           parts_are =
-              subst (λ p. ArePartsOf listed excluded a.number p a.source [] (record { form = Directory; rest = [] } ∷ a.parts))
+              subst (λ p. ArePartsOf listed excluded a.number p a.source [] (record { form = a.form; rest = [] } ∷ a.parts))
               path_is a.are_parts
 
           changes_are : AreChangesFor old.0 a.number c.path a.source a.parts (map written_change a.nodes)
           changes_are =
               nodes_found a.number old.0
               (in_trees changes revisions trees ordered lists.listed loads older more joined all before after finite c at a.number
-              a.source makes no_text)
+              a.source makes)
               (all a.number old.0 old.1) c.path a.source a.parts a.nodes
-              (subst (λ p. AreNodesOf blocks listed excluded a.number p a.source a.parts a.nodes) path_is a.are_nodes)
+              (subst (λ p. AreNodesOf blocks texts listed excluded a.number p a.source a.parts a.nodes) path_is a.are_nodes)
 
           finite_after : IsFinite after
           finite_after = subst (λ o. IfSome o IsFinite) at (finite_step (slice_get older) all before finite c)
 
+          -- what is found at the path after the change
+          looked_after : look root_alone here (suc place) (names_of l.path) ≡ after c.path
+          looked_after = ap (look root_alone here (suc place)) path_is ∙ look_after after at c.path
+
           own_is : (node : Node) → after c.path ≡ Some node → edited_with a.is_root.own [] ≡ properties_of node
           own_is node there =
-              let found = properties_found l.path (suc place) a.is_root.own a.is_root.own_are node
-              (ap (look root_alone here (suc place)) path_is ∙ (look_after after at c.path ∙ there)) in
+              let found = properties_found l.path (suc place) a.is_root.own a.is_root.own_are node (looked_after ∙ there) in
               subst (λ es. edited_with es [] ≡ properties_of node) found (own_again after finite_after c.path node there)
+
+          replaced : (make : NodePath → Change)
+              → replacing (is_some (kind_look listed place (names_of l.path))) (make (names_of l.path))
+              ≡ replacing (is_some (before c.path)) (make c.path)
+          replaced make =
+              ap₂ (λ b p. replacing b (make p))
+              (kind_before (names_of l.path) ∙ ap (λ p. is_some (before p)) path_is) path_is
+
+          root_by : (form : Form) → MakesRoot blocks texts listed excluded place l a.is_root.own form a.root
+              → (first : Change) × (written_change a.root ≡ replacing (is_some (before c.path)) first)
+              × WritesRoot changes revisions trees ordered lists.listed loads older more joined all before after finite c at
+              a.number a.source makes a.is_root.own form first
+          root_by Copy made = absurd made
+          root_by Directory (keeps, made) = (
+            folder_of c.path a.is_root.own,
+            made ∙ replaced (λ p. folder_of p a.is_root.own),
+            (no_text_of c.text (subst (λ s. HasText s c.text) keeps is.text), refl),
+          )
+          root_by File (its, stored, said, made) = (
+            file_of c.path a.is_root.own its.text,
+            made ∙ replaced (λ p. file_of p a.is_root.own its.text),
+            (
+              its.text,
+              refl,
+              λ props found there. text_found l.path (suc place) its stored props found (looked_after ∙ there),
+            ),
+          )
+
+          root : (first : Change) × (written_change a.root ≡ replacing (is_some (before c.path)) first)
+              × WritesRoot changes revisions trees ordered lists.listed loads older more joined all before after finite c at
+              a.number a.source makes a.is_root.own a.form first
+          root = root_by a.form a.is_root.makes
 
       -- what is in place of any change
       stead_expands : (n : ℕ) (l : Listed) → IsListed l (record { revision = n; change = c }) → (s : Stead)

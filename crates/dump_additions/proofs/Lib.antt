@@ -8,4 +8,5 @@ pub mod NumberLemmas
 pub mod PartLemmas
 pub mod RootLemmas
 pub mod StepLemmas
+pub mod TopLemmas
 pub mod WrittenLemmas

@@ -1,9 +1,10 @@
 -- Nodes, and the parts that they write.
-use Rattle.std.proofs.Common.{◌≡◌, ℕ, zero, suc, ◌+◌, ◌<◌, ◌≤◌, ◌-◌, length, take, drop, get_or, arith, Bool, true, false, cond, List, [], ◌∷◌, ◌++◌, map, Option, Some, None, option_map, nat_eq, refl, sym, ap, ap₂, ◌∙◌, subst, append_assoc, inl, inr}
-use Rattle.std.specs.Prelude.{unwrap_or}
-use Rattle.std.specs.List.{list_all}
-use Rattle.std.proofs.lemmas.Bool.{and_parts, eqb-true, or_left, or_right}
-use Rattle.std.proofs.lemmas.List.{map-append, take_all, take_more}
+use Rattle.std.proofs.Common.{◌≡◌, ℕ, ◌+◌, ◌<◌, ◌≤◌, ◌-◌, length, take, drop, get_or, arith, Bool, true, false, cond, List, [], ◌∷◌, ◌++◌, map, Option, Some, None, nat_eq, refl, sym, ap, ◌∙◌, subst, append_assoc, append-nil, inl, inr}
+use Rattle.std.specs.Prelude.{unwrap_or, Err}
+use Rattle.std.specs.List.{Contains, list_all}
+use Rattle.std.proofs.lemmas.Bool.{eqb-true}
+use Rattle.std.proofs.lemmas.List.{get_or-map, length-map, map-append, take_all, take_more}
+use Rattle.std.proofs.lemmas.List.Elements.{Contains-get_or}
 use Rattle.dump_trees.specs.Paths.{NodePath, names_of, path_of}
 use Rattle.dump_trees.specs.Changes.{Made}
 use Rattle.dump_trees.specs.Siblings.{has_node_names}
@@ -12,23 +13,24 @@ use Rattle.dump_history.specs.WrittenNodes.{WrittenNode, can_be_written}
 use Rattle.dump_index.specs.Listed.{Listed}
 use Rattle.dump_index.specs.declared.change.NodeKind.{NodeKind}
 use Rattle.dump_index.specs.declared.change.NodeKind.TheVariants as kinds
-use Rattle.dump_index.specs.declared.change.Setting.TheVariants.{Keeps}
+use Rattle.dump_changes.specs.FileTexts.{ToldText}
 use Rattle.dump_index.specs.InOrder.{ends_in_slash}
 use Rattle.dump_index.specs.steps.Touching.{joined_text}
 use Rattle.dump_index.proofs.SlashLemmas.{names_joined}
-use Rattle.dump_cut.specs.NamedPaths.{has_named_paths, has_named_source}
 use Rattle.dump_cut.proofs.ParentLemmas.{ends_named}
 use Rattle.dump_expansion.specs.GivenSteads.{GivenStead}
-use Rattle.dump_expansion.specs.steps.NewNodes.{written_kind, written_of}
-use Rattle.dump_expansion.specs.declared.written_node.NewNode.{NewNode}
+use Rattle.dump_expansion.specs.steps.NewNodes.{written_kind}
 use Rattle.dump_additions.specs.Additions.{AreNodesOf, IsAddition, IsNodeOf, IsRootOf, SaysKind}
-use Rattle.dump_additions.specs.steps.Nodes.{CannotBeAdded, has_file, is_file_form}
-use Rattle.dump_additions.specs.steps.Nodes.{AddsNodes, IsNodeIfSome}
+use Rattle.dump_additions.specs.FirstNotAdded.{BringsSome, CannotBeAdded, HasDelta, IsReason}
+use Rattle.dump_additions.specs.steps.Nodes.{AddsNodes, IsAdditionOr, IsNodeOrDelta, IsRootOr}
+use Rattle.dump_additions.specs.declared.not_added.Reason.{Reason}
+use Rattle.dump_additions.specs.declared.not_added.Reason.TheVariants.{Delta, NoLoad, NotWritable}
+use Rattle.dump_additions.specs.declared.parts.Form.{Form}
 use Rattle.dump_additions.specs.declared.parts.Form.TheVariants.{Copy, Directory, File}
 use Rattle.dump_additions.specs.declared.parts.Part.{Part}
 use Rattle.dump_additions.specs.steps.Parts.{part_meant}
-use Rattle.dump_additions.specs.Parts.{ArePartsOf, Copied, NoPart, Opened, PartMeant, WrittenFile}
-use Rattle.dump_additions.proofs.WrittenLemmas.{is_directory}
+use Rattle.dump_additions.specs.Parts.{ArePartsOf, IsFormAt, PartMeant, TakesSomeBack, kind_in}
+use Rattle.dump_additions.proofs.TopLemmas.{first_form}
 
 -- a path with names of nodes has no leading slash
 pub named_bare : (text : List ℕ) → has_node_names (names_of text) ≡ true → path_of text ≡ names_of text
@@ -65,19 +67,13 @@ says_kind (Some kinds.Folder) other number source path = refl
 says_kind (Some kinds.File) other number source path = refl
 
 -- parts one after the other
-module _ (blocks : List (List ℕ)) (listed : List Listed) (excluded : List NodePath) (number : ℕ) (path source : NodePath) where
+module _ (blocks : List (List ℕ)) (texts : List ToldText) (listed : List Listed) (excluded : List NodePath) (number : ℕ)
+    (path source : NodePath) where
   abbrev Nodes : List PartMeant → List WrittenNode → Type 0
-  Nodes = AreNodesOf blocks listed excluded number path source
-
-  -- no node is found for a file alone
-  pub no_node : (part : PartMeant) (found : Option NewNode) → ((node : NewNode) → found ≡ Some node → ⊥)
-      → IsNodeIfSome blocks listed excluded number path source part (option_map written_of found)
-      → is_file_form part.form ≡ true
-  no_node part None none is = is
-  no_node part (Some node) none is = absurd (none node refl)
+  Nodes = AreNodesOf blocks texts listed excluded number path source
 
   nodes_pushed : (parts : List PartMeant) (nodes : List WrittenNode) (part : PartMeant) (w : WrittenNode) → Nodes parts nodes
-      → IsNodeOf blocks listed excluded number path source part w → Nodes (parts ++ part ∷ []) (nodes ++ w ∷ [])
+      → IsNodeOf blocks texts listed excluded number path source part w → Nodes (parts ++ part ∷ []) (nodes ++ w ∷ [])
   nodes_pushed [] [] part w are is = (is, tt)
   nodes_pushed [] (n ∷ nodes) part w are is = absurd are
   nodes_pushed (p ∷ parts) [] part w are is = absurd are
@@ -85,9 +81,9 @@ module _ (blocks : List (List ℕ)) (listed : List Listed) (excluded : List Node
 
   pub one_node_more : (parts : List Part) (k : ℕ) (d : Part) → k < length parts → (first old new : List WrittenNode)
       (w : WrittenNode) → new ≡ old ++ w ∷ []
-      → AddsNodes blocks listed excluded number path source (map part_meant (take k parts)) first old true
-      → IsNodeOf blocks listed excluded number path source (part_meant (get_or parts k d)) w
-      → AddsNodes blocks listed excluded number path source (map part_meant (take (k + 1) parts)) first new true
+      → AddsNodes blocks texts listed excluded number path source (map part_meant (take k parts)) first old None
+      → IsNodeOf blocks texts listed excluded number path source (part_meant (get_or parts k d)) w
+      → AddsNodes blocks texts listed excluded number path source (map part_meant (take (k + 1) parts)) first new None
   one_node_more parts k d low first old new w new_is (more, old_is, are) is = (
     more ++ w ∷ [],
     new_is ∙ (ap (λ (ws : List WrittenNode). ws ++ w ∷ []) old_is ∙ append_assoc first more (w ∷ [])),
@@ -96,92 +92,116 @@ module _ (blocks : List (List ℕ)) (listed : List Listed) (excluded : List Node
         (nodes_pushed (map part_meant (take k parts)) more (part_meant (get_or parts k d)) w are is),
   )
 
--- a part that is a file
-pub file_there : (parts : List Part) (k : ℕ) (d : Part) → k < length parts → is_file_form (get_or parts k d).form ≡ true
-    → has_file (map part_meant parts) ≡ true
-file_there [] k d low is = absurd (let none : k < 0 = low in omega (arith, none))
-file_there (p ∷ parts) zero d low is = or_left (is_file_form p.form) (has_file (map part_meant parts)) is
-file_there (p ∷ parts) (suc k) d low is =
-    or_right (is_file_form p.form) (has_file (map part_meant parts))
-    (file_there parts k d (let less : k < length parts = omega (arith, low) in less) is)
+  -- where no delta is found, the nodes are added
+  pub all_added : (parts : List PartMeant) (old new : List WrittenNode) (found : Option ℕ)
+      → ((at : ℕ) → found ≡ Some at → ⊥)
+      → AddsNodes blocks texts listed excluded number path source parts old new found
+      → AddsNodes blocks texts listed excluded number path source parts old new None
+  all_added parts old new None none adds = adds
+  all_added parts old new (Some at) none adds = absurd (none at refl)
 
--- what is in place of a change, or why it can't be written
-module _ (blocks : List (List ℕ)) (listed : List Listed) (excluded : List NodePath) (place : ℕ) (l : Listed) (number : ℕ)
-    (source : NodePath) (copies : l.made ≡ Some (Made.Copied number source)) where
+  -- a part that is a file whose text is stored as a delta
+  pub delta_there : (parts : List Part) (k : ℕ) (d : Part) → k < length parts → (at : ℕ)
+      → IsNodeOrDelta blocks texts listed excluded number path source (part_meant (get_or parts k d)) (Err at)
+      → HasDelta blocks texts listed excluded number path source (map part_meant parts) at
+  delta_there parts k d low at (is, delta) = (
+    names_of (get_or parts k d).rest.items,
+    subst (Contains (map part_meant parts))
+        (get_or-map part_meant parts k d (part_meant d) low
+        ∙ ap (λ f. record { form = f; rest = names_of (get_or parts k d).rest.items }) is)
+        (Contains-get_or (map part_meant parts) k (part_meant d)
+        (subst (λ n. k < n) (sym (length-map parts part_meant)) low)),
+    delta,
+  )
+
+-- what is in place of a change, or why nothing can be written
+module _ (blocks : List (List ℕ)) (texts : List ToldText) (listed : List Listed) (excluded : List NodePath) (place : ℕ)
+    (l : Listed) (number : ℕ) (source : NodePath) (copies : l.made ≡ Some (Made.Copied number source)) where
   abbrev Parts : List PartMeant → Type 0
   Parts parts = ArePartsOf listed excluded number (names_of l.path) source [] parts
 
-  pub no_directory : (parts : List PartMeant) → Parts parts → is_directory parts ≡ false
-      → CannotBeAdded blocks listed excluded place l
-  no_directory parts are isnt = record {
-    number = number;
-    source = source;
-    copies = copies;
-    parts = parts;
-    are_parts = are;
-    why = inr (inl (λ inside same. let bad : true ≡ false = sym (ap is_directory same) ∙ isnt in cc));
-  }
+  module _ (form : Form) (inside : List PartMeant) (are : Parts (record { form = form; rest = [] } ∷ inside)) where
+    refused : (reason : Reason)
+        → IsReason blocks texts listed excluded place l number source (record { form = form; rest = [] } ∷ inside) reason
+        → CannotBeAdded blocks texts listed excluded place l reason
+    refused reason why = record {
+      number = number;
+      source = source;
+      copies = copies;
+      parts = record { form = form; rest = [] } ∷ inside;
+      are_parts = are;
+      why = why;
+    }
 
-  pub has_text : (parts : List PartMeant) → Parts parts → (l.text ≡ Keeps → ⊥) → CannotBeAdded blocks listed excluded place l
-  has_text parts are text = record {
-    number = number;
-    source = source;
-    copies = copies;
-    parts = parts;
-    are_parts = are;
-    why = inl text;
-  }
+    -- the form of what is at the source
+    its_form : IsFormAt listed excluded number (names_of l.path) source [] (Some form)
+    its_form =
+        (first_form listed excluded number (names_of l.path) source [] (record { form = form; rest = [] } ∷ inside) inside
+        (record { form = form; rest = [] }) are refl).1
 
-  pub file_in : (parts inside : List PartMeant) (top : PartMeant) → parts ≡ top ∷ inside → Parts parts → has_file inside ≡ true
-      → CannotBeAdded blocks listed excluded place l
-  file_in parts inside top same are is = record {
-    number = number;
-    source = source;
-    copies = copies;
-    parts = parts;
-    are_parts = are;
-    why = inr (inr (inl (ap has_file same ∙ or_right (is_file_form top.form) (has_file inside) is)));
-  }
+    folder_there : form ≡ Directory → kind_in listed number source ≡ Some kinds.Folder
+    folder_there is =
+        ap (kind_in listed number) (sym (append-nil source))
+        ∙ (subst (λ f. IsFormAt listed excluded number (names_of l.path) source [] (Some f)) is its_form).1
 
-  -- the first part is all that is copied
-  first_rest : (rest : NodePath) (parts inside : List PartMeant) (top : PartMeant)
-      → ArePartsOf listed excluded number (names_of l.path) source rest parts → parts ≡ top ∷ inside → top.rest ≡ rest
-  first_rest rest _ inside top (NoPart _ form) same = absurd (let bad : [] ≡ top ∷ inside = same in cc)
-  first_rest rest _ inside top (Copied _ form) same = let is : record { form = Copy; rest = rest } ≡ top = cc in ap (λ (p : PartMeant). p.rest) (sym is)
-  first_rest rest _ inside top (WrittenFile _ form) same = let is : record { form = File; rest = rest } ≡ top = cc in ap (λ (p : PartMeant). p.rest) (sym is)
-  first_rest rest _ inside top (Opened _ names parts form are more) same = let is : record { form = Directory; rest = rest } ≡ top = cc in ap (λ (p : PartMeant). p.rest) (sym is)
+    -- the root can't be written
+    pub root_refused : (reason : Reason) → IsRootOr blocks texts listed excluded place l form (Err reason)
+        → CannotBeAdded blocks texts listed excluded place l reason
+    root_refused (Delta at) (is, stored) = refused (Delta at) (form, inside, refl, inl (is, stored))
+    root_refused NoLoad (is, text) = refused NoLoad (inr (folder_there is, text))
+    root_refused NotWritable is = absurd is
 
-  pub addition_made : (parts inside : List PartMeant) (top : PartMeant) → parts ≡ top ∷ inside → Parts parts
-      → top.form ≡ Directory → l.text ≡ Keeps → (root : WrittenNode) → IsRootOf blocks listed excluded place l root
-      → (first new : List WrittenNode) → first ≡ root ∷ []
-      → AddsNodes blocks listed excluded number (names_of l.path) source inside first new true
-      → IsAddition blocks listed excluded place l (record { number = l.record_number; nodes = new; keeps = false })
-  addition_made parts inside top same are form text root is_root first new first_is (nodes, new_is, are_nodes) = record {
-    number = number;
-    source = source;
-    copies = copies;
-    no_text = text;
-    parts = inside;
-    are_parts = subst Parts
-        (same ∙ ap₂ (λ f r. record { form = f; rest = r } ∷ inside) form (first_rest [] parts inside top are same)) are;
-    root = root;
-    is_root = is_root;
-    nodes = nodes;
-    are_nodes = are_nodes;
-    given = ap (λ ns. record { number = l.record_number; nodes = ns; keeps = false })
-        (new_is ∙ ap (λ (ns : List WrittenNode). ns ++ nodes) first_is);
-  }
+    -- nor can a file in it
+    pub inside_refused : (at : ℕ) → HasDelta blocks texts listed excluded number (names_of l.path) source inside at
+        → CannotBeAdded blocks texts listed excluded place l (Delta at)
+    inside_refused at has = refused (Delta at) (form, inside, refl, inr has)
 
-  pub not_written : (parts : List PartMeant) → Parts parts → (g : GivenStead) → IsAddition blocks listed excluded place l g
-      → list_all can_be_written g.nodes ≡ false → CannotBeAdded blocks listed excluded place l
-  not_written parts are g addition isnt = record {
-    number = number;
-    source = source;
-    copies = copies;
-    parts = parts;
-    are_parts = are;
-    why = inr (inr (inr (g, addition, isnt)));
-  }
+    pub stead_made : (root : WrittenNode) → IsRootOf blocks texts listed excluded place l form root
+        → (first new : List WrittenNode) → first ≡ root ∷ []
+        → AddsNodes blocks texts listed excluded number (names_of l.path) source inside first new None
+        → IsAddition blocks texts listed excluded place l (record { number = l.record_number; nodes = new; keeps = false })
+    stead_made root is_root first new first_is (nodes, new_is, are_nodes) = record {
+      number = number;
+      source = source;
+      copies = copies;
+      form = form;
+      parts = inside;
+      are_parts = are;
+      root = root;
+      is_root = is_root;
+      nodes = nodes;
+      are_nodes = are_nodes;
+      given = ap (λ ns. record { number = l.record_number; nodes = ns; keeps = false })
+          (new_is ∙ ap (λ (ns : List WrittenNode). ns ++ nodes) first_is);
+    }
+
+    pub not_written : (g : GivenStead) → IsAddition blocks texts listed excluded place l g
+        → list_all can_be_written g.nodes ≡ false → CannotBeAdded blocks texts listed excluded place l NotWritable
+    not_written g addition isnt = refused NotWritable (g, addition, isnt)
+
+  module _ (parts inside : List PartMeant) (form : Form) (rest : NodePath)
+      (same : parts ≡ record { form = form; rest = rest } ∷ inside) (are : Parts parts) where
+    top : (rest ≡ []) × IsFormAt listed excluded number (names_of l.path) source [] (Some form)
+    top = first_form listed excluded number (names_of l.path) source [] parts inside (record { form = form; rest = rest }) are same
+
+    -- these are the parts of which nodes are made
+    pub parts_apart : Parts (record { form = form; rest = [] } ∷ inside)
+    parts_apart = subst Parts (same ∙ ap (λ r. record { form = form; rest = r } ∷ inside) top.0) are
+
+    -- something comes back with it
+    some_back : (form ≡ Copy → ⊥) → BringsSome blocks texts listed excluded (names_of l.path) l.made
+    some_back isnt =
+        subst (BringsSome blocks texts listed excluded (names_of l.path)) (sym copies) (by form isnt top.1)
+      where
+        by : (f : Form) → (f ≡ Copy → ⊥) → IsFormAt listed excluded number (names_of l.path) source [] (Some f)
+            → TakesSomeBack listed excluded number (names_of l.path) source []
+        by Copy isnt is = absurd (isnt refl)
+        by Directory isnt is = is.0
+        by File isnt is = is.0
+
+    pub refused_back : (form ≡ Copy → ⊥) → (reason : Reason) → CannotBeAdded blocks texts listed excluded place l reason
+        → IsAdditionOr blocks texts listed excluded place l (Err reason)
+    refused_back isnt reason why = (some_back isnt, why)
 
 -- a list that isn't empty
 pub first_part : (slice items : List Part) (d item : Part) → slice ≡ items → 1 ≤ length slice → item ≡ get_or slice 0 d
@@ -192,9 +212,3 @@ first_part (p ∷ slice) items d item same some is =
     ∙ (ap (λ (x : Part). part_meant x ∷ map part_meant slice) (sym is)
     ∙ ap (λ ps. part_meant item ∷ map part_meant ps)
     (sym (take_all (length (p ∷ slice) - 1) slice (let low : length slice ≤ length (p ∷ slice) - 1 = omega arith in low))))
-
--- the source of a copy has names of nodes
-pub source_named : (l : Listed) (number : ℕ) (source : NodePath) → has_named_paths l ≡ true
-    → l.made ≡ Some (Made.Copied number source) → has_node_names source ≡ true
-source_named l number source named is =
-    sym (ap has_named_source is) ∙ (and_parts (has_node_names (names_of l.path)) (has_named_source l.made) named).1

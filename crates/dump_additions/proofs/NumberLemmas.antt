@@ -15,6 +15,7 @@ use Rattle.dump_history.specs.RecordChanges.{Patching}
 use Rattle.dump_index.specs.InOrder.{are_in_order}
 use Rattle.dump_index.specs.Listed.{Listed, listed_of}
 use Rattle.dump_index.specs.declared.change.NodeChange.{NodeChange}
+use Rattle.dump_changes.specs.FileTexts.{record_texts}
 use Rattle.dump_changes.specs.NodeProperties.{ListNodes, node_numbers, property_blocks}
 use Rattle.dump_expansion.specs.ByChanges.{are_given_for, steads_for}
 use Rattle.dump_expansion.specs.GivenSteads.{GivenStead, left_alone, own_form}
@@ -108,7 +109,7 @@ module _ (patched : Patching) (records : List DumpRecord) (changes : List NodeCh
   Steads = AreSteadsFrom patched records changes revisions trees excluded lists ordered loads
 
   abbrev Additions : ℕ → List Listed → List GivenStead → Type 0
-  Additions = AreAdditionsFrom (property_blocks records) (map listed_of changes) excluded
+  Additions = AreAdditionsFrom (property_blocks records) (record_texts records) (map listed_of changes) excluded
 
   -- a change that stays
   kept_stead : (place : ℕ) (l : Listed) (more : List Listed) (given : List GivenStead)
@@ -124,7 +125,7 @@ module _ (patched : Patching) (records : List DumpRecord) (changes : List NodeCh
 
   -- one in whose place other nodes are
   added_stead : (place : ℕ) (l : Listed) (more : List Listed) (g : GivenStead) (given : List GivenStead)
-      → IsAddition (property_blocks records) (map listed_of changes) excluded place l g
+      → IsAddition (property_blocks records) (record_texts records) (map listed_of changes) excluded place l g
       → are_given_for (numbers_of more) given ≡ true → Steads (suc place) more (steads_for (numbers_of more) given)
       → (are_given_for (numbers_of (l ∷ more)) (g ∷ given) ≡ true)
       × Steads place (l ∷ more) (steads_for (numbers_of (l ∷ more)) (g ∷ given))

@@ -210,7 +210,7 @@ module _ (listed : List Listed) (excluded : List NodePath) (number : ℕ) (path 
             distinct = refl;
             out = inr (
               entries,
-              ap (λ t. file_of (path ++ rest) entries t ∷ []) (same (Node.File props its) at),
+              ap (λ t. file_of (path ++ rest) entries t ∷ []) (sym (same props its at)),
               made (Node.File props its) at,
             );
           }

@@ -15,6 +15,7 @@ use Rattle.dump_history.specs.RecordChanges.{Patching}
 use Rattle.dump_index.specs.InOrder.{are_in_order}
 use Rattle.dump_index.specs.Listed.{listed_of}
 use Rattle.dump_index.specs.declared.change.NodeChange.{NodeChange}
+use Rattle.dump_changes.specs.FileTexts.{record_texts}
 use Rattle.dump_changes.specs.ListedDumps.{AreListedIn}
 use Rattle.dump_changes.specs.NodeProperties.{HaveNodeNumbers, property_blocks}
 use Rattle.dump_expansion.specs.GivenSteads.{GivenStead, IsExpandedBy, steads_in}
@@ -29,7 +30,8 @@ pub record HasAdditions (patched : Patching) (dump : List ℕ) (records : List D
   pub listed : AreListedIn records changes
   pub numbers : HaveNodeNumbers records changes
   pub ordered : IsTrue (are_in_order 0 changes)
-  pub additions : AreAdditionsFrom (property_blocks records) (map listed_of changes) excluded 0 (map listed_of changes) given
+  pub additions : AreAdditionsFrom (property_blocks records) (record_texts records) (map listed_of changes) excluded 0
+      (map listed_of changes) given
 
 -- then each change is expanded: what is in its place does the same
 abbrev pub AdditionsExpand : Type 0

@@ -5,7 +5,7 @@ use Rattle.dump_text.specs.PropertyList.{Property}
 use Rattle.dump_trees.specs.Changes.{Made}
 use Rattle.dump_trees.specs.Looking.{end_of}
 use Rattle.dump_trees.specs.Paths.{NodePath, names_of}
-use Rattle.dump_trees.specs.WritingOut.{copy_of, folder_of}
+use Rattle.dump_trees.specs.WritingOut.{copy_of, file_of, folder_of}
 use Rattle.dump_history.specs.WrittenNodes.{WrittenNode, replacing, written_change}
 use Rattle.dump_history.specs.WrittenNodes as format
 use Rattle.dump_index.specs.Kinds.{kind_look}
@@ -13,6 +13,7 @@ use Rattle.dump_index.specs.Listed.{Listed, all_placed}
 use Rattle.dump_index.specs.declared.change.NodeKind.{NodeKind}
 use Rattle.dump_index.specs.declared.change.NodeKind.TheVariants as kinds
 use Rattle.dump_index.specs.declared.change.Setting.TheVariants.{Keeps}
+use Rattle.dump_changes.specs.FileTexts.{IsStoredAt, TextStored, ToldText}
 use Rattle.dump_changes.specs.NodeProperties.{ArePropertiesAt}
 use Rattle.dump_expansion.specs.GivenSteads.{GivenStead}
 use Rattle.dump_additions.specs.declared.parts.Form.{Form}
@@ -26,21 +27,35 @@ kind_said (WrittenNode.Copy kind number source path) = Some kind
 kind_said (WrittenNode.Folder replaces path entries) = None
 kind_said (WrittenNode.File replaces path entries text md5 sha1) = None
 
+-- the text that a file says that it has, with its digests
+abbrev pub text_said : WrittenNode → Option ToldText
+text_said (WrittenNode.Deletion path) = None
+text_said (WrittenNode.Copy kind number source path) = None
+text_said (WrittenNode.Folder replaces path entries) = None
+text_said (WrittenNode.File replaces path entries text md5 sha1) = Some record { text = text; md5 = md5; sha1 = sha1 }
+
 -- the node says that it copies a node of this kind, if there is one
 abbrev pub SaysKind : Option NodeKind → WrittenNode → Type 0
 SaysKind None w = ⊤
 SaysKind (Some kinds.Folder) w = kind_said w ≡ Some format.NodeKind.Dir
 SaysKind (Some kinds.File) w = kind_said w ≡ Some format.NodeKind.File
 
-module _ (blocks : List (List ℕ)) (listed : List Listed) (excluded : List NodePath) (number : ℕ) (path source : NodePath) where
-  -- the node writes what exists at this rest of the source in this form: no node writes a file
+module _ (blocks : List (List ℕ)) (texts : List ToldText) (listed : List Listed) (excluded : List NodePath) (number : ℕ)
+    (path source : NodePath) where
+  -- the node writes what exists at this rest of the source in this form: a directory or a file as it is there in the revision
+  -- of this number, with the digests that the record of the file's text has
   abbrev pub IsNodeOfForm : Form → NodePath → WrittenNode → Type 0
   IsNodeOfForm Copy rest w = (written_change w ≡ copy_of number (source ++ rest) (path ++ rest))
       × SaysKind (kind_in listed number (source ++ rest)) w
   IsNodeOfForm Directory rest w = (text : List ℕ) × (entries : List Property) × (names_of text ≡ source ++ rest)
       × (written_change w ≡ folder_of (path ++ rest) entries)
       × ArePropertiesAt blocks listed text (end_of (all_placed listed) number) entries
-  IsNodeOfForm File rest w = ⊥
+  IsNodeOfForm File rest w = (text : List ℕ) × (entries : List Property) × (its : ToldText)
+      × (names_of text ≡ source ++ rest)
+      × (written_change w ≡ file_of (path ++ rest) entries its.text)
+      × (text_said w ≡ Some its)
+      × ArePropertiesAt blocks listed text (end_of (all_placed listed) number) entries
+      × IsStoredAt texts listed text (end_of (all_placed listed) number) (TextStored.Whole its)
 
   abbrev pub IsNodeOf : PartMeant → WrittenNode → Type 0
   IsNodeOf part w = IsNodeOfForm part.form part.rest w
@@ -49,28 +64,39 @@ module _ (blocks : List (List ℕ)) (listed : List Listed) (excluded : List Node
   abbrev pub AreNodesOf : List PartMeant → List WrittenNode → Type 0
   AreNodesOf parts nodes = AllZip IsNodeOf parts nodes
 
-module _ (blocks : List (List ℕ)) (listed : List Listed) (excluded : List NodePath) where
-  -- the node makes a directory at the path of the change at this place, with the properties that are there after it; it
-  -- replaces what exists there before it, if something does
-  pub record IsRootOf (place : ℕ) (l : Listed) (w : WrittenNode) : Type 0 where
+module _ (blocks : List (List ℕ)) (texts : List ToldText) (listed : List Listed) (excluded : List NodePath) where
+  -- the node makes a directory or a file with these properties at the path of the change at this place, a file with the text
+  -- that is there after it; it replaces what exists there before it, if something does
+  abbrev pub MakesRoot : ℕ → Listed → List Property → Form → WrittenNode → Type 0
+  MakesRoot place l own Copy w = ⊥
+  MakesRoot place l own Directory w = (l.text ≡ Keeps)
+      × (written_change w
+      ≡ replacing (is_some (kind_look listed place (names_of l.path))) (folder_of (names_of l.path) own))
+  MakesRoot place l own File w = (its : ToldText)
+      × IsStoredAt texts listed l.path (suc place) (TextStored.Whole its)
+      × (text_said w ≡ Some its)
+      × (written_change w
+      ≡ replacing (is_some (kind_look listed place (names_of l.path))) (file_of (names_of l.path) own its.text))
+
+  -- so with the properties that are there after it
+  pub record IsRootOf (place : ℕ) (l : Listed) (form : Form) (w : WrittenNode) : Type 0 where
     pub own : List Property
     pub own_are : ArePropertiesAt blocks listed l.path (suc place) own
-    pub makes : written_change w
-        ≡ replacing (is_some (kind_look listed place (names_of l.path))) (folder_of (names_of l.path) own)
+    pub makes : MakesRoot place l own form w
 
-  -- the change at this place copies a directory, and these nodes write it, with what is in it
+  -- the change at this place copies a directory or a file, and these nodes write it, with what is in it
   pub record IsAddition (place : ℕ) (l : Listed) (g : GivenStead) : Type 0 where
     pub number : ℕ
     pub source : NodePath
     pub copies : l.made ≡ Some (Made.Copied number source)
-    pub no_text : l.text ≡ Keeps
+    pub form : Form
     pub parts : List PartMeant
     pub are_parts : ArePartsOf listed excluded number (names_of l.path) source []
-        (record { form = Directory; rest = [] } ∷ parts)
+        (record { form = form; rest = [] } ∷ parts)
     pub root : WrittenNode
-    pub is_root : IsRootOf place l root
+    pub is_root : IsRootOf place l form root
     pub nodes : List WrittenNode
-    pub are_nodes : AreNodesOf blocks listed excluded number (names_of l.path) source parts nodes
+    pub are_nodes : AreNodesOf blocks texts listed excluded number (names_of l.path) source parts nodes
     pub given : g ≡ record { number = l.record_number; nodes = root ∷ nodes; keeps = false }
 
   -- nothing comes back with what is made at the path

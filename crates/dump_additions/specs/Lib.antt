@@ -1,4 +1,5 @@
 pub mod AdditionLaws
 pub mod Additions
+pub mod FirstNotAdded
 pub mod Parts
 pub mod steps

@@ -1,5 +1,5 @@
 //! What is written in place of the copies with which something excluded comes back.
-ghost use Rattle.std.specs.Prelude.{◌≡◌, ◌<◌, ◌-◌, ◌++◌, List, IfOk, IsTrue, map, option_map, Some};
+ghost use Rattle.std.specs.Prelude.{◌≡◌, ◌<◌, ◌-◌, ◌++◌, ◌∷◌, [], List, IfOk, IsTrue, map, Some};
 ghost use Rattle.std.specs.List.{list_all};
 ghost use Rattle.dump_trees.specs.Paths.{NodePath, names_of};
 ghost use Rattle.dump_trees.specs.Siblings.{has_node_names};
@@ -9,17 +9,17 @@ ghost use Rattle.dump_index.specs.Listed.{listed_of};
 ghost use Rattle.dump_index.specs.declared.change.NodeMade.TheVariants.{CopyOf};
 ghost use Rattle.dump_cut.specs.NamedPaths.{has_named_paths};
 ghost use Rattle.dump_cut.specs.steps.ExcludedPaths.{paths_of};
-ghost use Rattle.dump_expansion.specs.steps.Given.{given_of};
 ghost use Rattle.dump_expansion.specs.steps.NewNodes.{written_of};
-ghost use Rattle.dump_additions.specs.Additions.{IsRootOf, SaysKind};
-ghost use Rattle.dump_additions.specs.Parts.{kind_in};
-ghost use Rattle.dump_additions.specs.steps.Nodes.{AreAdditions, IsAdditionIfSome};
-ghost use Rattle.dump_additions.specs.steps.Nodes.{AddsNodes, IsDirectoryNode, IsNodeIfSome, given_found};
+ghost use Rattle.dump_additions.specs.Additions.{SaysKind};
+ghost use Rattle.dump_additions.specs.Parts.{ArePartsOf, kind_in};
+ghost use Rattle.dump_additions.specs.declared.parts.Form.TheVariants as forms;
+ghost use Rattle.dump_additions.specs.steps.Nodes.{AddsNodes, AreAdditions, IsAdditionOr, IsDirectoryNode, IsNodeOrDelta, IsRootOr, IsRootText, IsSteadOr, given_found};
 ghost use Rattle.dump_additions.specs.steps.Parts.{part_meant};
 
+use crate::not_added::{NotAdded, Reason};
 use crate::parts::{Form, Part, parts_of};
-use dump_changes::{PropertyTable, properties_at};
-use dump_cut::{Excluded, Way, followed_rests, source_of};
+use dump_changes::{NodeText, PropertyTable, StoredText, TextTable, properties_at, text_at};
+use dump_cut::{Excluded, source_of};
 use dump_expansion::{NewNode, Stead};
 use dump_index::{ChangeIndex, NodeChange, NodeKind, Setting, Source, joined};
 use dump_rules::Memory;
@@ -75,109 +75,189 @@ fn directory_node<'a>(
     })
 }
 
-/// The node that writes a part of what is copied; none, if it is a file.
+/// The node that makes a file as it is in a part of the source, or the place of the change that stores its text as a delta.
+fn file_node<'a>(
+    alloc: Global,
+    table: &PropertyTable<'a>,
+    texts: &TextTable<'a>,
+    index: &ChangeIndex<'_>,
+    path: &[u8],
+    source: Source<'_>,
+    rest: &[u8],
+) -> Result<Result<NewNode<'a>, usize>, Memory>
+    requires path { IsTrue (has_node_names (names_of path.now)) }
+    requires source { IsTrue (has_node_names (names_of source.path.now)) }
+    requires rest { IsTrue (has_node_names (names_of rest.now)) }
+    ensures { (excluded : List NodePath) → IfOk result (IsNodeOrDelta table.now texts.now index.now excluded
+        source.entry.revision (names_of path.now) (names_of source.entry.path.now)
+        (record { form = forms.File; rest = names_of rest.now })) }
+{
+    let there = joined(alloc, source.path, rest)?;
+    let end = index.end_of(source.revision);
+    let text = match text_at(alloc, texts, index, &there, end)? {
+        StoredText::Whole(text) => text,
+        StoredText::Delta(place) => return Ok(Err(place)),
+    };
+    let entries = properties_at(alloc, table, index, &there, end)?;
+    Ok(Ok(NewNode::File {
+        replaces: false,
+        path: joined(alloc, path, rest)?,
+        entries,
+        text: text.text,
+        md5: text.md5,
+        sha1: text.sha1,
+    }))
+}
+
+/// The node that writes a part of what is copied, or the place of the change that stores its text as a delta.
 fn node_of<'a>(
     alloc: Global,
     table: &PropertyTable<'a>,
+    texts: &TextTable<'a>,
     index: &ChangeIndex<'_>,
     path: &[u8],
     source: Source<'_>,
     part: &Part,
-) -> Result<Option<NewNode<'a>>, Memory>
+) -> Result<Result<NewNode<'a>, usize>, Memory>
     requires path { IsTrue (has_node_names (names_of path.now)) }
     requires source { IsTrue (has_node_names (names_of source.path.now)) }
     requires part { IsTrue (has_node_names (names_of part.now.rest.items)) }
-    ensures { (excluded : List NodePath) → IfOk result (λ node. IsNodeIfSome table.now index.now excluded source.entry.revision
-        (names_of path.now) (names_of source.entry.path.now) (part_meant part.now) (option_map written_of node)) }
+    ensures { (excluded : List NodePath) → IfOk result (IsNodeOrDelta table.now texts.now index.now excluded
+        source.entry.revision (names_of path.now) (names_of source.entry.path.now) (part_meant part.now)) }
 {
     match part.form {
-        Form::Copy => Ok(Some(copy_node(alloc, index, path, source, &part.rest)?)),
-        Form::Directory => Ok(Some(directory_node(alloc, table, index, path, source, &part.rest)?)),
-        Form::File => Ok(None),
+        Form::Copy => Ok(Ok(copy_node(alloc, index, path, source, &part.rest)?)),
+        Form::Directory => Ok(Ok(directory_node(alloc, table, index, path, source, &part.rest)?)),
+        Form::File => file_node(alloc, table, texts, index, path, source, &part.rest),
     }
 }
 
-/// Adds the nodes that write these parts. Whether it did: no node writes a file.
+/// Adds the nodes that write these parts. If the text of one is stored as a delta, the place of the change that does so.
 fn push_nodes<'a>(
     alloc: Global,
     table: &PropertyTable<'a>,
+    texts: &TextTable<'a>,
     index: &ChangeIndex<'_>,
     path: &[u8],
     source: Source<'_>,
     parts: &[Part],
     nodes: &mut Vec<NewNode<'a>>,
-) -> Result<bool, Memory>
+) -> Result<Option<usize>, Memory>
     requires path { IsTrue (has_node_names (names_of path.now)) }
     requires source { IsTrue (has_node_names (names_of source.path.now)) }
     requires parts { IsTrue (list_all (λ part. has_node_names (names_of part.rest.items)) parts.now) }
-    ensures { (excluded : List NodePath) → IfOk result (λ added. AddsNodes table.now index.now excluded source.entry.revision
+    ensures { (excluded : List NodePath) → IfOk result (AddsNodes table.now texts.now index.now excluded source.entry.revision
         (names_of path.now) (names_of source.entry.path.now) (map part_meant parts.now) (map written_of nodes.old.items)
-        (map written_of nodes.new.items) added) }
+        (map written_of nodes.new.items)) }
 {
     for part in parts {
-        let Some(node) = node_of(alloc, table, index, path, source, part)? else {
-            return Ok(false);
-        };
-        nodes.push(node)?;
+        match node_of(alloc, table, texts, index, path, source, part)? {
+            Ok(node) => nodes.push(node)?,
+            Err(place) => return Ok(Some(place)),
+        }
     }
-    Ok(true)
+    Ok(None)
 }
 
-/// The node that makes the directory which this change copies, the last of so many, with the properties that it has after the
-/// copy.
+/// The text that is at the path of this change after it, the last of so many, if it copies a file; none, if it copies a
+/// directory. Or why it can't be written.
+fn root_text<'a>(
+    alloc: Global,
+    texts: &TextTable<'a>,
+    index: &ChangeIndex<'_>,
+    count: usize,
+    change: &NodeChange<'_>,
+    form: Form,
+) -> Result<Result<Option<NodeText<'a>>, Reason>, Memory>
+    requires named { IsTrue (has_named_paths (listed_of change.now)) }
+    requires count { 0 < count }
+    requires form { form ≡ forms.Copy → ⊥ }
+    ensures { IfOk result (IsRootText texts.now index.now (count - 1) (listed_of change.now) form) }
+{
+    if let Form::File = form {
+        return match text_at(alloc, texts, index, change.path, count)? {
+            StoredText::Whole(text) => Ok(Ok(Some(text))),
+            StoredText::Delta(place) => Ok(Err(Reason::Delta(place))),
+        };
+    }
+    match change.text {
+        Setting::Keeps => Ok(Ok(None)),
+        _ => Ok(Err(Reason::NoLoad)),
+    }
+}
+
+/// The node that makes the directory or the file which this change copies, the last of so many, as it is after the copy. Or
+/// why none does.
 fn root_node<'a>(
     alloc: Global,
     table: &PropertyTable<'a>,
+    texts: &TextTable<'a>,
     index: &ChangeIndex<'_>,
     count: usize,
     change: &NodeChange<'_>,
-) -> Result<NewNode<'a>, Memory>
+    form: Form,
+) -> Result<Result<NewNode<'a>, Reason>, Memory>
     requires named { IsTrue (has_named_paths (listed_of change.now)) }
     requires count { 0 < count }
-    ensures { (excluded : List NodePath) → IfOk result (λ node. IsRootOf table.now index.now excluded (count - 1)
-        (listed_of change.now) (written_of node)) }
+    requires form { form ≡ forms.Copy → ⊥ }
+    ensures { (excluded : List NodePath) → IfOk result (IsRootOr table.now texts.now index.now excluded (count - 1)
+        (listed_of change.now) form) }
 {
-    let here = index.kind_at(alloc, change.path, count - 1)?;
+    let text = match root_text(alloc, texts, index, count, change, form)? {
+        Ok(text) => text,
+        Err(reason) => return Ok(Err(reason)),
+    };
+    let replaces = index.kind_at(alloc, change.path, count - 1)?.is_some();
     let entries = properties_at(alloc, table, index, change.path, count)?;
-    Ok(NewNode::Folder {
-        replaces: here.is_some(),
-        path: Vec::from_slice(alloc, change.path)?,
-        entries,
-    })
+    let path = Vec::from_slice(alloc, change.path)?;
+    match text {
+        Some(own) => Ok(Ok(NewNode::File {
+            replaces,
+            path,
+            entries,
+            text: own.text,
+            md5: own.md5,
+            sha1: own.sha1,
+        })),
+        None => Ok(Ok(NewNode::Folder {
+            replaces,
+            path,
+            entries,
+        })),
+    }
 }
 
-/// What is written in place of this change, the last of so many, which copies a directory; none, if it is a copy of a file, or
-/// a file in it has to be written, or a node can't be written.
-fn addition_of<'a>(
+/// What is written in place of this change, the last of so many, which copies something in this form. These are the parts in
+/// it. Or why nothing can be written.
+fn stead_of<'a>(
     alloc: Global,
     table: &PropertyTable<'a>,
+    texts: &TextTable<'a>,
     index: &ChangeIndex<'_>,
-    excluded: &Excluded,
     count: usize,
     change: &NodeChange<'_>,
     source: Source<'_>,
-) -> Result<Option<Stead<'a>>, Memory>
-    requires index { IsTrue (list_all has_named_paths index.now) }
+    form: Form,
+    inside: &[Part],
+) -> Result<Result<Stead<'a>, Reason>, Memory>
     requires named { IsTrue (has_named_paths (listed_of change.now)) }
     requires count { 0 < count }
     requires copies { change.now.made ≡ Some (CopyOf source) }
-    ensures { IfOk result (λ stead. IsAdditionIfSome table.now index.now (paths_of excluded.now) (count - 1) (listed_of change.now)
-        (option_map given_of stead)) }
+    requires parts { IsTrue (list_all (λ part. has_node_names (names_of part.rest.items)) inside.now) }
+    requires form { form ≡ forms.Copy → ⊥ }
+    ensures { (excluded : List NodePath) →
+        ArePartsOf index.now excluded source.entry.revision (names_of change.now.path.now) (names_of source.entry.path.now) []
+        (record { form = form; rest = [] } ∷ map part_meant inside.now)
+        → IfOk result (IsSteadOr table.now texts.now index.now excluded (count - 1) (listed_of change.now)) }
 {
-    let parts = parts_of(alloc, index, excluded, change.path, source)?;
-    let [top, inside @ ..] = parts.as_slice() else {
-        return Ok(None);
-    };
-    let Form::Directory = top.form else {
-        return Ok(None);
-    };
-    let Setting::Keeps = change.text else {
-        return Ok(None);
-    };
     let mut nodes = Vec::new(alloc);
-    nodes.push(root_node(alloc, table, index, count, change)?)?;
-    if !push_nodes(alloc, table, index, change.path, source, inside, &mut nodes)? {
-        return Ok(None);
+    match root_node(alloc, table, texts, index, count, change, form)? {
+        Ok(root) => nodes.push(root)?,
+        Err(reason) => return Ok(Err(reason)),
+    }
+    let path = change.path;
+    if let Some(place) = push_nodes(alloc, table, texts, index, path, source, inside, &mut nodes)? {
+        return Ok(Err(Reason::Delta(place)));
     }
     let stead = Stead {
         record_number: change.record_number,
@@ -185,35 +265,72 @@ fn addition_of<'a>(
         keeps: false,
     };
     if !stead.can_be_written() {
-        return Ok(None);
+        return Ok(Err(Reason::NotWritable));
     }
-    Ok(Some(stead))
+    Ok(Ok(stead))
 }
 
-/// What is written in place of each copy with which something excluded comes back: the directory that it makes, with the
-/// directories in it that come back, and copies of all else. An error is the place of a copy with which a file comes back,
-/// or a node that can't be written.
+/// What is written in place of this change, the last of so many, which is a copy; none, if nothing excluded comes back with
+/// it. Or why nothing can be written.
+fn addition_of<'a>(
+    alloc: Global,
+    table: &PropertyTable<'a>,
+    texts: &TextTable<'a>,
+    index: &ChangeIndex<'_>,
+    excluded: &Excluded,
+    count: usize,
+    change: &NodeChange<'_>,
+    source: Source<'_>,
+) -> Result<Result<Option<Stead<'a>>, Reason>, Memory>
+    requires index { IsTrue (list_all has_named_paths index.now) }
+    requires named { IsTrue (has_named_paths (listed_of change.now)) }
+    requires count { 0 < count }
+    requires copies { change.now.made ≡ Some (CopyOf source) }
+    ensures { IfOk result (IsAdditionOr table.now texts.now index.now (paths_of excluded.now) (count - 1) (listed_of change.now)) }
+{
+    let parts = parts_of(alloc, index, excluded, change.path, source)?;
+    let [top, inside @ ..] = parts.as_slice() else {
+        return Ok(Err(Reason::NoLoad));
+    };
+    let form = top.form;
+    if let Form::Copy = form {
+        return Ok(Ok(None));
+    }
+    match stead_of(
+        alloc, table, texts, index, count, change, source, form, inside,
+    )? {
+        Ok(stead) => Ok(Ok(Some(stead))),
+        Err(reason) => Ok(Err(reason)),
+    }
+}
+
+/// What is written in place of each copy with which something excluded comes back: the directory or the file that it makes,
+/// with the directories and files in it that come back, and copies of all else. An error is the first such copy in whose
+/// place nothing can be written, with the reason. Both tables and the index have to be of one dump.
 pub fn additions<'a>(
     alloc: Global,
     table: &PropertyTable<'a>,
+    texts: &TextTable<'a>,
     index: &ChangeIndex<'_>,
     excluded: &Excluded,
-) -> Result<Result<Vec<Stead<'a>>, usize>, Memory>
+) -> Result<Result<Vec<Stead<'a>>, NotAdded>, Memory>
     requires { IsTrue (list_all has_named_paths index.now) }
-    ensures { IfOk result (λ found. AreAdditions table.now index.now (paths_of excluded.now) (given_found found)) }
+    ensures { IfOk result (λ found. AreAdditions table.now texts.now index.now (paths_of excluded.now) (given_found found)) }
 {
     let mut steads = Vec::new(alloc);
     for (place, change) in index.changes().iter().enumerate() {
         let Some(source) = source_of(change) else {
             continue;
         };
-        let brought = followed_rests(alloc, index, excluded, Way::ToCopies, change.path, source)?;
-        if brought.is_empty() {
+        let count = place + 1;
+        let found = match addition_of(
+            alloc, table, texts, index, excluded, count, change, source,
+        )? {
+            Ok(found) => found,
+            Err(reason) => return Ok(Err(NotAdded { place, reason })),
+        };
+        let Some(stead) = found else {
             continue;
-        }
-        let Some(stead) = addition_of(alloc, table, index, excluded, place + 1, change, source)?
-        else {
-            return Ok(Err(place));
         };
         steads.push(stead)?;
     }

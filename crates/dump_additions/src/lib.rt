@@ -16,23 +16,27 @@
 //!
 //! ```
 //! let table = PropertyTable::of(alloc, &dump)?;
-//! let Ok(steads) = additions(alloc, &table, &index, &excluded)? else {
+//! let texts = TextTable::of(alloc, &dump)?;
+//! let Ok(steads) = additions(alloc, &table, &texts, &index, &excluded)? else {
 //!     return Ok(false);
 //! };
 //! // ..
 //! let text = expanded(alloc, &dump, &steads)?;
 //! ```
 //!
-//! `tests::expands` runs this. No file is written yet: a copy with which a file comes back is an error. [`laws`] says that the
-//! new dump loads to the same trees.
+//! `tests::expands` runs this. A file is written with its whole text, which is lent from the dump. If the dump has only a delta
+//! of it, nothing can be written in place of the copy; [`NotAdded`] says which copy that is, and why. [`laws`] says that the new
+//! dump loads to the same trees.
 #![tactic(auto)]
 
 mod addition;
 pub mod laws;
+mod not_added;
 mod parts;
 
 pub use addition::additions;
 pub use dump_rules::Memory;
+pub use not_added::{NotAdded, Reason};
 pub use parts::{Form, Part, parts_of};
 
 #[cfg(test)]

@@ -1,25 +1,22 @@
 -- The changes that are read of a dump have paths with names of nodes.
-use Rattle.std.proofs.Common.{◌≡◌, ℕ, suc, Bool, true, false, not, ◌&&◌, cond, List, [], ◌∷◌, map, Some, None, codes, refl, sym, ap, ◌∙◌, subst, Option, ap₂}
+use Rattle.std.proofs.Common.{◌≡◌, ℕ, Bool, true, false, not, ◌&&◌, cond, List, [], ◌∷◌, map, Some, None, codes, refl, sym, ap, ◌∙◌, subst, Option, ap₂}
 use Rattle.std.proofs.lemmas.Bool.{and_parts, and_from}
-use Rattle.std.proofs.lemmas.List.Folds.{list_all-append}
 use Rattle.std.specs.List.{AllZip, list_all}
 use Rattle.dump_text.specs.HeaderLine.{has_byte}
 use Rattle.dump_text.specs.PropertyList.{Property}
 use Rattle.dump_text.specs.Names.{node_kind_name}
 use Rattle.dump_records.specs.RecordText.{DumpRecord}
 use Rattle.dump_digest.specs.RecordParts.{is_copy, node_path}
-use Rattle.dump_filter.specs.Groups.{Group, groups}
 use Rattle.dump_trees.specs.Changes.{Made, Change}
-use Rattle.dump_trees.specs.Looking.{Placed, placed_from}
+use Rattle.dump_trees.specs.Looking.{Placed}
 use Rattle.dump_trees.specs.Paths.{is_short, names_of}
 use Rattle.dump_trees.specs.Siblings.{has_node_names}
 use Rattle.dump_trees.proofs.paths.SiblingLemmas.{short_names}
-use Rattle.dump_history.specs.DumpChanges.{MakeChanges}
 use Rattle.dump_history.specs.RecordChanges.{Patching, MakesChange, copied_from, copy_path, has_known_action, has_odd_delta, is_plain_line, made_by_kind, made_of, makes, says, property_change_of, text_change_of, deletes}
 use Rattle.dump_index.specs.IndexLaws.{IsListed}
 use Rattle.dump_index.specs.Listed.{Listed, listed_of}
 use Rattle.dump_index.specs.declared.change.NodeChange.{NodeChange}
-use Rattle.dump_changes.specs.ListedDumps.{AreListedIn, MakesListed, NodesMake, NoRecord, RevisionRecord, NodeRecord, OtherRecord, without_number}
+use Rattle.dump_changes.specs.ListedDumps.{AreListedIn, NodesMake, NoRecord, RevisionRecord, NodeRecord, OtherRecord, without_number}
 use Rattle.dump_cut.specs.NamedPaths.{has_named_paths, has_named_source}
 
 -- the same of a change of the repository
@@ -68,42 +65,6 @@ module _ (patched : Patching) where
           subst (λ d. is_named d ≡ true) one named
       told false same named = absurd (let bad : None ≡ Some c = same in cc)
 
-  nodes_named : (nodes : List DumpRecord) (changes : List Change) → AllZip (MakesChange patched) nodes changes
-      → list_all is_named changes ≡ true
-  nodes_named [] [] make = refl
-  nodes_named [] (c ∷ changes) make = absurd make
-  nodes_named (r ∷ nodes) [] make = absurd make
-  nodes_named (r ∷ nodes) (c ∷ changes) make =
-      and_from (is_named c) (list_all is_named changes) (node_named r c make.0) (nodes_named nodes changes make.1)
-
-  groups_named : (gs : List Group) (revisions : List (List Change)) → AllZip (MakeChanges patched) gs revisions
-      → list_all (list_all is_named) revisions ≡ true
-  groups_named [] [] make = refl
-  groups_named [] (changes ∷ revisions) make = absurd make
-  groups_named (g ∷ gs) [] make = absurd make
-  groups_named (g ∷ gs) (changes ∷ revisions) make =
-      and_from (list_all is_named changes) (list_all (list_all is_named) revisions) (nodes_named g.nodes changes make.0)
-      (groups_named gs revisions make.1)
-
--- one behind the other
-
-own_placed : (number : ℕ) (changes : List Change) → list_all is_named changes ≡ true
-    → list_all (λ (p : Placed). is_named p.change) (map (λ (c : Change). record { revision = number; change = c }) changes) ≡ true
-own_placed number [] named = refl
-own_placed number (c ∷ changes) named =
-    let parts = and_parts (is_named c) (list_all is_named changes) named in
-    and_from (is_named c) _ parts.0 (own_placed number changes parts.1)
-
-all_placed_named : (number : ℕ) (revisions : List (List Change)) → list_all (list_all is_named) revisions ≡ true
-    → list_all (λ (p : Placed). is_named p.change) (placed_from number revisions) ≡ true
-all_placed_named number [] named = refl
-all_placed_named number (changes ∷ revisions) named =
-    let parts = and_parts (list_all is_named changes) (list_all (list_all is_named) revisions) named in
-    let own = map (λ (c : Change). record { revision = number; change = c }) changes in
-    list_all-append (λ (p : Placed). is_named p.change) own (placed_from (suc number) revisions)
-    ∙ and_from (list_all (λ (p : Placed). is_named p.change) own) (list_all (λ (p : Placed). is_named p.change) (placed_from (suc number) revisions))
-    (own_placed number changes parts.0) (all_placed_named (suc number) revisions parts.1)
-
 listed_named : (listed : List Listed) (placed : List Placed) → AllZip IsListed listed placed
     → list_all (λ (p : Placed). is_named p.change) placed ≡ true → list_all has_named_paths listed ≡ true
 listed_named [] [] all named = refl
@@ -117,17 +78,7 @@ listed_named (l ∷ listed) (p ∷ placed) all named =
     (ap has_node_names (sym all.0.path) ∙ own.0) (ap has_named_source (sym all.0.made) ∙ own.1))
     (listed_named listed placed all.1 parts.1)
 
--- so what is read of a dump has such paths
-pub read_named : (dump : List ℕ) (changes : List NodeChange) → MakesListed dump changes
-    → list_all has_named_paths (map listed_of changes) ≡ true
-read_named dump changes (records, whole, make) =
-    let patched : Patching = λ delta old. None in
-    let its = make patched in
-    let named = groups_named patched (groups records) ([] ∷ its.0) its.1.changes in
-    listed_named (map listed_of changes) (placed_from 1 its.0) its.2
-    (all_placed_named 1 its.0 (and_parts true (list_all (list_all is_named) its.0) named).1)
-
--- and so has each front of it
+-- the changes that nodes make have paths with names of nodes
 nodes_make_named : (patched : Patching) (present : Option ℕ) (records : List DumpRecord) (placed : List Placed)
     → NodesMake patched present records placed → list_all (λ (p : Placed). is_named p.change) placed ≡ true
 nodes_make_named patched present _ _ (NoRecord _) = refl

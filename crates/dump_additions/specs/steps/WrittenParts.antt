@@ -9,7 +9,6 @@ use Rattle.dump_trees.specs.Paths.{NodePath}
 use Rattle.dump_trees.specs.Trees.{Node, Tree}
 use Rattle.dump_trees.specs.WritingOut.{WritesOut, copy_of, file_of, folder_of}
 use Rattle.dump_filter.specs.FilterLaws.{keep_all}
-use Rattle.dump_index.specs.IndexLaws.{listed_text}
 use Rattle.dump_additions.specs.declared.parts.Form.{Form}
 use Rattle.dump_additions.specs.declared.parts.Form.TheVariants.{Copy, Directory, File}
 use Rattle.dump_additions.specs.Parts.{PartMeant}
@@ -27,7 +26,7 @@ module _ (old : Tree) (number : ℕ) (path source : NodePath) where
       (entries : List Property) × (c ≡ folder_of (path ++ rest) entries) × AreEntriesAt rest entries
   IsChangeOfForm File rest c = (entries : List Property) × (text : List ℕ) × (c ≡ file_of (path ++ rest) entries text)
       × AreEntriesAt rest entries
-      × ((node : Node) → old (source ++ rest) ≡ Some node → text ≡ listed_text node)
+      × ((props : List Property) (its : List ℕ) → old (source ++ rest) ≡ Some (Node.File props its) → its ≡ text)
 
   abbrev pub IsChangeFor : PartMeant → Change → Type 0
   IsChangeFor part c = IsChangeOfForm part.form part.rest c

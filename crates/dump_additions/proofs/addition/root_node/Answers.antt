@@ -1,12 +1,17 @@
-use Rattle.std.proofs.Common.{◌≡◌, ◌-◌, suc, is_some, map, arith, ap, ap₂, ◌∙◌, subst}
+use Rattle.std.proofs.Common.{◌≡◌, ◌-◌, suc, is_some, map, arith, refl, ap, ap₂, ◌∙◌, sym, subst}
+use Rattle.std.specs.Prelude.{Ok, option_copied}
 use Rattle.std.proofs.lemmas.Bool.{and_parts}
 use Rattle.dump_trees.specs.Paths.{names_of}
 use Rattle.dump_trees.specs.Siblings.{has_node_names}
-use Rattle.dump_trees.specs.WritingOut.{folder_of}
-use Rattle.dump_history.specs.WrittenNodes.{replacing}
+use Rattle.dump_trees.specs.WritingOut.{file_of, folder_of}
+use Rattle.dump_history.specs.WrittenNodes.{WrittenNode, replacing}
 use Rattle.dump_changes.specs.NodeProperties.{ArePropertiesAt}
 use Rattle.dump_changes.specs.steps.ChangedProperties.{as_property}
+use Rattle.dump_changes.specs.steps.StoredTexts.{told_of}
 use Rattle.dump_cut.proofs.ParentLemmas.{ends_named}
+use Rattle.dump_index.specs.Listed.{listed_of}
+use Rattle.dump_additions.specs.Additions.{MakesRoot}
+use Rattle.dump_additions.specs.steps.Nodes.{IsRootText}
 use Rattle.dump_additions.proofs.NodeLemmas.{named_bare}
 use Rattle.dump_additions.proofs.addition.root_node.Goals as goal
 
@@ -16,18 +21,58 @@ kind_at-requires c = ends_named c.args.change.now.path.now (and_parts (has_node_
 pub properties_at-requires : goal.properties_at-requires
 properties_at-requires c = ends_named c.args.change.now.path.now (and_parts (has_node_names (names_of c.args.change.now.path.now)) _ c.requires.named).0
 
-pub returns : goal.returns
-returns c = λ excluded. record {
-  own = map as_property c.in_ok-entries.entries.items;
-  own_are =
-      subst (λ n. ArePropertiesAt c.args.table.now c.args.index.now c.args.change.now.path.now n (map as_property c.in_ok-entries.entries.items))
-      (let some = c.requires.count in let same : c.args.count ≡ suc (c.args.count - 1) = omega (arith, some) in same)
-      c.in_ok-entries.ensures.node;
-  makes =
-      ap₂ (λ b p. replacing b (folder_of p (map as_property c.in_ok-entries.entries.items)))
-      (c.is_some.ensures ∙ ap is_some c.in_ok-here.ensures)
-      (named_bare c.in_ok-from_slice.field-0.items
-      (ap (λ t. has_node_names (names_of t)) c.in_ok-from_slice.ensures.items
-      ∙ (and_parts (has_node_names (names_of c.args.change.now.path.now)) _ c.requires.named).0)
-      ∙ ap names_of c.in_ok-from_slice.ensures.items);
-}
+pub returns-in-Some : goal.returns-in-Some
+returns-in-Some c = λ excluded.
+    let its = subst (λ o. IsRootText c.args.texts.now c.args.index.now (c.args.count - 1) (listed_of c.args.change.now) c.args.form (Ok o))
+    c.in-Some.is
+    (subst (IsRootText c.args.texts.now c.args.index.now (c.args.count - 1) (listed_of c.args.change.now) c.args.form)
+    c.in-Ok.is c.in_ok-text.ensures) in
+    record {
+      own = map as_property c.in_ok-entries.entries.items;
+      own_are =
+          subst (λ n. ArePropertiesAt c.args.table.now c.args.index.now c.args.change.now.path.now n (map as_property c.in_ok-entries.entries.items))
+          (let some = c.requires.count in let same : c.args.count ≡ suc (c.args.count - 1) = omega (arith, some) in same)
+          c.in_ok-entries.ensures.node;
+      makes =
+          subst (λ f. MakesRoot c.args.table.now c.args.texts.now c.args.index.now excluded (c.args.count - 1)
+          (listed_of c.args.change.now) (map as_property c.in_ok-entries.entries.items) f
+          (WrittenNode.File c.is_some-replaces.result c.in_ok-path.path.items (map as_property c.in_ok-entries.entries.items)
+          c.in-Some.own.text.now (option_copied c.in-Some.own.md5) (option_copied c.in-Some.own.sha1))) (sym its.0) (
+            told_of c.in-Some.own,
+            its.1,
+            refl,
+            ap₂ (λ b p. replacing b (file_of p (map as_property c.in_ok-entries.entries.items) c.in-Some.own.text.now))
+                (c.is_some-replaces.ensures ∙ ap is_some c.in_ok-kind_at.ensures)
+                (named_bare c.in_ok-path.path.items
+                (ap (λ t. has_node_names (names_of t)) c.in_ok-path.ensures.items
+                ∙ (and_parts (has_node_names (names_of c.args.change.now.path.now)) _ c.requires.named).0)
+                ∙ ap names_of c.in_ok-path.ensures.items),
+          );
+    }
+
+pub returns-in-None : goal.returns-in-None
+returns-in-None c = λ excluded.
+    let its = subst (λ o. IsRootText c.args.texts.now c.args.index.now (c.args.count - 1) (listed_of c.args.change.now) c.args.form (Ok o))
+    c.in-None.is
+    (subst (IsRootText c.args.texts.now c.args.index.now (c.args.count - 1) (listed_of c.args.change.now) c.args.form)
+    c.in-Ok.is c.in_ok-text.ensures) in
+    record {
+      own = map as_property c.in_ok-entries.entries.items;
+      own_are =
+          subst (λ n. ArePropertiesAt c.args.table.now c.args.index.now c.args.change.now.path.now n (map as_property c.in_ok-entries.entries.items))
+          (let some = c.requires.count in let same : c.args.count ≡ suc (c.args.count - 1) = omega (arith, some) in same)
+          c.in_ok-entries.ensures.node;
+      makes =
+          subst (λ f. MakesRoot c.args.table.now c.args.texts.now c.args.index.now excluded (c.args.count - 1)
+          (listed_of c.args.change.now) (map as_property c.in_ok-entries.entries.items) f
+          (WrittenNode.Folder c.is_some-replaces.result c.in_ok-path.path.items (map as_property c.in_ok-entries.entries.items)))
+          (sym its.0) (
+            its.1,
+            ap₂ (λ b p. replacing b (folder_of p (map as_property c.in_ok-entries.entries.items)))
+                (c.is_some-replaces.ensures ∙ ap is_some c.in_ok-kind_at.ensures)
+                (named_bare c.in_ok-path.path.items
+                (ap (λ t. has_node_names (names_of t)) c.in_ok-path.ensures.items
+                ∙ (and_parts (has_node_names (names_of c.args.change.now.path.now)) _ c.requires.named).0)
+                ∙ ap names_of c.in_ok-path.ensures.items),
+          );
+    }
