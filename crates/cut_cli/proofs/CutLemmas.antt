@@ -1,12 +1,14 @@
 -- What the filter writes of a dump that is ready is its cut.
 use Rattle.std.proofs.Common.{ap, ◌≡◌, ◌||◌, ℕ, Bool, true, false, IfSome, MatchBool, List, [], ◌∷◌, Contains, length, map, Option, Some, None, Result, Ok, is_none, is_some, refl, sym, inl, inr, ◌∙◌, subst}
-use Rattle.std.proofs.lemmas.Bool.{or_cases, or_right}
+use Rattle.std.proofs.lemmas.Bool.{and_from, or_cases, or_right}
 use Rattle.std.proofs.KnownBytes.{Keeps-refl}
 use Rattle.std.specs.Io.KnownBytes.{Keeps}
-use Rattle.std.specs.List.{AllZip, list_all}
+use Rattle.std.specs.List.{AllZip, list_all, list_any}
+use Rattle.dump_text.specs.PropertyList.{Property}
 use Rattle.dump_records.specs.DumpText.{Ending, HasRecords}
 use Rattle.dump_records.specs.RecordText.{DumpRecord}
 use Rattle.dump_records.proofs.ListLaw.{each_dump_has_one_list}
+use Rattle.dump_digest.specs.RecordParts.{is_revision_record}
 use Rattle.dump_rules.specs.Settings.{Settings}
 use Rattle.dump_rules.specs.declared.options.Empty.TheVariants.{Pad}
 use Rattle.dump_rules.specs.declared.options.Side.{Side}
@@ -14,7 +16,7 @@ use Rattle.dump_rules.specs.declared.options.Side.TheVariants.{Exclude, Include}
 use Rattle.dump_filter.specs.FilterLaws.{LengthsFit}
 use Rattle.dump_filter.specs.WholeText.{IsCleanText}
 use Rattle.dump_trees.specs.Changes.{Change}
-use Rattle.dump_trees.specs.FollowedRests.{all_rests}
+use Rattle.dump_trees.specs.ComingBack.{NothingComesBack}
 use Rattle.dump_trees.specs.Following.{Way}
 use Rattle.dump_trees.specs.LoadCheck.{all_apply, TellsKinds, ToldKinds}
 use Rattle.dump_trees.specs.Looking.{Placed, placed_from}
@@ -29,9 +31,10 @@ use Rattle.dump_trees.proofs.paths.CutLineLemmas.{named_line_stays}
 use Rattle.dump_trees.specs.Trees.{Tree, root_alone}
 use Rattle.dump_trees.proofs.cuts.FollowLemmas.{following_is_least}
 use Rattle.dump_trees.proofs.cuts.RestLemmas.{all_rests_are_listed, no_returns_bring_nothing}
-use Rattle.dump_filter.specs.Groups.{is_pad}
+use Rattle.dump_filter.specs.Groups.{is_pad, revision_numbers}
 use Rattle.dump_history.specs.CutDumps.{FiltersExpansion, LoadsNew, LoadsNumbered, TreeRestricts, leaves_no_gap}
-use Rattle.dump_history.specs.DumpChanges.{LoadsAs, MakeRevisions}
+use Rattle.dump_history.specs.DumpChanges.{HaveRevisionProperties, LoadsAs, MakeRevisions, counts_from}
+use Rattle.dump_history.specs.ExpandedText.{made_in_stead}
 use Rattle.dump_history.specs.KeptChanges.{ChangesComeOfKept}
 use Rattle.dump_history.specs.TrimmedDumps.{FiltersRenumbered, FiltersTrimmed}
 use Rattle.dump_history.proofs.cuts.CutLaws.{excluded_dump_loads}
@@ -39,28 +42,36 @@ use Rattle.dump_history.proofs.cuts.KeptChanges.{filtered_changes_are_kept, renu
 use Rattle.dump_history.proofs.cuts.RenumberedLaw.{trimmed_dump_loads_renumbered}
 use Rattle.dump_history.proofs.cuts.TrimmedLaw.{trimmed_dump_loads}
 use Rattle.dump_history.specs.RecordChanges.{Patching}
-use Rattle.dump_index.specs.IndexLaws.{AreListed, IsListed}
-use Rattle.dump_index.specs.Listed.{listed_of}
+use Rattle.dump_index.specs.IndexLaws.{AreListed}
+use Rattle.dump_index.specs.Listed.{Listed, listed_of}
 use Rattle.dump_index.specs.ToldKinds.{kinds_told_by}
 use Rattle.dump_index.specs.declared.change.NodeChange.{NodeChange}
 use Rattle.dump_index.proofs.ToldLemmas.{index_tells_kinds}
-use Rattle.dump_changes.specs.ListedDumps.{MakesListed, are_numbered}
-use Rattle.dump_cut.specs.FoundSiblings.{AreFoundSiblings}
+use Rattle.dump_changes.specs.ListedDumps.{AreListedIn, are_numbered}
+use Rattle.dump_changes.specs.FileTexts.{record_texts}
+use Rattle.dump_changes.specs.NodeProperties.{HaveNodeNumbers, property_blocks}
+use Rattle.dump_changes.proofs.PropertyLemmas.{has_revision, nodes_are}
+use Rattle.dump_changes.proofs.ReadLemmas.{numbered_makes}
 use Rattle.dump_cut.specs.NamedLines.{CoverMergeinfo, is_left_by}
 use Rattle.dump_cut.proofs.FoundSiblings.{found_siblings_are_all}
 use Rattle.dump_cut.specs.LoadChecks.{IsFirstRefused}
 use Rattle.dump_cut.specs.NamedPaths.{has_named_paths}
 use Rattle.dump_cut.specs.TakenCopies.{IsFirstNotTaken, emptied_by}
-use Rattle.dump_cut.specs.TrimmedCopies.{AreDeletes, IsTrimmedBy, TrimsDump}
+use Rattle.dump_cut.specs.TrimmedCopies.{IsTrimmedBy, TrimsDump}
 use Rattle.dump_cut.proofs.LoadLaws.{unrefused_loads}
-use Rattle.dump_cut.proofs.NamedLemmas.{read_named}
+use Rattle.dump_cut.proofs.NamedLemmas.{listed_in_named}
 use Rattle.dump_cut.proofs.OwnFormLemmas.{own_expansion}
 use Rattle.dump_cut.proofs.TakenLaw.{placed_named, revisions_named, taken_dump_loads}
 use Rattle.dump_cut.proofs.TakenLemmas.{taken_revisions_separate}
 use Rattle.dump_cut.proofs.TrimLaw.{trimmed_copies_load}
-use Rattle.cut_cli.specs.Cuts.{AreChangesOf, AreCopiesTaken, CutLoads, FiltersOrTrims, FollowsAsAsked, IsAskedBy, IsClosureOf, IsCutAsAsked, IsCutText, IsReadyFor, IsTrimmedIf, MergeinfoStaysByCut}
-use Rattle.cut_cli.specs.Drive.{CleanTextsAreCuts, CutsDump, CutsInput, WritesBoth, WritesIfAsked}
+use Rattle.dump_expansion.specs.GivenSteads.{GivenStead, IsExpandedBy, steads_in}
+use Rattle.dump_additions.specs.AdditionLaws.{HasAdditions}
+use Rattle.dump_additions.specs.Additions.{AreAdditionsFrom}
+use Rattle.dump_additions.proofs.AdditionLaw.{additions_load}
+use Rattle.cut_cli.specs.Cuts.{AreChangesOf, AreCopiesTaken, AreKnownAs, AreListedButNumbers, BringsNothingBack, CutLoads, ExcludesAsAsked, FiltersOrTrims, FollowsAsAsked, IsAskedBy, IsClosureOf, IsCutAsAsked, IsCutText, IsObstacleTo, IsReadFor, IsReadyFor, IsSetUp, IsTrimmedIf, LeadsNowhere, MergeinfoStaysByCut, text_read, writes_additions}
+use Rattle.cut_cli.specs.Drive.{CleanTextsAreCuts, CutsDump, CutsInput, WritesBoth, WritesIfAsked, obstacle_status}
 use Rattle.cut_cli.specs.Words.{CutMeaning, asked_map}
+use Rattle.cut_cli.specs.declared.examine.Obstacle.{Obstacle}
 use Rattle.cut_cli.specs.steps.Examined.{AreDeletesIfAny}
 
 -- a dump has one list of records
@@ -77,6 +88,19 @@ some_value None is = absurd (let bad : false ≡ true = is in cc)
 -- paths to delete behind each kept node
 abbrev pub Deletes : Type 0
 Deletes = List (List (List ℕ))
+
+-- changes are listed as they are, where revisions are numbered
+known_numbered : (records : List DumpRecord) (changes : List NodeChange) (listed : List Listed)
+    → are_numbered records ≡ true → AreKnownAs records changes listed → map listed_of changes ≡ listed
+known_numbered records changes listed numbered known =
+    subst (λ b. MatchBool b (map listed_of changes ≡ listed) (AreListedButNumbers changes listed)) numbered known
+
+-- so are those of records that make revisions
+read_numbered : (patched : Patching) (records : List DumpRecord) (revisions : List (List Change))
+    → MakeRevisions patched records revisions → are_numbered records ≡ true
+read_numbered patched records revisions makes =
+    and_from (list_any is_revision_record records) (counts_from 0 (revision_numbers records))
+    (has_revision patched records revisions makes) makes.numbered
 
 -- deletes that are found say this of the copies
 pub found_copies : (excluded : List NodePath) (told : ToldKinds) (placed : List Placed)
@@ -116,9 +140,10 @@ lines_by_cut settings included siblings dump records whole excludes each cover r
           | inr more ↦ absurd (contains_none path more)
         ]
 
--- what is written of a dump that loads
+-- what is written of a dump that loads, without what is excluded
 record Written (m : CutMeaning) (dump : List ℕ) (settings : Settings) (records : List DumpRecord) (deletes : Option Deletes)
     (patched : Patching) (revisions : List (List Change)) (trees : List Tree) (text : List ℕ) : Type 0 where
+  nothing_back : NothingComesBack settings trees revisions
   filters : LengthsFit settings records
       → FiltersOrTrims deletes m.drop patched settings dump records revisions trees text
   kept : LengthsFit settings records → ChangesComeOfKept patched settings records revisions text
@@ -127,256 +152,386 @@ record Written (m : CutMeaning) (dump : List ℕ) (settings : Settings) (records
   renumbered : m.drop ≡ true → LengthsFit settings records
       → LoadsNew patched settings (TreeRestricts settings records) records trees text
 
+-- what the filter writes of what it reads, if nothing comes back there
 module _ (m : CutMeaning) (dump : List ℕ) (settings : Settings) (records : List DumpRecord) (filtered text : List ℕ)
     (clean : IsCleanText settings dump records filtered) (changes : List NodeChange)
-    (named : list_all has_named_paths (map listed_of changes) ≡ true) where
-  module _ (patched : Patching) (revisions : List (List Change)) (makes : MakeRevisions patched records revisions)
-      (listed : AreListed changes (placed_from 1 revisions)) (trees : List Tree)
-      (loads : loaded_over root_alone revisions ≡ Some trees) where
-    loads_as : LoadsAs patched root_alone records revisions trees
-    loads_as = record { makes = makes; loads = loads }
+    (named : list_all has_named_paths (map listed_of changes) ≡ true) (excluded : List NodePath)
+    (none_back : BringsNothingBack (map listed_of changes) excluded) (patched : Patching) (revisions : List (List Change))
+    (listed : AreListed changes (placed_from 1 revisions)) (trees : List Tree)
+    (loads_as : LoadsAs patched root_alone records revisions trees) where
+  names : have_node_names revisions ≡ true
+  names = revisions_named 1 revisions (placed_named (map listed_of changes) (placed_from 1 revisions) listed named)
 
-    names : have_node_names revisions ≡ true
-    names = revisions_named 1 revisions (placed_named (map listed_of changes) (placed_from 1 revisions) listed named)
+  abbrev placed : List Placed
+  placed = placed_from 1 revisions
 
-    module _ (deletes : Option Deletes) (ready : IsReadyFor m dump settings deletes)
-        (same : map listed_of changes ≡ ready.listed) where
-      its : AllZip IsListed ready.listed (placed_from 1 revisions)
-      its = subst (λ l. AllZip IsListed l (placed_from 1 revisions)) same listed
+  abbrev told : ToldKinds
+  told = kinds_told_by (map listed_of changes)
 
-      none_back : all_rests Way.ToCopies ready.excluded (kinds_told_by (map listed_of changes)) (placed_from 1 revisions)
-          (length (placed_from 1 revisions)) ≡ []
-      none_back = subst (λ l. all_rests Way.ToCopies ready.excluded (kinds_told_by l) (placed_from 1 revisions)
-          (length (placed_from 1 revisions)) ≡ []) (sym same)
-          (ready.are_excluded.nothing_back (placed_from 1 revisions) its)
+  tells : TellsKinds told root_alone placed
+  tells = index_tells_kinds changes placed listed
 
-    -- each copy is taken as it is
-    module _ (ready : IsReadyFor m dump settings None) (same : map listed_of changes ≡ ready.listed) where
-      taken : IsFirstNotTaken ready.excluded (kinds_told_by (map listed_of changes)) (placed_from 1 revisions) None
-      taken = subst (λ l. IsFirstNotTaken ready.excluded (kinds_told_by l) (placed_from 1 revisions) None) (sym same)
-          (ready.copies (placed_from 1 revisions) (its None ready same))
+  nothing : (deletes : Option Deletes) → IsSetUp m excluded (map listed_of changes) settings deletes
+      → NothingComesBack settings trees revisions
+  nothing deletes set_up =
+      (no_returns_bring_nothing settings excluded told revisions trees placed refl tells loads_as.loads names set_up.excludes
+      set_up.have_names).0 (none_back placed listed)
 
-      own : LengthsFit settings records → FiltersExpansion patched settings dump records revisions trees records filtered
-      own fit = own_expansion patched settings dump filtered records revisions trees clean.whole loads_as
-          (taken_revisions_separate settings ready.excluded (kinds_told_by (map listed_of changes)) revisions trees
-          (index_tells_kinds changes (placed_from 1 revisions) listed) loads names ready.excludes ready.have_names taken)
-          clean fit
+  -- each copy is taken as it is
+  module _ (set_up : IsSetUp m excluded (map listed_of changes) settings None) where
+    taken : IsFirstNotTaken excluded told placed None
+    taken = set_up.copies placed listed
 
-      no_gap : (drops : Bool) → m.drop ≡ drops → leaves_no_gap settings ≡ true
-      no_gap true is = ap (λ b. b || is_pad settings.empty) (ready.numbers ∙ is)
-      no_gap false is = or_right settings.renumber (is_pad settings.empty) (ap is_pad (ready.empties ∙ ap emptied_by is))
+    own : LengthsFit settings records → FiltersExpansion patched settings dump records revisions trees records filtered
+    own fit = own_expansion patched settings dump filtered records revisions trees clean.whole loads_as
+        (taken_revisions_separate settings excluded told revisions trees tells loads_as.loads names set_up.excludes
+        set_up.have_names taken) clean fit
 
-      taken_written : Written m dump settings records None patched revisions trees filtered
-      taken_written = record {
-        filters = own;
-        kept = λ fit. filtered_changes_are_kept patched settings dump filtered records revisions clean fit makes
-            (no_gap m.drop refl);
-        numbered = λ stays fit. taken_dump_loads patched settings ready.excluded dump filtered records changes revisions trees
-            clean.whole loads_as listed named ready.excludes ready.have_names taken clean fit
-            (ready.empties ∙ ap emptied_by stays) ready.preserves;
-        renumbered = λ drops fit. excluded_dump_loads patched settings dump filtered records records revisions trees (own fit)
-            ready.excludes.side (no_gap true drops);
+    no_gap : (drops : Bool) → m.drop ≡ drops → leaves_no_gap settings ≡ true
+    no_gap true is = ap (λ b. b || is_pad settings.empty) (set_up.numbers ∙ is)
+    no_gap false is = or_right settings.renumber (is_pad settings.empty) (ap is_pad (set_up.empties ∙ ap emptied_by is))
+
+    taken_written : Written m dump settings records None patched revisions trees filtered
+    taken_written = record {
+      nothing_back = nothing None set_up;
+      filters = own;
+      kept = λ fit. filtered_changes_are_kept patched settings dump filtered records revisions clean fit loads_as.makes
+          (no_gap m.drop refl);
+      numbered = λ stays fit. taken_dump_loads patched settings excluded dump filtered records changes revisions trees
+          clean.whole loads_as listed named set_up.excludes set_up.have_names taken clean fit
+          (set_up.empties ∙ ap emptied_by stays) set_up.preserves;
+      renumbered = λ drops fit. excluded_dump_loads patched settings dump filtered records records revisions trees (own fit)
+          set_up.excludes.side (no_gap true drops);
+    }
+
+  -- deletes stand behind some copies
+  module _ (deletes : Deletes) (set_up : IsSetUp m excluded (map listed_of changes) settings (Some deletes))
+      (trims : IsTrimmedBy deletes filtered text) where
+    trims_dump : LengthsFit settings records
+        → TrimsDump patched settings excluded dump filtered text records changes revisions trees deletes
+    trims_dump fit = record {
+      has = clean.whole;
+      loads = loads_as;
+      listed = listed;
+      named = named;
+      excludes = set_up.excludes;
+      are_named = set_up.have_names;
+      apart = set_up.apart;
+      nothing_back = none_back placed listed;
+      are_deletes = (set_up.copies placed listed).0;
+      clean = clean;
+      fit = fit;
+      trimmed = trims;
+    }
+
+    both : LengthsFit settings records
+        → (settings.empty ≡ Pad → settings.renumber ≡ false
+        → FiltersTrimmed patched settings dump records revisions trees text)
+        × (settings.renumber ≡ true → FiltersRenumbered patched settings dump records revisions trees text)
+    both fit = trimmed_copies_load patched settings excluded dump filtered text records changes revisions trees deletes
+        (trims_dump fit)
+
+    pads : m.drop ≡ false → settings.empty ≡ Pad
+    pads stays = set_up.empties ∙ ap emptied_by stays
+
+    trimmed_filters : (drops : Bool) → m.drop ≡ drops → LengthsFit settings records
+        → FiltersOrTrims (Some deletes) drops patched settings dump records revisions trees text
+    trimmed_filters true is fit = (both fit).1 (set_up.numbers ∙ is)
+    trimmed_filters false is fit = (both fit).0 (pads is) (set_up.numbers ∙ is)
+
+    trimmed_kept : (drops : Bool) → m.drop ≡ drops → LengthsFit settings records
+        → ChangesComeOfKept patched settings records revisions text
+    trimmed_kept true is fit = renumbered_changes_are_kept patched settings dump records revisions trees text
+        ((both fit).1 (set_up.numbers ∙ is)) (set_up.numbers ∙ is)
+    trimmed_kept false is fit = trimmed_changes_are_kept patched settings dump records revisions trees text
+        ((both fit).0 (pads is) (set_up.numbers ∙ is)) (pads is) (set_up.numbers ∙ is)
+
+    trimmed_written : Written m dump settings records (Some deletes) patched revisions trees text
+    trimmed_written = record {
+      nothing_back = nothing (Some deletes) set_up;
+      filters = trimmed_filters m.drop refl;
+      kept = trimmed_kept m.drop refl;
+      numbered = λ stays fit. trimmed_dump_loads patched settings dump records revisions trees text
+          ((both fit).0 (pads stays) (set_up.numbers ∙ stays)) set_up.excludes.side (pads stays) set_up.preserves
+          (set_up.numbers ∙ stays);
+      renumbered = λ drops fit. trimmed_dump_loads_renumbered patched settings dump records revisions trees text
+          ((both fit).1 (set_up.numbers ∙ drops)) set_up.excludes.side (set_up.numbers ∙ drops);
+    }
+
+  is_written : (deletes : Option Deletes) → IsSetUp m excluded (map listed_of changes) settings deletes
+      → IsTrimmedIf deletes filtered text → Written m dump settings records deletes patched revisions trees text
+  is_written None set_up trims =
+      subst (λ t. Written m dump settings records None patched revisions trees t) (sym trims) (taken_written set_up)
+  is_written (Some deletes) set_up trims = trimmed_written deletes set_up trims
+
+-- what is cut is what the call asks of the dump
+module _ (m : CutMeaning) (dump : List ℕ) (settings : Settings) (records : List DumpRecord)
+    (whole : HasRecords dump records Ending.Whole) (changes : List NodeChange)
+    (named : list_all has_named_paths (map listed_of changes) ≡ true) (excluded : List NodePath)
+    (excludes : ExcludesPaths settings excluded) (patched : Patching) (revisions : List (List Change))
+    (listed : AreListed changes (placed_from 1 revisions)) (trees : List Tree)
+    (loads : loaded_over root_alone revisions ≡ Some trees) where
+  abbrev its_told : ToldKinds
+  its_told = kinds_told_by (map listed_of changes)
+
+  its_tells : TellsKinds its_told root_alone (placed_from 1 revisions)
+  its_tells = index_tells_kinds changes (placed_from 1 revisions) listed
+
+  -- the paths to which copies are followed until they lead nowhere are the least set
+  closure : (way : Way) (paths : List NodePath) (asked : FollowsAsAsked m (map listed_of changes) way paths)
+      → LeadsNowhere way (map listed_of changes) paths → IsClosureOf way trees revisions asked.first paths
+  closure way paths asked nowhere =
+      let placed = placed_from 1 revisions in
+      let comes = asked.come revisions trees (record { lists = listed; tells = its_tells; loads = loads }) in
+      let least = following_is_least way trees revisions asked.first asked.additions paths loads comes
+      ((all_rests_are_listed way paths its_told revisions trees placed refl its_tells loads).2 (nowhere placed listed)) in
+      record { reached = least.1; least = least.2 }
+
+  as_asked : (side : Side) → (side ≡ Exclude → m.keep ≡ false → BringsNothingBack (map listed_of changes) excluded)
+      → IsAskedBy side m dump (map listed_of changes) excluded
+      → IsCutAsAsked side m settings records trees revisions excluded
+  as_asked Exclude none asked = record {
+    first = asked.first;
+    named = asked.named;
+    unfollowed = asked.unfollowed;
+    closure = λ unkept. closure Way.ToCopies excluded asked (none refl unkept);
+  }
+  as_asked Include none asked = record {
+    first = asked.follows.first;
+    included = asked.included;
+    named = asked.follows.named;
+    unfollowed = asked.follows.unfollowed;
+    closure = λ follows. closure Way.ToSources asked.included asked.follows (asked.follows.followed follows);
+    kept = λ path once. ever_kept_in_cut settings asked.included excluded revisions path
+        (revisions_named 1 revisions (placed_named (map listed_of changes) (placed_from 1 revisions) listed named)) excludes
+        (found_siblings_are_all changes asked.included excluded revisions listed asked.are_siblings) once;
+    lines = lines_by_cut settings asked.included excluded dump records whole excludes asked.are_siblings.each
+        asked.cover_mergeinfo;
+  }
+
+-- what the filter reads of a dump loads to its trees, and these are its changes
+record LoadsRead (patched : Patching) (records again : List DumpRecord) (changes : List NodeChange) (trees : List Tree)
+    : Type 0 where
+  made : List (List Change)
+  reads : LoadsAs patched root_alone again made trees
+  listed : AreListed changes (placed_from 1 made)
+  numbers : revision_numbers again ≡ revision_numbers records
+  properties : (props : List (List Property)) → HaveRevisionProperties records props → HaveRevisionProperties again props
+
+-- revisions with the properties of others have those of which these have them
+of_records : (patched : Patching) (Relates : Tree → Tree → Type 0) (records again : List DumpRecord) (trees : List Tree)
+    (text : List ℕ)
+    → ((props : List (List Property)) → HaveRevisionProperties records props → HaveRevisionProperties again props)
+    → LoadsNumbered patched Relates again trees text → LoadsNumbered patched Relates records trees text
+of_records patched Relates records again trees text same (parts, written, others, has, loads, relate, properties) =
+    (parts, written, others, has, loads, relate, λ props have. properties props (same props have))
+
+-- the changes of a dump with additions are those that are listed of it
+added_read : (patched : Patching) (dump text : List ℕ) (records again : List DumpRecord) (changes read : List NodeChange)
+    (revisions : List (List Change)) (trees : List Tree) (excluded : List NodePath) (given : List GivenStead)
+    → HasAdditions patched dump records changes revisions trees excluded given → IsExpandedBy given dump text
+    → HasRecords text again Ending.Whole → AreListedIn again read → LoadsRead patched records again read trees
+added_read patched dump text records again changes read revisions trees excluded given has expanded whole listed =
+    let (found, found_whole, loads, numbers, properties) =
+    additions_load patched dump text records changes revisions trees excluded given has expanded in
+    let are = one_list text found again found_whole whole in
+    let made = made_in_stead records (steads_in 0 records given) revisions in
+    let reads = subst (λ rs. LoadsAs patched root_alone rs made trees) are loads in
+    let (placed, nodes, zip) = listed patched in
+    record {
+      made = made;
+      reads = reads;
+      listed = subst (AreListed read) (nodes_are patched again made placed reads.makes nodes) zip;
+      numbers = ap revision_numbers (sym are) ∙ numbers;
+      properties = λ props have. subst (λ rs. HaveRevisionProperties rs props) are (properties props have);
+    }
+
+module _ (m : CutMeaning) (dump : List ℕ) (settings : Settings) (deletes : Option Deletes) (expansion : Option (List ℕ))
+    (excluded : List NodePath) (read : List Listed) (are : ExcludesAsAsked m dump expansion excluded read)
+    (set_up : IsSetUp m excluded read settings deletes) (records again : List DumpRecord) (filtered text : List ℕ)
+    (whole : HasRecords dump records Ending.Whole) (numbered : are_numbered records ≡ true)
+    (clean : IsCleanText settings (text_read expansion dump) again filtered) (trims : IsTrimmedIf deletes filtered text) where
+  its : AreChangesOf dump are.listed
+  its = are.is_taken.0
+
+  others : AreChangesOf (text_read expansion dump) read
+  others = are.read_is_taken.0
+
+  its_records : its.records ≡ records
+  its_records = one_list dump its.records records its.whole whole
+
+  its_listed : map listed_of its.changes ≡ are.listed
+  its_listed = known_numbered its.records its.changes are.listed (ap are_numbered its_records ∙ numbered) its.known
+
+  other_records : others.records ≡ again
+  other_records = one_list (text_read expansion dump) others.records again others.whole clean.whole
+
+  its_listed_in : AreListedIn records its.changes
+  its_listed_in = subst (λ rs. AreListedIn rs its.changes) its_records its.are_listed
+
+  its_named : list_all has_named_paths (map listed_of its.changes) ≡ true
+  its_named = listed_in_named records its.changes its_listed_in
+
+  others_named : list_all has_named_paths (map listed_of others.changes) ≡ true
+  others_named = listed_in_named others.records others.changes others.are_listed
+
+  -- what the filter reads: the dump itself, or the dump with additions
+  loads_read : (patched : Patching) (revisions : List (List Change)) (trees : List Tree)
+      → LoadsAs patched root_alone records revisions trees → AreListed its.changes (placed_from 1 revisions)
+      → (e : Option (List ℕ)) → IsReadFor m dump are.listed excluded e read
+      → HasRecords (text_read e dump) again Ending.Whole → AreListedIn again others.changes
+      → LoadsRead patched records again others.changes trees
+  loads_read patched revisions trees loads listed None same has listed_in =
+      let one = one_list dump records again whole has in
+      let (placed, nodes, zip) = listed_in patched in
+      let reads = subst (λ rs. LoadsAs patched root_alone rs revisions trees) one loads in
+      record {
+        made = revisions;
+        reads = reads;
+        listed = subst (AreListed others.changes) (nodes_are patched again revisions placed reads.makes nodes) zip;
+        numbers = ap revision_numbers (sym one);
+        properties = λ props have. subst (λ rs. HaveRevisionProperties rs props) one have;
+      }
+  loads_read patched revisions trees loads listed (Some t) (adds, some, has) has_again listed_in =
+      let same = one_list dump has.records records has.whole whole in
+      added_read patched dump t records again its.changes others.changes revisions trees excluded has.given
+      (record {
+        has = whole;
+        loads = loads;
+        listed = its_listed_in;
+        numbers = subst (λ rs. HaveNodeNumbers rs its.changes) its_records its.numbers;
+        ordered = its.ordered (ap are_numbered its_records ∙ numbered);
+        additions = subst (λ l. AreAdditionsFrom (property_blocks records) (record_texts records) l excluded 0 l has.given)
+            (sym its_listed)
+            (subst (λ rs. AreAdditionsFrom (property_blocks rs) (record_texts rs) are.listed excluded 0 are.listed has.given)
+            same has.additions);
+      }) has.expanded has_again listed_in
+
+  -- under exclude nothing comes back in the dump, unless it is to be kept
+  none_in_dump : (e : Option (List ℕ)) → IsReadFor m dump are.listed excluded e read → m.side ≡ Exclude → m.keep ≡ false
+      → BringsNothingBack (map listed_of its.changes) excluded
+  none_in_dump None same side unkept =
+      subst (λ l. BringsNothingBack l excluded) (same ∙ sym its_listed) are.nothing_back
+  none_in_dump (Some t) (adds, some, has) side unkept =
+      absurd (let bad : false ≡ true = sym unkept ∙ sym (ap (λ s. writes_additions s m.keep) side) ∙ adds in cc)
+
+  cut_of : (patched : Patching) (revisions : List (List Change)) (trees : List Tree)
+      → LoadsAs patched root_alone records revisions trees → AreListed its.changes (placed_from 1 revisions)
+      → LoadsRead patched records again others.changes trees
+      → CutLoads patched m settings deletes excluded (text_read expansion dump) records again revisions text
+  cut_of patched revisions trees loads listed reads =
+      let others_listed : map listed_of others.changes ≡ read =
+      known_numbered others.records others.changes read
+      (ap are_numbered other_records ∙ read_numbered patched again reads.made reads.reads.makes) others.known in
+      let written = is_written m (text_read expansion dump) settings again filtered text clean others.changes others_named
+      excluded (subst (λ l. BringsNothingBack l excluded) (sym others_listed) are.nothing_back) patched reads.made
+      reads.listed trees reads.reads deletes
+      (subst (λ l. IsSetUp m excluded l settings deletes) (sym others_listed) set_up) trims in
+      record {
+        trees = trees;
+        loads = loads;
+        as_asked = as_asked m dump settings records whole its.changes its_named excluded set_up.excludes patched revisions listed
+            trees loads.loads m.side (none_in_dump expansion are.is_read)
+            (subst (λ l. IsAskedBy m.side m dump l excluded) (sym its_listed) are.asked);
+        made = reads.made;
+        reads = reads.reads;
+        same_numbers = reads.numbers;
+        same_properties = reads.properties;
+        nothing_back = written.nothing_back;
+        filters = written.filters;
+        kept = written.kept;
+        numbered = λ stays fit. of_records patched (TreeRestricts settings again) records again trees text reads.properties
+            (written.numbered stays fit);
+        renumbered = written.renumbered;
       }
 
-    -- deletes stand behind some copies
-    module _ (deletes : Deletes) (ready : IsReadyFor m dump settings (Some deletes))
-        (same : map listed_of changes ≡ ready.listed) (trims : IsTrimmedBy deletes filtered text) where
-      trims_dump : LengthsFit settings records
-          → TrimsDump patched settings ready.excluded dump filtered text records changes revisions trees deletes
-      trims_dump fit = record {
-        has = clean.whole;
-        loads = loads_as;
-        listed = listed;
-        named = named;
-        excludes = ready.excludes;
-        are_named = ready.have_names;
-        apart = ready.apart;
-        nothing_back = none_back (Some deletes) ready same;
-        are_deletes = subst (λ l. AreDeletes ready.excluded (kinds_told_by l) (placed_from 1 revisions) deletes) (sym same)
-            (ready.copies (placed_from 1 revisions) (its (Some deletes) ready same)).0;
-        clean = clean;
-        fit = fit;
-        trimmed = trims;
+  -- the dump loads, where its deltas apply
+  loaded : (patched : Patching) (revisions : List (List Change)) → MakeRevisions patched records revisions
+      → AreListed its.changes (placed_from 1 revisions)
+      → all_apply root_alone (placed_from 1 revisions) (length (placed_from 1 revisions)) ≡ true
+      → CutLoads patched m settings deletes excluded (text_read expansion dump) records again revisions text
+  loaded patched revisions makes listed apply =
+      let unrefused = subst (λ l. IsFirstRefused l None) (sym its_listed) are.is_taken.1 in
+      let (trees, leads) = some_value (loaded_over root_alone revisions)
+      (unrefused_loads its.changes revisions listed unrefused apply) in
+      let loads : LoadsAs patched root_alone records revisions trees = record { makes = makes; loads = leads } in
+      cut_of patched revisions trees loads listed
+      (loads_read patched revisions trees loads listed expansion are.is_read clean.whole
+      (subst (λ rs. AreListedIn rs others.changes) other_records others.are_listed))
+
+  is_cut : IsCutText m expansion settings deletes dump text
+  is_cut =
+      let (made, has, make) = numbered_makes dump records its.changes whole numbered its_listed_in in
+      let one = one_list dump made records has whole in
+      record {
+        excluded = excluded;
+        records = records;
+        again = again;
+        excludes = set_up.excludes;
+        whole = whole;
+        whole_again = clean.whole;
+        loads = λ patched.
+            let (revisions, makes, listed) = make patched in
+            let its_makes = subst (λ rs. MakeRevisions patched rs revisions) one makes in
+            (revisions, its_makes, loaded patched revisions its_makes listed);
       }
 
-      both : LengthsFit settings records
-          → (settings.empty ≡ Pad → settings.renumber ≡ false
-          → FiltersTrimmed patched settings dump records revisions trees text)
-          × (settings.renumber ≡ true → FiltersRenumbered patched settings dump records revisions trees text)
-      both fit = trimmed_copies_load patched settings ready.excluded dump filtered text records changes revisions trees deletes
-          (trims_dump fit)
+-- what the filter writes of all that it reads, with the deletes, is the cut of the dump
+pub clean_texts_are_cuts : (m : CutMeaning) (dump : List ℕ) (expansion : Option (List ℕ)) (settings : Settings)
+    (deletes : Option Deletes) → IsReadyFor m dump expansion settings deletes
+    → CleanTextsAreCuts m expansion settings deletes dump
+clean_texts_are_cuts m dump expansion settings deletes ready records again filtered text whole numbered clean trims =
+    is_cut m dump settings deletes expansion ready.excluded ready.read ready.are_excluded ready.is_set_up records again filtered
+    text whole numbered clean trims
 
-      pads : m.drop ≡ false → settings.empty ≡ Pad
-      pads stays = ready.empties ∙ ap emptied_by stays
+module _ (m : CutMeaning) (dump : List ℕ) (expansion : Option (List ℕ)) (settings : Settings) (deletes : Option Deletes)
+    (old new map_old map_new : Option (List ℕ)) (status : ℕ) (ready : IsReadyFor m dump expansion settings deletes) where
+  abbrev read_text : List ℕ
+  read_text = text_read expansion dump
 
-      trimmed_filters : (drops : Bool) → m.drop ≡ drops → LengthsFit settings records
-          → FiltersOrTrims (Some deletes) drops patched settings dump records revisions trees text
-      trimmed_filters true is fit = (both fit).1 (ready.numbers ∙ is)
-      trimmed_filters false is fit = (both fit).0 (pads is) (ready.numbers ∙ is)
-
-      trimmed_kept : (drops : Bool) → m.drop ≡ drops → LengthsFit settings records
-          → ChangesComeOfKept patched settings records revisions text
-      trimmed_kept true is fit = renumbered_changes_are_kept patched settings dump records revisions trees text
-          ((both fit).1 (ready.numbers ∙ is)) (ready.numbers ∙ is)
-      trimmed_kept false is fit = trimmed_changes_are_kept patched settings dump records revisions trees text
-          ((both fit).0 (pads is) (ready.numbers ∙ is)) (pads is) (ready.numbers ∙ is)
-
-      trimmed_written : Written m dump settings records (Some deletes) patched revisions trees text
-      trimmed_written = record {
-        filters = trimmed_filters m.drop refl;
-        kept = trimmed_kept m.drop refl;
-        numbered = λ stays fit. trimmed_dump_loads patched settings dump records revisions trees text
-            ((both fit).0 (pads stays) (ready.numbers ∙ stays)) ready.excludes.side (pads stays) ready.preserves
-            (ready.numbers ∙ stays);
-        renumbered = λ drops fit. trimmed_dump_loads_renumbered patched settings dump records revisions trees text
-            ((both fit).1 (ready.numbers ∙ drops)) ready.excludes.side (ready.numbers ∙ drops);
-      }
-
-    is_written : (deletes : Option Deletes) (ready : IsReadyFor m dump settings deletes)
-        → map listed_of changes ≡ ready.listed → IsTrimmedIf deletes filtered text
-        → Written m dump settings records deletes patched revisions trees text
-    is_written None ready same trims =
-        subst (λ t. Written m dump settings records None patched revisions trees t) (sym trims) (taken_written ready same)
-    is_written (Some deletes) ready same trims = trimmed_written deletes ready same trims
-
-    module _ (deletes : Option Deletes) (ready : IsReadyFor m dump settings deletes)
-        (same : map listed_of changes ≡ ready.listed) (trims : IsTrimmedIf deletes filtered text) where
-      abbrev placed : List Placed
-      placed = placed_from 1 revisions
-
-      abbrev told : ToldKinds
-      told = kinds_told_by (map listed_of changes)
-
-      tells : TellsKinds told root_alone placed
-      tells = index_tells_kinds changes placed listed
-
-      none : all_rests Way.ToCopies ready.excluded told placed (length placed) ≡ []
-      none = none_back deletes ready same
-
-      -- the paths to which copies are followed until they lead nowhere are the least set
-      closure : (way : Way) (paths : List NodePath) (asked : FollowsAsAsked m ready.listed way paths)
-          → all_rests way paths told placed (length placed) ≡ [] → IsClosureOf way trees revisions asked.first paths
-      closure way paths asked nowhere =
-          let comes = asked.come revisions trees (record {
-            lists = its deletes ready same;
-            tells = subst (λ l. TellsKinds (kinds_told_by l) root_alone placed) same tells;
-            loads = loads;
-          }) in
-          let least = following_is_least way trees revisions asked.first asked.additions paths loads comes
-          ((all_rests_are_listed way paths told revisions trees placed refl tells loads).2 nowhere) in
-          record { reached = least.1; least = least.2 }
-
-      as_asked : (side : Side) → IsAskedBy side m dump ready.listed ready.excluded
-          → IsCutAsAsked side m settings records trees revisions ready.excluded
-      as_asked Exclude asked = record {
-        first = asked.first;
-        named = asked.named;
-        unfollowed = asked.unfollowed;
-        closure = closure Way.ToCopies ready.excluded asked none;
-      }
-      as_asked Include asked = record {
-        first = asked.follows.first;
-        included = asked.included;
-        named = asked.follows.named;
-        unfollowed = asked.follows.unfollowed;
-        closure = λ follows. closure Way.ToSources asked.included asked.follows
-            (subst (λ l. all_rests Way.ToSources asked.included (kinds_told_by l) placed (length placed) ≡ []) (sym same)
-            (asked.follows.followed follows placed (its deletes ready same)));
-        kept = λ path once. ever_kept_in_cut settings asked.included ready.excluded revisions path names ready.excludes
-            (found_siblings_are_all changes asked.included ready.excluded revisions listed
-            (subst (λ l. AreFoundSiblings l asked.included ready.excluded) (sym same) asked.are_siblings)) once;
-        lines = lines_by_cut settings asked.included ready.excluded dump records clean.whole ready.excludes
-            asked.are_siblings.each asked.cover_mergeinfo;
-      }
-
-      cut_of : CutLoads patched m settings deletes ready.excluded dump records revisions text
-      cut_of =
-          let written = is_written deletes ready same trims in
-          record {
-            trees = trees;
-            loads = loads_as;
-            as_asked = as_asked m.side ready.are_excluded.asked;
-            nothing_back = (no_returns_bring_nothing settings ready.excluded told revisions trees placed refl tells loads names
-                ready.excludes ready.have_names).0 none;
-            filters = written.filters;
-            kept = written.kept;
-            numbered = written.numbered;
-            renumbered = written.renumbered;
-          }
-
-  module _ (deletes : Option Deletes) (ready : IsReadyFor m dump settings deletes)
-      (same : map listed_of changes ≡ ready.listed) (trims : IsTrimmedIf deletes filtered text) where
-    -- a history that an index lists loads, where its deltas apply
-    loaded : (patched : Patching) (revisions : List (List Change)) → MakeRevisions patched records revisions
-        → AreListed changes (placed_from 1 revisions)
-        → all_apply root_alone (placed_from 1 revisions) (length (placed_from 1 revisions)) ≡ true
-        → CutLoads patched m settings deletes ready.excluded dump records revisions text
-    loaded patched revisions makes listed apply =
-        let unrefused = subst (λ l. IsFirstRefused l None) (sym same) ready.is_taken.1 in
-        let some = some_value (loaded_over root_alone revisions) (unrefused_loads changes revisions listed unrefused apply) in
-        cut_of patched revisions makes listed some.0 some.1 deletes ready same trims
-
-    is_cut : MakesListed dump changes → IsCutText m settings deletes dump text
-    is_cut (others, whole, make) =
-        let are = one_list dump others records whole clean.whole in
-        record {
-          excluded = ready.excluded;
-          records = records;
-          excludes = ready.excludes;
-          whole = clean.whole;
-          loads = λ patched.
-              let made = make patched in
-              let makes = subst (λ rs. MakeRevisions patched rs made.0) are made.1 in
-              (made.0, makes, loaded patched made.0 makes made.2);
-        }
-
--- what the filter writes of the whole dump, with the deletes, is its cut
-pub clean_texts_are_cuts : (m : CutMeaning) (dump : List ℕ) (settings : Settings) (deletes : Option Deletes)
-    → IsReadyFor m dump settings deletes → CleanTextsAreCuts m settings deletes dump
-clean_texts_are_cuts m dump settings deletes ready records filtered text clean numbered trims = cases ready.is_taken.0
-  where
-    cases : AreChangesOf dump ready.listed → IsCutText m settings deletes dump text
-    cases (inl (changes, makes, same)) =
-        is_cut m dump settings records filtered text clean changes (read_named dump changes makes) deletes ready same trims makes
-    cases (inr (changes, (others, whole, other, rise, listed), same)) = absurd (
-        let bad : true ≡ false = sym numbered
-        ∙ ap are_numbered (sym (one_list dump others records whole clean.whole)) ∙ other in
-        cc)
-
-module _ (m : CutMeaning) (dump : List ℕ) (settings : Settings) (deletes : Option Deletes)
-    (old new map_old map_new : Option (List ℕ)) (status : ℕ) (ready : IsReadyFor m dump settings deletes) where
   -- so the dump is cut
-  cuts_ready : WritesIfAsked m settings deletes dump old new map_old map_new status
+  cuts_ready : WritesIfAsked m settings deletes read_text old new map_old map_new status
       → CutsDump m dump old new map_old map_new status
-  cuts_ready writes = inl (settings, deletes, ready, clean_texts_are_cuts m dump settings deletes ready, writes)
+  cuts_ready writes =
+      inl (expansion, settings, deletes, ready, clean_texts_are_cuts m dump expansion settings deletes ready, writes)
 
   -- also in a trial, of which the writer keeps what it has
   pub tries_cut : m.dry_run ≡ true
-      → WritesBoth (asked_map m) settings deletes dump None None map_old map_new status
+      → WritesBoth (asked_map m) settings deletes read_text None None map_old map_new status
       → CutsDump m dump old old map_old map_new status
   tries_cut dry writes = inl (
+    expansion,
     settings,
     deletes,
     ready,
-    clean_texts_are_cuts m dump settings deletes ready,
+    clean_texts_are_cuts m dump expansion settings deletes ready,
     on m.dry_run dry,
   )
     where
       on : (b : Bool) → b ≡ true → MatchBool b
-          (WritesBoth (asked_map m) settings deletes dump None None map_old map_new status × Keeps old old)
-          (WritesBoth (asked_map m) settings deletes dump old old map_old map_new status)
+          (WritesBoth (asked_map m) settings deletes read_text None None map_old map_new status × Keeps old old)
+          (WritesBoth (asked_map m) settings deletes read_text old old map_old map_new status)
       on true is = (writes, Keeps-refl old)
       on false is = absurd (let bad : false ≡ true = is in cc)
 
-  pub writes_cut : m.dry_run ≡ false → WritesBoth (asked_map m) settings deletes dump old new map_old map_new status
+  pub writes_cut : m.dry_run ≡ false → WritesBoth (asked_map m) settings deletes read_text old new map_old map_new status
       → CutsDump m dump old new map_old map_new status
   writes_cut wet writes = cuts_ready (on m.dry_run wet)
     where
       on : (b : Bool) → b ≡ false → MatchBool b
-          (WritesBoth (asked_map m) settings deletes dump None None map_old map_new status × Keeps old new)
-          (WritesBoth (asked_map m) settings deletes dump old new map_old map_new status)
+          (WritesBoth (asked_map m) settings deletes read_text None None map_old map_new status × Keeps old new)
+          (WritesBoth (asked_map m) settings deletes read_text old new map_old map_new status)
       on true is = absurd (let bad : true ≡ false = is in cc)
       on false is = writes
+
+-- a dump that isn't cut, for an obstacle or out of memory
+module _ (m : CutMeaning) (dump : List ℕ) (old map_old : Option (List ℕ)) where
+  pub stops_at : (obstacle : Obstacle) → IsObstacleTo m dump obstacle
+      → CutsDump m dump old old map_old map_old (obstacle_status obstacle)
+  stops_at obstacle is = inr (inl (obstacle, is, Keeps-refl old, Keeps-refl map_old, refl))
+
+  pub has_no_memory : CutsDump m dump old old map_old map_old 1
+  has_no_memory = inr (inr (Keeps-refl old, Keeps-refl map_old, refl))
 
 -- a whole input that is cut
 pub input_cut : (m : CutMeaning) (input : Option (List ℕ)) (dump : List ℕ) (old new map_old map_new : Option (List ℕ))

@@ -17,13 +17,12 @@ use Rattle.dump_changes.specs.declared.read.End.{End}
 use Rattle.dump_changes.specs.declared.read.End.TheVariants.{Whole, NoChange, OutOfOrder, Broken}
 use Rattle.dump_changes.specs.declared.read.Reading.{Reading}
 use Rattle.dump_changes.specs.steps.DumpReading.{EndsReading, IsReadingOfDump}
-use Rattle.dump_changes.proofs.ReadLemmas.{numbered_makes}
 use Rattle.dump_cut.specs.NamedPaths.{has_named_paths}
 use Rattle.dump_cut.proofs.NamedLemmas.{listed_in_named, same_named}
 use Rattle.cut_cli.specs.Cuts.{AreChangesOf, AreKnownAs, AreListedButNumbers, BeginsWithChanges, CopiesByOtherNumbers, IsUnreadFor}
 use Rattle.cut_cli.specs.declared.read.Unread.{Unread}
 use Rattle.cut_cli.specs.declared.read.Unread.TheVariants as unread
-use Rattle.cut_cli.specs.steps.Examined.{AreChangesUpTo, IsUnknownFor, StopsFor}
+use Rattle.cut_cli.specs.steps.Examined.{AreKnownOf, AreKnownUpTo, AreReadAs, IsUnknownFor, StopsFor}
 
 -- lists that agree agree in their first elements
 split_same : {X Y : Type 0} (f : X → Y) (xs : List X) (before behind : List Y) → map f xs ≡ before ++ behind
@@ -82,8 +81,8 @@ begins_first dump before behind (records, changes, others, begins, listed, known
 
 -- up to the first change that isn't in order
 pub stops_in_order : (drops : Bool) (dump : List ℕ) (all : List NodeChange) (stop : Option Unread) (place number : ℕ)
-    → IsFirstOutOfOrder all (Some place) → AreChangesUpTo drops dump (map listed_of all) stop
-    → AreChangesUpTo drops dump (map listed_of (take place all)) (Some (unread.LaterCopy number))
+    → IsFirstOutOfOrder all (Some place) → AreKnownUpTo drops dump all stop
+    → AreKnownUpTo drops dump (take place all) (Some (unread.LaterCopy number))
 stops_in_order drops dump all stop place number (before, c, behind, all_is, size, ordered, not_so) known =
     let first : take place all ≡ before =
     ap₂ take (sym size) all_is ∙ take-append-le (length before) before (c ∷ behind) (omega arith)
@@ -158,55 +157,59 @@ module _ (drops : Bool) (dump : List ℕ) (reading : Reading) (read : IsReadingO
 
   -- as they are read, or as a load takes them
   module _ (stop : Option Unread) (stops : StopsFor reading.end stop) where
-    up_to : (listed : List Listed) → (StopsFor reading.end None → AreChangesOf dump listed) → (stop : Option Unread)
-        → StopsFor reading.end stop → MatchOption stop (AreChangesOf dump listed) (IsUnreadFor drops dump)
-    up_to listed all None stops = all stops
-    up_to listed all (Some reason) stops = stop_reason reading.end read.ends reason stops
+    up_to : (known : List NodeChange) → (StopsFor reading.end None → AreKnownOf dump known) → (stop : Option Unread)
+        → StopsFor reading.end stop → MatchOption stop (AreKnownOf dump known) (IsUnreadFor drops dump)
+    up_to known all None stops = all stops
+    up_to known all (Some reason) stops = stop_reason reading.end read.ends reason stops
 
-    pub known_as_read : reading.numbered ≡ true → AreChangesUpTo drops dump (map listed_of reading.changes.items) stop
-    known_as_read is = (
-      (
-        read.records,
-        reading.changes.items,
-        [],
-        read.begins,
-        subst (AreListedIn read.records) (sym (append-nil reading.changes.items)) read.listed,
-        subst (λ b. MatchBool b (map listed_of reading.changes.items ≡ map listed_of reading.changes.items)
-            (AreListedButNumbers reading.changes.items (map listed_of reading.changes.items))) (sym is ∙ read.numbered) refl,
-      ),
-      up_to (map listed_of reading.changes.items) (λ ends. inl (
-        reading.changes.items,
-        numbered_makes dump read.records reading.changes.items (whole reading.end read.ends ends)
-            (sym read.numbered ∙ is) read.listed,
-        refl,
-      )) stop stops,
+    known_of : (known : List NodeChange) → AreReadAs read.records reading.changes.items known → StopsFor reading.end None
+        → AreKnownOf dump known
+    known_of known same ends = record {
+      records = read.records;
+      changes = reading.changes.items;
+      whole = whole reading.end read.ends ends;
+      rise = read.rise;
+      are_listed = read.listed;
+      numbers = read.nodes;
+      read_as = same;
+    }
+
+    begins_known : (known : List NodeChange) → AreKnownAs read.records reading.changes.items (map listed_of known)
+        → BeginsWithChanges dump (map listed_of known)
+    begins_known known same = (
+      read.records,
+      reading.changes.items,
+      [],
+      read.begins,
+      subst (AreListedIn read.records) (sym (append-nil reading.changes.items)) read.listed,
+      same,
     )
+
+    pub known_as_read : reading.numbered ≡ true → AreKnownUpTo drops dump reading.changes.items stop
+    known_as_read is =
+        let items = reading.changes.items in (
+          begins_known items (subst (λ b. MatchBool b (map listed_of items ≡ map listed_of items)
+              (AreListedButNumbers items (map listed_of items))) (sym is ∙ read.numbered) refl),
+          up_to items (known_of items (subst (λ b. MatchBool b (items ≡ items)
+              (AreListedButNumbers items (map listed_of items))) (sym is ∙ read.numbered) refl)) stop stops,
+        )
 
     -- with the numbers of other revisions
     pub known_by_load : reading.numbered ≡ false → (changes : List NodeChange)
-        → without changes ≡ without reading.changes.items → AreChangesUpTo drops dump (map listed_of changes) stop
-    known_by_load isnt changes same = (
-      (
-        read.records,
-        reading.changes.items,
-        [],
-        read.begins,
-        subst (AreListedIn read.records) (sym (append-nil reading.changes.items)) read.listed,
-        subst (λ b. MatchBool b (map listed_of reading.changes.items ≡ map listed_of changes)
-            (AreListedButNumbers reading.changes.items (map listed_of changes))) (sym isnt ∙ read.numbered) (sym same),
-      ),
-      up_to (map listed_of changes) (λ ends. inr (
-        reading.changes.items,
-        (read.records, whole reading.end read.ends ends, sym read.numbered ∙ isnt, read.rise, read.listed),
-        sym same,
-      )) stop stops,
-    )
+        → without changes ≡ without reading.changes.items → AreKnownUpTo drops dump changes stop
+    known_by_load isnt changes same =
+        let items = reading.changes.items in (
+          begins_known changes (subst (λ b. MatchBool b (map listed_of items ≡ map listed_of changes)
+              (AreListedButNumbers items (map listed_of changes))) (sym isnt ∙ read.numbered) (sym same)),
+          up_to changes (known_of changes (subst (λ b. MatchBool b (items ≡ changes)
+              (AreListedButNumbers items (map listed_of changes))) (sym isnt ∙ read.numbered) (sym same))) stop stops,
+        )
 
   -- up to a copy that isn't known
   pub known_before : reading.numbered ≡ false → (changes : List NodeChange) (before : List NodeChange) (c : NodeChange)
       (behind : List NodeChange) → without changes ≡ without before → reading.changes.items ≡ before ++ c ∷ behind
       → (reason : Unread) → IsUnknownFor drops (listed_of c) reason
-      → AreChangesUpTo drops dump (map listed_of changes) (Some reason)
+      → AreKnownUpTo drops dump changes (Some reason)
   known_before isnt changes before c behind same all_is reason (copy, (number, which)) = (
     (
       read.records,
@@ -235,6 +238,45 @@ module _ (drops : Bool) (dump : List ℕ) (reading : Reading) (read : IsReadingO
       cases : (reason ≡ unread.NoSource number) ⊎ ((drops ≡ true) × (reason ≡ unread.Gap number)) → IsUnreadFor drops dump reason
       cases (inl is) = subst (IsUnreadFor drops dump) (sym is) copies
       cases (inr is) = subst (IsUnreadFor drops dump) (sym is.1) (is.0, copies)
+
+-- changes that are known in order are those of the dump
+in_order_known : (dump : List ℕ) (known : List NodeChange) → AreKnownOf dump known → are_in_order 0 known ≡ true
+    → AreChangesOf dump (map listed_of known)
+in_order_known dump known are ordered = record {
+  records = are.records;
+  changes = are.changes;
+  whole = are.whole;
+  rise = are.rise;
+  are_listed = are.are_listed;
+  numbers = are.numbers;
+  known = known_by (are_numbered are.records) are.read_as;
+  ordered = ordered_by (are_numbered are.records) are.read_as;
+}
+  where
+    known_by : (b : Bool) → MatchBool b (are.changes ≡ known) (AreListedButNumbers are.changes (map listed_of known))
+        → MatchBool b (map listed_of are.changes ≡ map listed_of known)
+        (AreListedButNumbers are.changes (map listed_of known))
+    known_by true same = ap (map listed_of) same
+    known_by false same = same
+
+    ordered_by : (b : Bool) → MatchBool b (are.changes ≡ known) (AreListedButNumbers are.changes (map listed_of known))
+        → b ≡ true → are_in_order 0 are.changes ≡ true
+    ordered_by true same is = ap (are_in_order 0) same ∙ ordered
+    ordered_by false same is = absurd (let bad : false ≡ true = is in cc)
+
+pub front_in_order : (drops : Bool) (dump : List ℕ) (known : List NodeChange) (stop : Option Unread) (listed : List Listed)
+    → AreKnownUpTo drops dump known stop → are_in_order 0 known ≡ true → listed ≡ map listed_of known
+    → (BeginsWithChanges dump listed × MatchOption stop (AreChangesOf dump listed) (IsUnreadFor drops dump))
+    × (list_all has_named_paths listed ≡ true)
+front_in_order drops dump known stop listed (begins, up_to) ordered is = (
+  (subst (BeginsWithChanges dump) (sym is) begins, by stop up_to),
+  ap (list_all has_named_paths) is ∙ begins_named dump (map listed_of known) begins,
+)
+  where
+    by : (stop : Option Unread) → MatchOption stop (AreKnownOf dump known) (IsUnreadFor drops dump)
+        → MatchOption stop (AreChangesOf dump listed) (IsUnreadFor drops dump)
+    by None are = subst (AreChangesOf dump) (sym is) (in_order_known dump known are ordered)
+    by (Some reason) un = un
 
 -- the changes that are known so far, and those that are left
 pub record KnownSoFar (all changes left : List NodeChange) : Type 0 where
@@ -274,7 +316,7 @@ all_known all changes (c ∷ left) none so_far = absurd (omega arith)
 pub unknown_next : (drops : Bool) (dump : List ℕ) (reading : Reading) (changes left : List NodeChange) (d : NodeChange)
     (reason : Unread) → reading.numbered ≡ false → 1 ≤ length left → KnownSoFar reading.changes.items changes left
     → IsUnknownFor drops (listed_of (get_or left 0 d)) reason → IsReadingOfDump dump reading
-    → AreChangesUpTo drops dump (map listed_of changes) (Some reason)
+    → AreKnownUpTo drops dump changes (Some reason)
 unknown_next drops dump reading changes [] d reason isnt some so_far unknown read = absurd (omega arith)
 unknown_next drops dump reading changes (c ∷ left) d reason isnt some so_far unknown read =
     known_before drops dump reading read isnt changes so_far.before c left so_far.same so_far.parts reason unknown

@@ -1,17 +1,15 @@
 -- Under exclude something can come back only if copies are not followed.
-use Rattle.std.proofs.Common.{◌≡◌, ◌≢◌, ◌⊎◌, ℕ, Bool, true, false, List, [], ◌∷◌, map, Option, Some, None, refl, sym, ap, ◌∙◌, subst, inl, inr}
+use Rattle.std.proofs.Common.{◌≡◌, ◌≢◌, ℕ, Bool, true, false, List, [], ◌∷◌, map, MatchBool, Option, Some, None, refl, sym, ap, ◌∙◌, subst}
 use Rattle.std.specs.List.{AllZip}
-use Rattle.dump_rules.specs.declared.options.Side.{Side}
-use Rattle.dump_rules.specs.declared.options.Side.TheVariants.{Exclude, Include}
 use Rattle.dump_trees.specs.Changes.{Made}
 use Rattle.dump_trees.specs.Following.{Way}
 use Rattle.dump_trees.specs.Looking.{Placed, placed_from}
 use Rattle.dump_trees.specs.Paths.{NodePath}
 use Rattle.dump_history.specs.RecordChanges.{Patching}
-use Rattle.dump_index.specs.IndexLaws.{HasProps, HasText, IsListed}
+use Rattle.dump_index.specs.IndexLaws.{AreListed, HasProps, HasText, IsListed}
 use Rattle.dump_index.specs.Listed.{Listed, listed_of}
-use Rattle.dump_changes.specs.ListedDumps.{without_number}
-use Rattle.cut_cli.specs.Cuts.{AreChangesOf, BringsSomeBack, IsAskedBy, IsTakenDump, LeadsNowhere, Returns}
+use Rattle.dump_changes.specs.ListedDumps.{NodesMake, are_numbered, without_number}
+use Rattle.cut_cli.specs.Cuts.{AreChangesOf, AreListedButNumbers, BringsSomeBack, FollowsAsAsked, IsTakenDump}
 use Rattle.cut_cli.specs.Words.{CutMeaning}
 
 -- some reading of text deltas
@@ -48,20 +46,22 @@ all_as (l ∷ one) (o ∷ other) (p ∷ placed) same (is, all) =
 -- an index of a dump that is read is of some changes
 some_placed : (dump : List ℕ) (listed : List Listed) → AreChangesOf dump listed
     → (placed : List Placed) × AllZip IsListed listed placed
-some_placed dump listed (inl (changes, (records, has, makes), same)) =
-    let (revisions, make, all) = makes no_patch in
-    (placed_from 1 revisions, subst (λ ls. AllZip IsListed ls (placed_from 1 revisions)) same all)
-some_placed dump listed (inr (changes, (records, has, other, rise, makes), same)) =
-    let (placed, make, all) = makes no_patch in
-    all_as (map listed_of changes) listed placed same all
+some_placed dump listed are = by (are_numbered are.records) are.known (are.are_listed no_patch)
+  where
+    by : (b : Bool) → MatchBool b (map listed_of are.changes ≡ listed) (AreListedButNumbers are.changes listed)
+        → ((placed : List Placed) × NodesMake no_patch None are.records placed × AreListed are.changes placed)
+        → (placed : List Placed) × AllZip IsListed listed placed
+    by true same (placed, make, all) = (placed, subst (λ ls. AllZip IsListed ls placed) same all)
+    by false same (placed, make, all) = all_as (map listed_of are.changes) listed placed same all
 
-pub back_is_unfollowed : (m : CutMeaning) (dump : List ℕ) (listed : List Listed) → IsTakenDump dump listed
-    → Returns m dump listed → m.side ≡ Exclude → m.follow ≡ false
-back_is_unfollowed m dump listed (are, loads) (excluded, asked, back) side = cases m.follow refl
+-- under exclude nothing comes back where copies are followed
+pub back_is_unfollowed : (m : CutMeaning) (dump : List ℕ) (listed : List Listed) (excluded : List NodePath)
+    → IsTakenDump dump listed → FollowsAsAsked m listed Way.ToCopies excluded → BringsSomeBack listed excluded
+    → m.follow ≡ false
+back_is_unfollowed m dump listed excluded (are, loads) follows back = cases m.follow refl
   where
     cases : (b : Bool) → m.follow ≡ b → b ≡ false
     cases false is = refl
     cases true is =
         let (placed, all) = some_placed dump listed are in
-        let follows = subst (λ s. IsAskedBy s m dump listed excluded) side asked in
         absurd (back placed all (follows.followed is placed all))

@@ -12,6 +12,7 @@ use Rattle.dump_cut.specs.declared.fates.RevisionFate.{RevisionFate}
 use Rattle.dump_text.specs.declared.fault.FaultKind.TheVariants.{Md5}
 use Rattle.cut_cli.specs.CommandLine.{cut_command}
 use Rattle.cli_support.specs.declared.info.Info.TheVariants.{Version}
+use Rattle.cut_cli.specs.Cuts.{writes_additions}
 use Rattle.cut_cli.specs.Drive.{AnswersArguments, AnswersWhole, BeginsMap, EndsMap, FollowsCut, ReadsTargets, obstacle_status, stop_line, stop_line_of}
 use Rattle.cut_cli.specs.RevisionMap.{TakesPartOfMap, fate_lines, last_behind, loaded_number}
 use Rattle.cut_cli.specs.Texts.{info_text}
@@ -20,9 +21,9 @@ use Rattle.cut_cli.specs.declared.examine.Obstacle.TheVariants.{ComesBack, OddDe
 
 -- CommandLine
 
--- nine options, and the prefixes
-ten_rules : length cut_command.top.rules ≡ 10
-ten_rules = refl
+-- ten options, and the prefixes
+eleven_rules : length cut_command.top.rules ≡ 11
+eleven_rules = refl
 
 no_sides : cut_command.subs ≡ []
 no_sides = refl
@@ -40,6 +41,7 @@ around : cut_of_words (given (codes "a" ∷ codes "--follow-copies" ∷ codes "-
       targets = [];
       map_name = None;
       follow = true;
+      keep = false;
       drop = false;
       dry_run = false;
       quiet = true;
@@ -58,6 +60,7 @@ others : cut_of_words (codes "p" ∷ codes "include" ∷ codes "--verbose" ∷ c
       targets = [];
       map_name = None;
       follow = false;
+      keep = false;
       drop = true;
       dry_run = true;
       quiet = false;
@@ -75,6 +78,7 @@ plan : cut_of_words (given (codes "--workers" ∷ codes "2" ∷ codes "a" ∷ co
       targets = [];
       map_name = None;
       follow = false;
+      keep = false;
       drop = false;
       dry_run = false;
       quiet = false;
@@ -92,6 +96,7 @@ files : cut_of_words (given (codes "--targets" ∷ codes "f" ∷ codes "--target
       targets = codes "f" ∷ codes "g" ∷ [];
       map_name = None;
       follow = false;
+      keep = false;
       drop = false;
       dry_run = false;
       quiet = false;
@@ -109,6 +114,7 @@ mapped : cut_of_words (given (codes "a" ∷ codes "--map" ∷ codes "m" ∷ code
       targets = [];
       map_name = Some (codes "m");
       follow = false;
+      keep = false;
       drop = false;
       dry_run = true;
       quiet = false;
@@ -143,6 +149,32 @@ quiet_and_verbose : cut_of_words (given (codes "--quiet" ∷ codes "a" ∷ codes
 unfolding clap_on_literals
 quiet_and_verbose = refl
 
+keeping : cut_of_words (given (codes "--keep-copies" ∷ codes "a" ∷ []))
+    ≡ Ok (record {
+      side = Exclude;
+      prefixes = codes "a" ∷ [];
+      targets = [];
+      map_name = None;
+      follow = false;
+      keep = true;
+      drop = false;
+      dry_run = false;
+      quiet = false;
+      verbose = false;
+      workers = 4;
+      window = 64;
+    })
+unfolding clap_on_literals
+keeping = refl
+
+keeping_and_following : cut_of_words (given (codes "--follow-copies" ∷ codes "a" ∷ codes "--keep-copies" ∷ [])) ≡ Err Words
+unfolding clap_on_literals
+keeping_and_following = refl
+
+keeping_under_include : cut_of_words (codes "p" ∷ codes "include" ∷ codes "--keep-copies" ∷ codes "a" ∷ []) ≡ Err Words
+unfolding clap_on_literals
+keeping_under_include = refl
+
 options_of_the_filter : cut_of_words (given (codes "--renumber-revs" ∷ codes "a" ∷ [])) ≡ Err Words
 unfolding clap_on_literals
 options_of_the_filter = refl
@@ -157,6 +189,7 @@ meaning prefixes = record {
   targets = codes "f" ∷ [];
   map_name = None;
   follow = false;
+  keep = false;
   drop = false;
   dry_run = false;
   quiet = false;
@@ -170,6 +203,17 @@ trial = refl
 
 asked : asked_map (record (meaning []) { map_name = Some (codes "m") }) ≡ Some (codes "m")
 asked = refl
+
+-- Cuts
+
+kept_if_asked_for : writes_additions Exclude true ≡ true
+kept_if_asked_for = refl
+
+not_kept_unasked : writes_additions Exclude false ≡ false
+not_kept_unasked = refl
+
+kept_under_include : writes_additions Include false ≡ true
+kept_under_include = refl
 
 -- Texts
 

@@ -7,7 +7,8 @@ use Rattle.cli_support.specs.FilterCommand.{any_prefixes, bare_command, number, 
 abbrev pub cut_command : App
 cut_command =
     let copies = with_rule (bare_command (codes "svndumpcut")) (switch (codes "follow-copies")) in
-    let drops = with_rule copies (switch (codes "drop-empty-revs")) in
+    let keeps = with_rule copies (switch (codes "keep-copies")) in
+    let drops = with_rule keeps (switch (codes "drop-empty-revs")) in
     let dry = with_rule drops (switch (codes "dry-run")) in
     let said = with_rule (with_rule dry (switch (codes "quiet"))) (switch (codes "verbose")) in
     let plan = with_rule (with_rule said (number (codes "workers") 64 (codes "4"))) (number (codes "window") 4096 (codes "64")) in

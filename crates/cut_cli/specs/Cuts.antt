@@ -1,5 +1,5 @@
 -- What is found out of a dump before it is filtered, and what the filter then writes.
-use Rattle.std.specs.Prelude.{◌≡◌, ◌≢◌, ◌⊎◌, ℕ, true, false, List, [], ◌∷◌, ◌++◌, length, map, Bool, Option, Some, None, MatchBool, Contains, IsTrue}
+use Rattle.std.specs.Prelude.{◌≡◌, ◌≢◌, ◌⊎◌, ℕ, true, false, List, [], ◌∷◌, ◌++◌, length, map, Bool, Option, Some, None, MatchBool, Contains, IsTrue, unwrap_or}
 use Rattle.std.specs.List.{AllZip, list_all}
 use Rattle.dump_digest.specs.RecordParts.{HasPropertyList, is_mergeinfo, is_node, value_of}
 use Rattle.dump_records.specs.DumpText.{BeginsWithRecords, Ending, HasRecords}
@@ -10,6 +10,7 @@ use Rattle.dump_rules.specs.Settings.{Settings, keeps_path}
 use Rattle.dump_rules.specs.declared.options.Side.{Side}
 use Rattle.dump_rules.specs.declared.options.Side.TheVariants.{Exclude, Include}
 use Rattle.dump_filter.specs.FilterLaws.{LengthsFit}
+use Rattle.dump_filter.specs.Groups.{revision_numbers}
 use Rattle.dump_trees.specs.CanonicalPaths.{canonical_path, canonical_paths}
 use Rattle.dump_trees.specs.Changes.{Change}
 use Rattle.dump_trees.specs.ComingBack.{NothingComesBack}
@@ -22,7 +23,7 @@ use Rattle.dump_trees.specs.Returns.{is_covered, lie_apart}
 use Rattle.dump_trees.specs.Siblings.{ExcludesPaths, has_node_names, is_in_cut}
 use Rattle.dump_trees.specs.Trees.{Tree, root_alone}
 use Rattle.dump_history.specs.CutDumps.{FiltersExpansion, LoadsNew, LoadsNumbered, TreeRestricts}
-use Rattle.dump_history.specs.DumpChanges.{LoadsAs, MakeRevisions}
+use Rattle.dump_history.specs.DumpChanges.{HaveRevisionProperties, LoadsAs, MakeRevisions}
 use Rattle.dump_history.specs.KeptChanges.{ChangesComeOfKept}
 use Rattle.dump_history.specs.RecordChanges.{MakesChange, Patching}
 use Rattle.dump_history.specs.TrimmedDumps.{FiltersRenumbered, FiltersTrimmed}
@@ -31,16 +32,24 @@ use Rattle.dump_index.specs.InOrder.{are_in_order}
 use Rattle.dump_index.specs.Listed.{Listed, listed_of}
 use Rattle.dump_index.specs.ToldKinds.{kinds_told_by}
 use Rattle.dump_index.specs.declared.change.NodeChange.{NodeChange}
-use Rattle.dump_changes.specs.ListedDumps.{AreListedIn, IsOutOfPlace, MakesListed, MakesListedByNumbers, are_numbered, is_listed_copy, without_number}
+use Rattle.dump_additions.specs.Additions.{AreAdditionsFrom}
+use Rattle.dump_additions.specs.declared.not_added.NotAdded.{NotAdded}
+use Rattle.dump_additions.specs.FirstNotAdded.{IsFirstNotAdded}
+use Rattle.dump_changes.specs.FileTexts.{record_texts}
+use Rattle.dump_changes.specs.ListedDumps.{AreListedIn, IsOutOfPlace, are_numbered, is_listed_copy, rise_from, without_number}
+use Rattle.dump_changes.specs.NodeProperties.{HaveNodeNumbers, property_blocks}
 use Rattle.dump_cut.specs.FollowedCopies.{ComeByFollowing}
 use Rattle.dump_cut.specs.FoundSiblings.{AreFoundSiblings}
 use Rattle.dump_cut.specs.NamedLines.{CoverMergeinfo}
 use Rattle.dump_cut.specs.LoadChecks.{IsFirstRefused}
 use Rattle.dump_cut.specs.TakenCopies.{IsFirstNotTaken, emptied_by}
 use Rattle.dump_cut.specs.TrimmedCopies.{AreDeletes, HasOddDelete, IsTrimmedBy}
+use Rattle.dump_cut.specs.declared.load_check.Refused.{Refused as RefusedChange}
+use Rattle.dump_expansion.specs.GivenSteads.{GivenStead, IsExpandedBy}
 use Rattle.cut_cli.specs.Words.{CutMeaning}
 use Rattle.cut_cli.specs.declared.examine.Obstacle.{Obstacle}
 use Rattle.cut_cli.specs.declared.examine.Obstacle.TheVariants.{ComesBack, OddDelete, Refused, Unread}
+use Rattle.cut_cli.specs.declared.examine.Obstacle.TheVariants as obstacles
 use Rattle.cut_cli.specs.declared.read.Unread.{Unread as UnreadDump}
 use Rattle.cut_cli.specs.declared.read.Unread.TheVariants as unread
 
@@ -50,16 +59,22 @@ use Rattle.cut_cli.specs.declared.read.Unread.TheVariants as unread
 abbrev pub AreListedButNumbers : List NodeChange → List Listed → Type 0
 AreListedButNumbers changes listed = map without_number (map listed_of changes) ≡ map without_number listed
 
--- an index of the changes of the dump says this of them. If its revisions aren't numbered 0, 1, 2 and so on, copies can have
--- the numbers of other revisions there: those of which a load takes them
-abbrev pub AreChangesOf : List ℕ → List Listed → Type 0
-AreChangesOf dump listed = ((changes : List NodeChange) × MakesListed dump changes × (map listed_of changes ≡ listed))
-    ⊎ ((changes : List NodeChange) × MakesListedByNumbers dump changes × AreListedButNumbers changes listed)
-
--- an index of these changes of records says this of them: all of it, if the revisions are numbered 0, 1, 2 and so on
+-- an index of these changes of records says this of them: all of it, if the revisions are numbered 0, 1, 2 and so on. If they
+-- aren't, copies can have the numbers of other revisions there: those of which a load takes them
 abbrev pub AreKnownAs : List DumpRecord → List NodeChange → List Listed → Type 0
 AreKnownAs records changes listed =
     MatchBool (are_numbered records) (map listed_of changes ≡ listed) (AreListedButNumbers changes listed)
+
+-- an index of the changes of the dump says this of them
+pub record AreChangesOf (dump : List ℕ) (listed : List Listed) : Type 0 where
+  pub records : List DumpRecord
+  pub changes : List NodeChange
+  pub whole : HasRecords dump records Ending.Whole
+  pub rise : IsTrue (rise_from 0 (revision_numbers records))
+  pub are_listed : AreListedIn records changes
+  pub numbers : HaveNodeNumbers records changes
+  pub known : AreKnownAs records changes listed
+  pub ordered : are_numbered records ≡ true → IsTrue (are_in_order 0 changes)
 
 -- the dump begins with records of whose first changes an index says this
 abbrev pub BeginsWithChanges : List ℕ → List Listed → Type 0
@@ -143,30 +158,90 @@ abbrev pub IsAskedBy : Side → CutMeaning → List ℕ → List Listed → List
 IsAskedBy Exclude m dump listed excluded = FollowsAsAsked m listed Way.ToCopies excluded
 IsAskedBy Include m dump listed excluded = LeavesIncluded m dump listed excluded
 
--- and nothing comes back of them
-pub record ExcludesAsAsked (m : CutMeaning) (dump : List ℕ) (listed : List Listed) (excluded : List NodePath) : Type 0 where
-  pub asked : IsAskedBy m.side m dump listed excluded
-  pub nothing_back : BringsNothingBack listed excluded
-
--- or something would come back
-abbrev pub Returns : CutMeaning → List ℕ → List Listed → Type 0
-Returns m dump listed =
-    (excluded : List NodePath) × IsAskedBy m.side m dump listed excluded × BringsSomeBack listed excluded
-
 -- a load takes all changes of the dump, as far as paths and kinds go
 abbrev pub IsTakenDump : List ℕ → List Listed → Type 0
 IsTakenDump dump listed = AreChangesOf dump listed × IsFirstRefused listed None
+
+-- what the filter reads
+
+-- the text is the dump with other nodes in place of each copy with which something excluded comes back
+pub record HasAdditionsFor (dump : List ℕ) (listed : List Listed) (excluded : List NodePath) (text : List ℕ) : Type 0 where
+  pub records : List DumpRecord
+  pub given : List GivenStead
+  pub whole : HasRecords dump records Ending.Whole
+  pub additions : AreAdditionsFrom (property_blocks records) (record_texts records) listed excluded 0 listed given
+  pub expanded : IsExpandedBy given dump text
+
+-- the filter reads the dump with additions, if there is one, in place of the dump
+abbrev pub text_read : Option (List ℕ) → List ℕ → List ℕ
+text_read expansion dump = unwrap_or expansion dump
+
+-- whether what copies bring back is written as additions: under include, and under exclude if the call asks to keep it
+abbrev pub writes_additions : Side → (keep : Bool) → Bool
+writes_additions Include keep = true
+writes_additions Exclude keep = keep
+
+-- the filter reads the dump, with these changes; or something comes back in the dump, which is written as additions, and it
+-- reads the dump with these
+abbrev pub IsReadFor : CutMeaning → List ℕ → List Listed → List NodePath → Option (List ℕ) → List Listed → Type 0
+IsReadFor m dump listed excluded None read = read ≡ listed
+IsReadFor m dump listed excluded (Some text) read =
+    (writes_additions m.side m.keep ≡ true) × BringsSomeBack listed excluded × HasAdditionsFor dump listed excluded text
+
+-- the call excludes these paths of the dump, and reads it, or one with additions: it loads, and nothing comes back there
+pub record ExcludesAsAsked (m : CutMeaning) (dump : List ℕ) (expansion : Option (List ℕ)) (excluded : List NodePath)
+    (read : List Listed) : Type 0 where
+  pub listed : List Listed
+  pub is_taken : IsTakenDump dump listed
+  pub asked : IsAskedBy m.side m dump listed excluded
+  pub is_read : IsReadFor m dump listed excluded expansion read
+  pub read_is_taken : IsTakenDump (text_read expansion dump) read
+  pub nothing_back : BringsNothingBack read excluded
+
+-- this is the first of the copies with which something comes back in place of which nothing can be written, for its reason
+abbrev pub IsNotAdded : List ℕ → List Listed → List NodePath → NotAdded → Type 0
+IsNotAdded dump listed excluded not_added = (records : List DumpRecord) × HasRecords dump records Ending.Whole
+    × IsFirstNotAdded (property_blocks records) (record_texts records) listed excluded not_added.place not_added.reason
+
+-- why a dump with additions isn't read: it can't be read, a load would reject it, or something comes back there too
+abbrev pub IsNotRead : Bool → List ℕ → List NodePath → Type 0
+IsNotRead drops text excluded = ((reason : UnreadDump) × IsUnreadFor drops text reason)
+    ⊎ (((listed : List Listed) × (refused : RefusedChange) × BeginsWithChanges text listed
+    × IsFirstRefused listed (Some refused))
+    ⊎ ((listed : List Listed) × IsTakenDump text listed × BringsSomeBack listed excluded))
+
+-- there is a dump with additions, and it isn't read
+abbrev pub AreAdditionsUnread : Bool → List ℕ → List Listed → List NodePath → Type 0
+AreAdditionsUnread drops dump listed excluded =
+    (text : List ℕ) × HasAdditionsFor dump listed excluded text × IsNotRead drops text excluded
+
+-- why what comes back stays: under exclude copies are not followed, and it isn't to be kept, or the dump with additions isn't
+-- read; under include that isn't read
+abbrev pub StaysBack : Side → CutMeaning → List ℕ → List Listed → List NodePath → Type 0
+StaysBack Exclude m dump listed excluded =
+    (m.follow ≡ false) × ((m.keep ≡ false) ⊎ AreAdditionsUnread m.drop dump listed excluded)
+StaysBack Include m dump listed excluded = AreAdditionsUnread m.drop dump listed excluded
+
+-- the call excludes these paths of a dump that loads, and copies bring something back of them
+pub record ExcludesWithReturns (m : CutMeaning) (dump : List ℕ) (listed : List Listed) (excluded : List NodePath) : Type 0
+  where
+    pub is_taken : IsTakenDump dump listed
+    pub asked : IsAskedBy m.side m dump listed excluded
+    pub some_back : BringsSomeBack listed excluded
 
 -- why nothing is written
 abbrev pub IsObstacleTo : CutMeaning → List ℕ → Obstacle → Type 0
 IsObstacleTo m dump (Unread reason) = IsUnreadFor m.drop dump reason
 IsObstacleTo m dump (Refused refused) = (listed : List Listed) × BeginsWithChanges dump listed
     × IsFirstRefused listed (Some refused)
-IsObstacleTo m dump ComesBack = (listed : List Listed) × IsTakenDump dump listed × Returns m dump listed
-    × (m.side ≡ Exclude → m.follow ≡ false)
-IsObstacleTo m dump (OddDelete place) = (listed : List Listed) × (excluded : List NodePath) × IsTakenDump dump listed
-    × ExcludesAsAsked m dump listed excluded
-    × ((placed : List Placed) → AllZip IsListed listed placed → HasOddDelete excluded (kinds_told_by listed) placed place)
+IsObstacleTo m dump ComesBack = (listed : List Listed) × (excluded : List NodePath)
+    × ExcludesWithReturns m dump listed excluded × StaysBack m.side m dump listed excluded
+IsObstacleTo m dump (obstacles.NotAdded not_added) = (listed : List Listed) × (excluded : List NodePath)
+    × ExcludesWithReturns m dump listed excluded × (writes_additions m.side m.keep ≡ true)
+    × IsNotAdded dump listed excluded not_added
+IsObstacleTo m dump (OddDelete place) = (expansion : Option (List ℕ)) × (excluded : List NodePath) × (read : List Listed)
+    × ExcludesAsAsked m dump expansion excluded read
+    × ((placed : List Placed) → AllZip IsListed read placed → HasOddDelete excluded (kinds_told_by read) placed place)
 
 -- the filter takes each change of a dump as it is; or it doesn't take the one at some place, and these paths are to be deleted
 -- behind its nodes
@@ -175,17 +250,13 @@ AreCopiesTaken excluded told placed None = IsFirstNotTaken excluded told placed 
 AreCopiesTaken excluded told placed (Some deletes) =
     AreDeletes excluded told placed deletes × ((place : ℕ) × IsFirstNotTaken excluded told placed (Some place))
 
--- these are the options of a filter that cuts the dump, and the paths to delete behind each node that it keeps: it excludes
--- these paths, leaves mergeinfo of them out, and keeps each revision with its number and properties; or it drops those that
--- lose all of their nodes, and renumbers. Without deletes it takes each change as it is
-pub record IsReadyFor (m : CutMeaning) (dump : List ℕ) (settings : Settings) (deletes : Option (List (List (List ℕ))))
-    : Type 0 where
-  pub listed : List Listed
-  pub excluded : List NodePath
-  pub is_taken : IsTakenDump dump listed
-  pub are_excluded : ExcludesAsAsked m dump listed excluded
-  pub copies : (placed : List Placed) → AllZip IsListed listed placed
-      → AreCopiesTaken excluded (kinds_told_by listed) placed deletes
+-- these are the options of a filter that cuts a dump with these changes, and the paths to delete after each node that it keeps: it
+-- excludes these paths, leaves mergeinfo of them out, and keeps each revision with its number and properties; or it drops those
+-- that lose all of their nodes, and renumbers. Without deletes it takes each change as it is
+pub record IsSetUp (m : CutMeaning) (excluded : List NodePath) (read : List Listed) (settings : Settings)
+    (deletes : Option (List (List (List ℕ)))) : Type 0 where
+  pub copies : (placed : List Placed) → AllZip IsListed read placed
+      → AreCopiesTaken excluded (kinds_told_by read) placed deletes
   pub apart : IsTrue (lie_apart excluded)
   pub excludes : ExcludesPaths settings excluded
   pub have_names : IsTrue (list_all has_node_names excluded)
@@ -193,6 +264,14 @@ pub record IsReadyFor (m : CutMeaning) (dump : List ℕ) (settings : Settings) (
   pub numbers : settings.renumber ≡ m.drop
   pub preserves : settings.preserve ≡ true
   pub skips : settings.skip_missing ≡ true
+
+-- so is the filter for what the call asks of the dump
+pub record IsReadyFor (m : CutMeaning) (dump : List ℕ) (expansion : Option (List ℕ)) (settings : Settings)
+    (deletes : Option (List (List (List ℕ)))) : Type 0 where
+  pub excluded : List NodePath
+  pub read : List Listed
+  pub are_excluded : ExcludesAsAsked m dump expansion excluded read
+  pub is_set_up : IsSetUp m excluded read settings deletes
 
 -- what is written
 
@@ -218,13 +297,14 @@ pub record IsClosureOf (way : Way) (trees : List Tree) (revisions : List (List C
   pub reached : (path : NodePath) → Covers paths path → IsInClosure way trees revisions first path
   pub least : (path : NodePath) → IsInClosure way trees revisions first path → Covers paths path
 
--- the excluded paths are the least set that has what the call names, and what copies bring of it elsewhere
+-- the excluded paths are what the call names, unless it follows copies; and they are the least set that has what the call names,
+-- and what copies bring of it elsewhere, unless the call keeps what copies bring back
 pub record ExcludesNamed (m : CutMeaning) (trees : List Tree) (revisions : List (List Change)) (excluded : List NodePath)
     : Type 0 where
   pub first : List NodePath
   pub named : AreNamed m.prefixes first
   pub unfollowed : m.follow ≡ false → excluded ≡ first
-  pub closure : IsClosureOf Way.ToCopies trees revisions first excluded
+  pub closure : m.keep ≡ false → IsClosureOf Way.ToCopies trees revisions first excluded
 
 -- the filter keeps a line of mergeinfo in the dump exactly if its path, as the load reads it, is in the cut. The path is in
 -- short form, as svnadmin writes it
@@ -254,33 +334,39 @@ abbrev pub IsCutAsAsked : Side → CutMeaning → Settings → List DumpRecord �
 IsCutAsAsked Exclude m settings records trees revisions excluded = ExcludesNamed m trees revisions excluded
 IsCutAsAsked Include m settings records trees revisions excluded = LeavesNamed m settings records trees revisions
 
--- the dump loads into an empty repository, and so does what is written of it: each revision has its own number and
--- properties, and the tree that it had, without the excluded paths. If the call drops revisions that lose all of their
--- nodes, this is true of the others under their new numbers. The excluded paths are what the call asks for; nothing that is
--- kept came from there. And all that is written comes of changes at paths that aren't excluded, also where no revision shows
--- it
+-- the dump loads into an empty repository, and so does what the filter reads of it: to the same trees, and its revisions have
+-- the same numbers and properties. So does what is written: each revision has its own number and properties, and the tree
+-- that it had, without the excluded paths. If the call drops revisions that lose all of their nodes, this is true of the
+-- others under their new numbers. The excluded paths are what the call asks for; nothing that is kept came from there. And all
+-- that is written comes of changes at paths that aren't excluded, also where no revision shows it
 pub record CutLoads (patched : Patching) (m : CutMeaning) (settings : Settings) (deletes : Option (List (List (List ℕ))))
-    (excluded : List NodePath) (dump : List ℕ) (records : List DumpRecord) (revisions : List (List Change)) (text : List ℕ)
-    : Type 0 where
+    (excluded : List NodePath) (read : List ℕ) (records again : List DumpRecord) (revisions : List (List Change))
+    (text : List ℕ) : Type 0 where
   pub trees : List Tree
   pub loads : LoadsAs patched root_alone records revisions trees
   pub as_asked : IsCutAsAsked m.side m settings records trees revisions excluded
-  pub nothing_back : NothingComesBack settings trees revisions
-  pub filters : LengthsFit settings records
-      → FiltersOrTrims deletes m.drop patched settings dump records revisions trees text
-  pub kept : LengthsFit settings records → ChangesComeOfKept patched settings records revisions text
-  pub numbered : m.drop ≡ false → LengthsFit settings records
-      → LoadsNumbered patched (TreeRestricts settings records) records trees text
-  pub renumbered : m.drop ≡ true → LengthsFit settings records
-      → LoadsNew patched settings (TreeRestricts settings records) records trees text
+  pub made : List (List Change)
+  pub reads : LoadsAs patched root_alone again made trees
+  pub same_numbers : revision_numbers again ≡ revision_numbers records
+  pub same_properties : (props : List (List Property)) → HaveRevisionProperties records props
+      → HaveRevisionProperties again props
+  pub nothing_back : NothingComesBack settings trees made
+  pub filters : LengthsFit settings again → FiltersOrTrims deletes m.drop patched settings read again made trees text
+  pub kept : LengthsFit settings again → ChangesComeOfKept patched settings again made text
+  pub numbered : m.drop ≡ false → LengthsFit settings again
+      → LoadsNumbered patched (TreeRestricts settings again) records trees text
+  pub renumbered : m.drop ≡ true → LengthsFit settings again
+      → LoadsNew patched settings (TreeRestricts settings again) again trees text
 
 -- the text is the cut of the dump, where text deltas apply, if it has some
-pub record IsCutText (m : CutMeaning) (settings : Settings) (deletes : Option (List (List (List ℕ)))) (dump text : List ℕ)
-    : Type 0 where
+pub record IsCutText (m : CutMeaning) (expansion : Option (List ℕ)) (settings : Settings)
+    (deletes : Option (List (List (List ℕ)))) (dump text : List ℕ) : Type 0 where
   pub excluded : List NodePath
   pub records : List DumpRecord
+  pub again : List DumpRecord
   pub excludes : ExcludesPaths settings excluded
   pub whole : HasRecords dump records Ending.Whole
+  pub whole_again : HasRecords (text_read expansion dump) again Ending.Whole
   pub loads : (patched : Patching) → (revisions : List (List Change)) × MakeRevisions patched records revisions
       × (IsTrue (all_apply root_alone (placed_from 1 revisions) (length (placed_from 1 revisions)))
-      → CutLoads patched m settings deletes excluded dump records revisions text)
+      → CutLoads patched m settings deletes excluded (text_read expansion dump) records again revisions text)

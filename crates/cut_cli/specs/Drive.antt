@@ -6,6 +6,7 @@ use Rattle.clap.specs.Walk.{is_empty}
 use Rattle.clap.specs.Words.{Text}
 use Rattle.dump_text.specs.FaultTable.{fault_code}
 use Rattle.dump_text.specs.declared.fault.FaultKind.{FaultKind}
+use Rattle.dump_records.specs.DumpText.{Ending, HasRecords}
 use Rattle.dump_records.specs.RecordText.{DumpRecord}
 use Rattle.dump_rules.specs.Settings.{Settings}
 use Rattle.dump_filter.specs.WholeText.{IsCleanText}
@@ -22,7 +23,7 @@ use Rattle.cli_support.specs.declared.info.Info.{Info}
 use Rattle.cli_support.specs.declared.usage.Usage.{Usage}
 use Rattle.dump_changes.specs.ListedDumps.{are_numbered}
 use Rattle.dump_cut.specs.TrimmedCopies.{IsTrimmedBy}
-use Rattle.cut_cli.specs.Cuts.{IsCutText, IsObstacleTo, IsReadyFor, IsTrimmedIf}
+use Rattle.cut_cli.specs.Cuts.{IsCutText, IsObstacleTo, IsReadyFor, IsTrimmedIf, text_read}
 use Rattle.cut_cli.specs.RevisionMap.{IsMapOfCut, TakesPartOfMap}
 use Rattle.cut_cli.specs.Texts.{info_text}
 use Rattle.cut_cli.specs.Words.{CutMeaning, TellsCut, asked_map, cut_meaning, with_texts_of}
@@ -40,6 +41,7 @@ obstacle_status (obstacles.Unread _) = 1
 obstacle_status (obstacles.Refused _) = 1
 obstacle_status obstacles.ComesBack = 3
 obstacle_status (obstacles.OddDelete _) = 1
+obstacle_status (obstacles.NotAdded _) = 1
 
 -- the line after the records before a fault: no reader of dumps takes it for a record
 abbrev pub stop_line : FaultKind → List ℕ
@@ -121,17 +123,21 @@ WritesIfAsked m settings deletes dump old new map_old map_new status = MatchBool
     (WritesBoth (asked_map m) settings deletes dump None None map_old map_new status × Keeps old new)
     (WritesBoth (asked_map m) settings deletes dump old new map_old map_new status)
 
--- if the revisions of the dump are numbered 0, 1, 2 and so on: what the filter writes of it, with these deletes, is its cut
-abbrev pub CleanTextsAreCuts : CutMeaning → Settings → Option (List (List (List ℕ))) → List ℕ → Type 0
-CleanTextsAreCuts m settings deletes dump = (records : List DumpRecord) (filtered text : List ℕ) →
-    IsCleanText settings dump records filtered → are_numbered records ≡ true → IsTrimmedIf deletes filtered text
-    → IsCutText m settings deletes dump text
+-- if the revisions of the dump are numbered 0, 1, 2 and so on: what the filter writes of what it reads, with these deletes, is the
+-- cut of the dump
+abbrev pub CleanTextsAreCuts : CutMeaning → Option (List ℕ) → Settings → Option (List (List (List ℕ))) → List ℕ → Type 0
+CleanTextsAreCuts m expansion settings deletes dump =
+    (records again : List DumpRecord) (filtered text : List ℕ) →
+    HasRecords dump records Ending.Whole → are_numbered records ≡ true
+    → IsCleanText settings (text_read expansion dump) again filtered → IsTrimmedIf deletes filtered text
+    → IsCutText m expansion settings deletes dump text
 
 -- a dump is cut; or nothing is written, for an obstacle or out of memory
 abbrev pub CutsDump : CutMeaning → List ℕ → (old new map_old map_new : Option (List ℕ)) → ℕ → Type 0
 CutsDump m dump old new map_old map_new status =
-    ((settings : Settings) × (deletes : Option (List (List (List ℕ)))) × IsReadyFor m dump settings deletes
-    × CleanTextsAreCuts m settings deletes dump × WritesIfAsked m settings deletes dump old new map_old map_new status)
+    ((expansion : Option (List ℕ)) × (settings : Settings) × (deletes : Option (List (List (List ℕ))))
+    × IsReadyFor m dump expansion settings deletes × CleanTextsAreCuts m expansion settings deletes dump
+    × WritesIfAsked m settings deletes (text_read expansion dump) old new map_old map_new status)
     ⊎ ((obstacle : Obstacle) × IsObstacleTo m dump obstacle × Keeps old new × Keeps map_old map_new
     × (status ≡ obstacle_status obstacle))
     ⊎ (Keeps old new × Keeps map_old map_new × (status ≡ 1))

@@ -4,6 +4,7 @@ use Rattle.std.specs.List.{list_any}
 use Rattle.clap.specs.Walk.{is_empty}
 use Rattle.clap.specs.Words.{Row, Text, all_of, first_of}
 use Rattle.dump_rules.specs.declared.options.Side.{Side}
+use Rattle.dump_rules.specs.declared.options.Side.TheVariants.{Exclude, Include}
 use Rattle.dump_pipeline.specs.PlanViews.{worker_count, window_size}
 use Rattle.cli_support.specs.Targets.{prefixes_of_texts}
 use Rattle.cli_support.specs.Arguments.{Answers, flag_number, is_set, meaning_in}
@@ -13,14 +14,15 @@ use Rattle.cut_cli.specs.CommandLine.{cut_command}
 use Rattle.cut_cli.specs.declared.words.Call.{Call}
 
 -- what a call asks for: a side, prefixes, files with more of them, the file of a map of revisions, whether copies are
--- followed, whether emptied revisions are dropped, whether nothing is written, what is reported, how many workers there
--- are, and how wide their window is
+-- followed, whether what copies bring back is kept, whether emptied revisions are dropped, whether nothing is written, what is
+-- reported, how many workers there are, and how wide their window is
 pub record CutMeaning : Type 0 where
   pub side : Side
   pub prefixes : List Text
   pub targets : List Text
   pub map_name : Option Text
   pub follow : Bool
+  pub keep : Bool
   pub drop : Bool
   pub dry_run : Bool
   pub quiet : Bool
@@ -35,6 +37,7 @@ cut_meaning call = record {
   targets = map (λ name. name.now) call.targets.items;
   map_name = option_map (λ name. name.now) call.map_name;
   follow = call.follow;
+  keep = call.keep;
   drop = call.drop;
   dry_run = call.dry_run;
   quiet = call.quiet;
@@ -51,19 +54,27 @@ prefixes_in rows = unwrap_or (all_of (codes "PREFIX") rows) []
 abbrev pub targets_in : List Row → List Text
 targets_in rows = unwrap_or (all_of (codes "targets") rows) []
 
--- whether the rows have no prefix and no file, or an empty prefix, or options that contradict each other
-abbrev pub are_refused : List Row → Bool
-are_refused rows = (is_empty (prefixes_in rows) && is_empty (targets_in rows))
-    || (list_any is_empty (prefixes_in rows) || (is_set (codes "quiet") rows && is_set (codes "verbose") rows))
+-- whether what copies bring back is to be kept by a call that isn't for exclude, or that follows copies
+abbrev pub keeps_wrongly : Side → (keep follow : Bool) → Bool
+keeps_wrongly Include keep follow = keep
+keeps_wrongly Exclude keep follow = keep && follow
+
+-- whether the rows have no prefix and no file, or an empty prefix, or options that contradict each other or the side
+abbrev pub are_refused : Side → List Row → Bool
+are_refused side rows = (is_empty (prefixes_in rows) && is_empty (targets_in rows))
+    || (list_any is_empty (prefixes_in rows)
+    || ((is_set (codes "quiet") rows && is_set (codes "verbose") rows)
+    || keeps_wrongly side (is_set (codes "keep-copies") rows) (is_set (codes "follow-copies") rows)))
 
 -- what a side and its rows ask for
 abbrev pub cut_of_side : Side → List Row → Result CutMeaning Usage
-cut_of_side side rows = if are_refused rows then Err Words else Ok (record {
+cut_of_side side rows = if are_refused side rows then Err Words else Ok (record {
   side = side;
   prefixes = prefixes_in rows;
   targets = targets_in rows;
   map_name = first_of (codes "map") rows;
   follow = is_set (codes "follow-copies") rows;
+  keep = is_set (codes "keep-copies") rows;
   drop = is_set (codes "drop-empty-revs") rows;
   dry_run = is_set (codes "dry-run") rows;
   quiet = is_set (codes "quiet") rows;

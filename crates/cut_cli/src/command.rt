@@ -14,6 +14,7 @@ pub fn cut_command<'a>(alloc: Global) -> Result<Command<'a>, AllocError>
     Command::new(alloc, "svndumpcut")
         .disable_help_flag(true)
         .arg(switch(alloc, "follow-copies"))?
+        .arg(switch(alloc, "keep-copies"))?
         .arg(switch(alloc, "drop-empty-revs"))?
         .arg(switch(alloc, "dry-run"))?
         .arg(switch(alloc, "quiet"))?

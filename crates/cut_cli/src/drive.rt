@@ -5,11 +5,14 @@ ghost use Rattle.dump_writer.specs.steps.SinkStates.{lent_taken, loan_of};
 ghost use Rattle.cut_cli.specs.Drive.{AnswersArguments, AnswersCall, AnswersWhole, CutsDump, CutsInput, DrivesCut, RanCut, ReadsTargets, TakesPart, WritesBoth, WritesCut, stop_line, stop_line_of, obstacle_status, cut_status};
 ghost use Rattle.cli_support.specs.Info.{info_of};
 ghost use Rattle.cut_cli.specs.Words.{asked_map, cut_of_words, cut_meaning};
+ghost use Rattle.cut_cli.specs.Cuts.{text_read};
+ghost use Rattle.cut_cli.specs.steps.Examined.{expansion_text};
 ghost use Rattle.cut_cli.specs.steps.Ended.{TellsAfter};
 
 use crate::examine::{Obstacle, Ready, examine};
+use crate::expansion::Expansion;
 use crate::faults::write_fault;
-use crate::lines::write_report;
+use crate::lines::{Counts, write_report};
 use crate::map::{begin_map, end_map};
 use crate::mistakes::{Mistake, write_mistake, write_no_file};
 use crate::spot::first_revision;
@@ -242,13 +245,14 @@ fn write_cut<H: Threads + Wait + Sync, W: Write, M: NamedOutput, E: Write>(
     map_file: &mut M,
     errors: &mut E,
 ) -> u8
-    ensures { WritesBoth (asked_map (cut_meaning call.now)) ready.now.options ready.now.deletes dump.now (W.contents writer.old) (W.contents writer.new) (M.contents map_file.old) (M.contents map_file.new) result }
+    ensures { WritesBoth (asked_map (cut_meaning call.now)) ready.now.options ready.now.deletes (text_read (expansion_text ready.now.expansion) dump.now) (W.contents writer.old) (W.contents writer.new) (M.contents map_file.old) (M.contents map_file.new) result }
 {
-    let answer = filter_cut(rt, alloc, dump, call.plan, ready, writer);
+    let text = ready.text(dump);
+    let answer = filter_cut(rt, alloc, text, call.plan, ready, writer);
     let Answer::Clean(_) = answer else {
         return tell(errors, dump, answer, call.quiet, ready);
     };
-    if !end_map(alloc, dump, &ready.options, call, map_file, errors) {
+    if !end_map(alloc, text, &ready.options, call, map_file, errors) {
         return 1;
     }
     tell(errors, dump, answer, call.quiet, ready)
@@ -385,12 +389,18 @@ fn tell<E: Write>(errors: &mut E, dump: &[u8], answer: Answer, quiet: bool, read
             if !quiet {
                 let deleted = count_deletes(&ready.deletes);
                 let youngest = youngest(dump, report.revisions_kept);
-                let _ = write_report(errors, report, youngest, ready.emptied, deleted);
+                let more = Counts {
+                    youngest,
+                    emptied: ready.emptied,
+                    deleted,
+                    written: written(&ready.expansion),
+                };
+                let _ = write_report(errors, report, more);
             }
             0
         }
         Answer::Fault { kind, number, .. } => {
-            let _ = write_fault(errors, dump, kind, number);
+            let _ = write_fault(errors, dump, kind, given_number(&ready.expansion, number));
             1
         }
         Answer::Failed { failure, written } => fail(errors, PROGRAM, cause(failure), written),
@@ -414,6 +424,22 @@ fn count_deletes(deletes: &Option<Deletes>) -> usize {
         }
     }
     count
+}
+
+/// How many nodes of the dump are replaced, and how many are in their place.
+fn written(expansion: &Option<Expansion>) -> Option<(usize, usize)> {
+    match expansion {
+        Some(expansion) => Some((expansion.replaced.len(), expansion.nodes())),
+        None => None,
+    }
+}
+
+/// The number of the record of the dump, where the filter read the record with this number.
+fn given_number(expansion: &Option<Expansion>, number: u64) -> u64 {
+    match expansion {
+        Some(expansion) => expansion.given_number(number),
+        None => number,
+    }
 }
 
 /// How the line of a failure names it.

@@ -1,31 +1,29 @@
 //! What is found out of a dump before anything is written.
-ghost use Rattle.std.specs.Prelude.{◌≡◌, ℕ, List, IfOk, IsTrue, MatchBool, MatchOption};
+ghost use Rattle.std.specs.Prelude.{◌≡◌, List, IfOk, IsTrue};
 ghost use Rattle.std.specs.List.{AllZip, list_all};
 ghost use Rattle.dump_index.specs.IndexLaws.{IsListed};
 ghost use Rattle.dump_index.specs.ToldKinds.{kinds_told_by};
 ghost use Rattle.dump_trees.specs.Looking.{Placed};
 ghost use Rattle.dump_cut.specs.NamedPaths.{has_named_paths};
 ghost use Rattle.dump_cut.specs.steps.ExcludedPaths.{paths_of};
-ghost use Rattle.cut_cli.specs.Cuts.{AreNamed, BringsNothingBack, BringsSomeBack, ExcludesAsAsked, FollowsAsAsked, IsAskedBy, IsTakenDump, LeavesIncluded, Returns};
 ghost use Rattle.dump_cut.specs.steps.Returned.{way_meant};
-ghost use Rattle.cut_cli.specs.steps.Examined.{AreDeletesIfAny};
+ghost use Rattle.cut_cli.specs.Cuts.{AreNamed, BringsSomeBack, FollowsAsAsked, IsAskedBy, IsTakenDump, LeavesIncluded, text_read};
 ghost use Rattle.cut_cli.specs.Words.{cut_meaning};
-ghost use Rattle.cut_cli.specs.steps.Examined.{IsExamined, IsFrontOf};
+ghost use Rattle.cut_cli.specs.steps.Examined.{AreDeletesIfAny, IsExamined, IsExpandedToCut, IsFrontOf, IsPrepared, expansion_text};
 
-use crate::faults::{write_refused, write_unread};
-use crate::lines::{
-    shown, write_advice, write_deletes, write_odd_delete, write_places, write_returns,
-    write_siblings,
-};
+use crate::expansion::{Expansion, front_to_cut, returns_of, with_additions};
+use crate::faults::{write_not_added, write_refused, write_unread};
+use crate::lines::{write_advice, write_deletes, write_odd_delete, write_places, write_siblings};
 use crate::own_lives::report_additions;
 use crate::parents::report_parents;
 use crate::prefixes::report_prefixes;
 use crate::read::{Front, Unread, read_front};
-use crate::sizes::sizes_of;
 use crate::words::Call;
+use crate::written::{list_returns, report_replaced, report_written};
+use dump_additions::NotAdded;
 use dump_changes::Memory;
 use dump_cut::{
-    Deletes, Excluded, PlacedRest, Refused, Way, add_named_siblings, all_followed, find_siblings,
+    Deletes, Excluded, PlacedRest, Refused, Way, add_named_siblings, find_siblings,
     first_not_taken, first_refused, follow,
 };
 use dump_index::{ChangeIndex, NodeChange};
@@ -44,6 +42,8 @@ pub enum Obstacle {
     ComesBack,
     /// The change at this place is a copy, after which a path would have to be deleted that no line of a dump can hold.
     OddDelete(usize),
+    /// Nothing can be written in place of a copy that comes from a path that isn't included.
+    NotAdded(NotAdded),
 }
 
 /// How a dump is cut.
@@ -55,6 +55,28 @@ pub struct Ready {
     pub deletes: Option<Deletes>,
     /// How many revisions stay that have changes, and all of them at excluded paths.
     pub emptied: u64,
+    /// What the filter reads in place of the dump, if something excluded comes back there.
+    pub expansion: Option<Expansion>,
+}
+
+impl Ready {
+    /// What the filter reads.
+    pub fn text<'a>(&'a self, dump: &'a [u8]) -> &'a [u8]
+        ensures { result.now ≡ text_read (expansion_text self.now.expansion) dump.now }
+    {
+        match &self.expansion {
+            Some(expansion) => &expansion.text,
+            None => dump,
+        }
+    }
+}
+
+/// The paths that a call excludes.
+#[derive(Drop)]
+pub(crate) struct Asked {
+    pub excluded: Excluded,
+    /// The paths that it includes, under include.
+    pub included: Option<Excluded>,
 }
 
 /// How many revisions have changes, and all of them at excluded paths.
@@ -97,8 +119,8 @@ fn count_additions(alloc: Global, index: &ChangeIndex<'_>, call: &Call<'_>) -> R
     Ok(additions.len())
 }
 
-/// Lists what copies bring back.
-fn list_returns<E: Write>(
+/// Reports what copies would bring back.
+fn report_returns<E: Write>(
     alloc: Global,
     dump: &[u8],
     index: &ChangeIndex<'_>,
@@ -109,39 +131,17 @@ fn list_returns<E: Write>(
 ) -> Result<(), Memory>
     requires { IsTrue (list_all has_named_paths index.now) }
 {
-    let most = shown(call).min(returns.len());
-    let sizes = sizes_of(alloc, dump, index, excluded, &returns[..most])?;
-    let _ = write_returns(errors, index.changes(), returns, &sizes);
+    let _ = write_places(errors, call, returns.len());
+    if call.quiet {
+        return Ok(());
+    }
+    list_returns(alloc, dump, index, excluded, call, returns, errors)?;
     if call.follow {
         return Ok(());
     }
     let count = count_additions(alloc, index, call)?;
-    let _ = write_advice(errors, call.side, count);
+    let _ = write_advice(errors, call, count);
     Ok(())
-}
-
-/// Whether copies bring back some of what is excluded. It reports them.
-fn brings_back<E: Write>(
-    alloc: Global,
-    dump: &[u8],
-    index: &ChangeIndex<'_>,
-    excluded: &Excluded,
-    call: &Call<'_>,
-    errors: &mut E,
-) -> Result<bool, Memory>
-    requires { IsTrue (list_all has_named_paths index.now) }
-    ensures { IfOk result (λ found. MatchBool found (BringsSomeBack index.now (paths_of excluded.now))
-        (BringsNothingBack index.now (paths_of excluded.now))) }
-{
-    let returns = all_followed(alloc, index, excluded, Way::ToCopies)?;
-    if returns.is_empty() {
-        return Ok(false);
-    }
-    let _ = write_places(errors, call, returns.len());
-    if !call.quiet {
-        list_returns(alloc, dump, index, excluded, call, &returns, errors)?;
-    }
-    Ok(true)
 }
 
 /// The paths that the call names, and those to which copies are followed from there, if it asks for that. It reports these.
@@ -171,30 +171,36 @@ fn leave_included<E: Write>(
     index: &ChangeIndex<'_>,
     call: &Call<'_>,
     errors: &mut E,
-) -> Result<Excluded, Memory>
+) -> Result<Asked, Memory>
     requires { IsTrue (list_all has_named_paths index.now) }
-    ensures { IfOk result (λ excluded. LeavesIncluded (cut_meaning call.now) dump.now index.now (paths_of excluded)) }
+    ensures { IfOk result (λ asked. LeavesIncluded (cut_meaning call.now) dump.now index.now (paths_of asked.excluded)) }
 {
     let included = followed(alloc, index, call, Way::ToSources, errors)?;
     let mut siblings = find_siblings(alloc, index, &included)?;
     add_named_siblings(alloc, dump, &included, &mut siblings)?;
     report_parents(alloc, index, &included, errors)?;
-    Ok(siblings)
+    Ok(Asked {
+        excluded: siblings,
+        included: Some(included),
+    })
 }
 
 /// The paths that the call excludes.
-fn asked<E: Write>(
+fn ask_paths<E: Write>(
     alloc: Global,
     dump: &[u8],
     index: &ChangeIndex<'_>,
     call: &Call<'_>,
     errors: &mut E,
-) -> Result<Excluded, Memory>
+) -> Result<Asked, Memory>
     requires { IsTrue (list_all has_named_paths index.now) }
-    ensures { IfOk result (λ excluded. IsAskedBy call.now.side (cut_meaning call.now) dump.now index.now (paths_of excluded)) }
+    ensures { IfOk result (λ asked. IsAskedBy call.now.side (cut_meaning call.now) dump.now index.now (paths_of asked.excluded)) }
 {
     match call.side {
-        Side::Exclude => followed(alloc, index, call, Way::ToCopies, errors),
+        Side::Exclude => Ok(Asked {
+            excluded: followed(alloc, index, call, Way::ToCopies, errors)?,
+            included: None,
+        }),
         Side::Include => leave_included(alloc, dump, index, call, errors),
     }
 }
@@ -211,26 +217,6 @@ fn report_siblings<E: Write>(
         let _ = write_siblings(errors, &paths);
     }
     Ok(())
-}
-
-/// The paths that the call excludes; none if copies would bring some of it back. It reports what copies bring.
-fn exclude<E: Write>(
-    alloc: Global,
-    dump: &[u8],
-    index: &ChangeIndex<'_>,
-    call: &Call<'_>,
-    errors: &mut E,
-) -> Result<Option<Excluded>, Memory>
-    requires { IsTrue (list_all has_named_paths index.now) }
-    ensures { IfOk result (λ found. MatchOption found (Returns (cut_meaning call.now) dump.now index.now)
-        (λ excluded. ExcludesAsAsked (cut_meaning call.now) dump.now index.now (paths_of excluded))) }
-{
-    let excluded = asked(alloc, dump, index, call, errors)?;
-    if brings_back(alloc, dump, index, &excluded, call, errors)? {
-        return Ok(None);
-    }
-    report_siblings(alloc, &excluded, call, errors)?;
-    Ok(Some(excluded))
 }
 
 /// The paths to delete after each kept change; none if each copy loses nothing. It reports them.
@@ -271,10 +257,9 @@ fn prepare<E: Write>(
     errors: &mut E,
 ) -> Result<Result<Ready, Obstacle>, Memory>
     requires { IsTrue (list_all has_named_paths index.now) }
-    ensures { IfOk result (λ found. (dump : List ℕ) → IsTakenDump dump index.now
-        → ExcludesAsAsked (cut_meaning call.now) dump index.now (paths_of excluded.now)
-        → IsExamined (cut_meaning call.now) dump found) }
+    ensures { IfOk result (IsPrepared (cut_meaning call.now) (paths_of excluded.now) index.now) }
 {
+    report_siblings(alloc, excluded, call, errors)?;
     let deletes = match look_for_deletes(alloc, index, excluded, call, errors)? {
         Ok(deletes) => deletes,
         Err(place) => return Ok(Err(Obstacle::OddDelete(place))),
@@ -289,7 +274,73 @@ fn prepare<E: Write>(
         options,
         deletes,
         emptied,
+        expansion: None,
     }))
+}
+
+/// How a dump with additions is cut, in place of one where this comes back of what the call excludes; none if that can't be. It
+/// reports what is added.
+fn prepare_expanded<E: Write>(
+    alloc: Global,
+    dump: &[u8],
+    index: &ChangeIndex<'_>,
+    asked: &Asked,
+    call: &Call<'_>,
+    returns: &[PlacedRest<'_>],
+    errors: &mut E,
+) -> Result<Option<Result<Ready, Obstacle>>, Memory>
+    requires named { IsTrue (list_all has_named_paths index.now) }
+    requires taken { IsTakenDump dump.now index.now }
+    ensures { IfOk result (IsExpandedToCut (cut_meaning call.now) dump.now index.now (paths_of asked.now.excluded)) }
+{
+    let excluded = &asked.excluded;
+    let expansion = match with_additions(alloc, dump, index, excluded)? {
+        Ok(expansion) => expansion,
+        Err(not_added) => {
+            let _ = write_not_added(errors, dump, index.changes(), not_added);
+            return Ok(Some(Err(Obstacle::NotAdded(not_added))));
+        }
+    };
+    let found = {
+        let Some(front) = front_to_cut(alloc, &expansion.text, excluded, call.drop)? else {
+            return Ok(None);
+        };
+        report_written(alloc, dump, index, asked, call, returns, errors)?;
+        prepare(alloc, &front.index, excluded, call, errors)?
+    };
+    match found {
+        Ok(mut ready) => {
+            report_replaced(index, &expansion, call, errors);
+            ready.expansion = Some(expansion);
+            Ok(Some(Ok(ready)))
+        }
+        Err(obstacle) => Ok(Some(Err(obstacle))),
+    }
+}
+
+/// Looks at the changes of a dump that loads, where this comes back of what the call excludes.
+fn examine_returns<E: Write>(
+    alloc: Global,
+    dump: &[u8],
+    index: &ChangeIndex<'_>,
+    asked: &Asked,
+    call: &Call<'_>,
+    returns: &[PlacedRest<'_>],
+    errors: &mut E,
+) -> Result<Result<Ready, Obstacle>, Memory>
+    requires named { IsTrue (list_all has_named_paths index.now) }
+    requires taken { IsTakenDump dump.now index.now }
+    requires asked { IsAskedBy call.now.side (cut_meaning call.now) dump.now index.now (paths_of asked.now.excluded) }
+    requires back { BringsSomeBack index.now (paths_of asked.now.excluded) }
+    ensures { IfOk result (IsExamined (cut_meaning call.now) dump.now) }
+{
+    if call.side == Side::Include || call.keep {
+        if let Some(found) = prepare_expanded(alloc, dump, index, asked, call, returns, errors)? {
+            return Ok(found);
+        }
+    }
+    report_returns(alloc, dump, index, &asked.excluded, call, returns, errors)?;
+    Ok(Err(Obstacle::ComesBack))
 }
 
 /// Looks at the changes of a dump that loads.
@@ -305,10 +356,12 @@ fn examine_changes<E: Write>(
     ensures { IfOk result (IsExamined (cut_meaning call.now) dump.now) }
 {
     report_prefixes(alloc, dump, index, call, errors)?;
-    match exclude(alloc, dump, index, call, errors)? {
-        Some(excluded) => prepare(alloc, index, &excluded, call, errors),
-        None => Ok(Err(Obstacle::ComesBack)),
+    let asked = ask_paths(alloc, dump, index, call, errors)?;
+    let returns = returns_of(alloc, index, &asked.excluded)?;
+    if returns.is_empty() {
+        return prepare(alloc, index, &asked.excluded, call, errors);
     }
+    examine_returns(alloc, dump, index, &asked, call, &returns, errors)
 }
 
 /// Looks at the changes of a dump up to the record at which its reading stops: the first change that a load would

@@ -2,6 +2,7 @@
 use crate::lines::{write_path, write_source};
 use crate::read::Unread;
 use crate::spot::{Spot, first_revision, spot_of};
+use dump_additions::{NotAdded, Reason};
 use dump_cut::{Refusal, Refused};
 use dump_digest::properties_of;
 use dump_index::NodeChange;
@@ -137,6 +138,40 @@ pub fn write_fault<E: Write>(
 ) -> io::Result<()> {
     let spot = spot_of(dump, number);
     write_fault_at(errors, kind.code(), fault_text(kind), spot)
+}
+
+/// Says why nothing can be written in place of a copy.
+pub fn write_not_added<E: Write>(
+    errors: &mut E,
+    dump: &[u8],
+    changes: &[NodeChange<'_>],
+    not_added: NotAdded,
+) -> io::Result<()> {
+    let place = match not_added.reason {
+        Reason::Delta(place) => place,
+        Reason::NoLoad | Reason::NotWritable => not_added.place,
+    };
+    let Some(change) = changes.get(place) else {
+        return Ok(());
+    };
+    let spot = spot_of(dump, change.record_number);
+    match not_added.reason {
+        Reason::Delta(_) => write_fault_at(
+            errors,
+            32,
+            "stored as a delta and needed in full: dump with svnadmin dump, without --deltas (load an svnrdump dump first)",
+            spot,
+        ),
+        // the load check comes first, so no such copy gets here
+        Reason::NoLoad => write_rejection(errors, dump, Refusal::NoSource, spot),
+        Reason::NotWritable => {
+            write_copied(errors, spot)?;
+            writeln!(
+                errors,
+                "this copy can't be written as additions: a path, a digest or the name of a property has a byte that no line can hold, or a number is too large"
+            )
+        }
+    }
 }
 
 /// Writes the line of a node that makes no known change.

@@ -199,14 +199,18 @@ pub fn write_returns<E: Write>(
     write_rest(errors, returns.len(), sizes.len())
 }
 
-/// Says how many paths `--follow-copies` excludes, or includes.
-pub fn write_advice<E: Write>(errors: &mut E, side: Side, additions: usize) -> io::Result<()> {
-    match side {
+/// Says how many paths `--follow-copies` excludes, or includes, and that `--keep-copies` keeps what would come back.
+pub fn write_advice<E: Write>(errors: &mut E, call: &Call<'_>, additions: usize) -> io::Result<()> {
+    match call.side {
         Side::Exclude => write!(errors, "use --follow-copies to exclude these too, ")?,
         Side::Include => write!(errors, "use --follow-copies to include the sources too, ")?,
     }
     write_count(errors, additions, "path")?;
-    writeln!(errors, " in all")
+    write!(errors, " in all")?;
+    if call.side == Side::Exclude && !call.keep {
+        write!(errors, ", or --keep-copies to keep them")?;
+    }
+    writeln!(errors, "")
 }
 
 /// Writes the line of a path to which a copy is followed: of one that is excluded, what is copied there; of one that is
@@ -307,7 +311,7 @@ pub fn write_deletes<E: Write>(
             write_copy(errors, change, source)?;
             write!(errors, ": ")?;
             write_count(errors, paths.len(), "path")?;
-            writeln!(errors, " deleted behind the copy")?;
+            writeln!(errors, " deleted after the copy")?;
         }
     }
     Ok(())
@@ -326,7 +330,7 @@ pub fn write_odd_delete<E: Write>(
     write_copy(errors, change, source)?;
     writeln!(
         errors,
-        ": a path that has to be deleted behind the copy has a line feed or a zero byte"
+        ": a path that has to be deleted after the copy has a line feed or a zero byte"
     )
 }
 
@@ -356,14 +360,69 @@ pub fn write_file_parent<E: Write>(errors: &mut E, path: &[u8], revision: u64) -
     )
 }
 
-/// Writes the counts of a run. A load gives the last revision the number of the youngest.
-pub fn write_report<E: Write>(
+/// Says that copies bring excluded content back, which is kept.
+pub fn write_kept<E: Write>(errors: &mut E, count: usize) -> io::Result<()> {
+    write!(errors, "copies bring excluded content back, in ")?;
+    write_count(errors, count, "place")?;
+    writeln!(errors, " (--keep-copies)")
+}
+
+/// Says that copies are written as additions, since their sources aren't included.
+pub fn write_written<E: Write>(errors: &mut E, count: usize) -> io::Result<()> {
+    if count == 1 {
+        return writeln!(
+            errors,
+            "1 copy is written as an addition, because its source is not included; --follow-copies includes it"
+        );
+    }
+    write_grouped(errors, count)?;
+    writeln!(
+        errors,
+        " copies are written as additions, because their sources are not included; --follow-copies includes them"
+    )
+}
+
+/// Says how many copies of parents of prefixes are written as additions.
+pub fn write_written_parents<E: Write>(errors: &mut E, count: usize) -> io::Result<()> {
+    write!(
+        errors,
+        "copies of parents of prefixes that are written as additions: "
+    )?;
+    write_grouped(errors, count)?;
+    writeln!(errors, "")
+}
+
+/// Says how many nodes are written in place of the copy at this place.
+pub fn write_replaced<E: Write>(
     errors: &mut E,
-    report: Report,
-    youngest: u64,
-    emptied: u64,
-    deleted: usize,
+    changes: &[NodeChange<'_>],
+    place: usize,
+    nodes: usize,
 ) -> io::Result<()> {
+    let Some((change, source)) = source_at(changes, place) else {
+        return Ok(());
+    };
+    write_copy(errors, change, source)?;
+    write!(errors, ": written as ")?;
+    write_count(errors, nodes, "node")?;
+    writeln!(errors, "")
+}
+
+/// What is counted beside what the filter counts.
+#[derive(Clone, Copy)]
+pub struct Counts {
+    /// The number that a load gives the last revision.
+    pub youngest: u64,
+    /// How many revisions stay that lose all of their nodes.
+    pub emptied: u64,
+    /// How many paths are deleted after copies.
+    pub deleted: usize,
+    /// How many nodes of the dump are replaced, and how many are in their place.
+    pub written: Option<(usize, usize)>,
+}
+
+/// Writes the counts of a run.
+pub fn write_report<E: Write>(errors: &mut E, report: Report, counts: Counts) -> io::Result<()> {
     let Report {
         revisions_kept,
         revisions_dropped,
@@ -371,6 +430,12 @@ pub fn write_report<E: Write>(
         nodes_dropped,
         texts_checked,
     } = report;
+    let Counts {
+        youngest,
+        emptied,
+        deleted,
+        written,
+    } = counts;
     write!(errors, "revisions kept {revisions_kept}")?;
     if emptied > 0 {
         write!(errors, " ({emptied} of them emptied)")?;
@@ -380,10 +445,15 @@ pub fn write_report<E: Write>(
         write!(errors, " (the youngest is now r{youngest})")?;
     }
     write!(errors, "; nodes kept {nodes_kept}, dropped {nodes_dropped}")?;
+    if let Some((replaced, nodes)) = written {
+        write!(errors, "; ")?;
+        write_count(errors, replaced, "node")?;
+        write!(errors, " written as {nodes}")?;
+    }
     if deleted > 0 {
         write!(errors, "; ")?;
         write_count(errors, deleted, "path")?;
-        write!(errors, " deleted behind copies")?;
+        write!(errors, " deleted after copies")?;
     }
     writeln!(errors, "; texts checked {texts_checked}")
 }

@@ -4,6 +4,7 @@
 mod command;
 mod drive;
 mod examine;
+mod expansion;
 mod faults;
 mod lines;
 mod map;
@@ -17,6 +18,7 @@ mod spot;
 mod texts;
 mod trim;
 mod words;
+mod written;
 
 use cli_support::{NewFile, Usage, arguments, as_texts, input_size, refuse};
 use drive::{PROGRAM, drive};

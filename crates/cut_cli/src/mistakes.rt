@@ -21,6 +21,10 @@ pub enum Mistake<'a> {
     EmptyPrefix,
     /// Two options exclude each other.
     QuietAndVerbose,
+    /// The side is include, and what copies bring back is to be kept.
+    KeepUnderInclude,
+    /// Copies are to be followed, and what they bring back is to be kept.
+    KeepAndFollow,
     /// An argument is not UTF-8.
     NotText,
 }
@@ -41,6 +45,16 @@ fn write_text<E: Write>(errors: &mut E, mistake: Mistake<'_>) -> io::Result<()> 
         ),
         Mistake::EmptyPrefix => write!(errors, "a prefix is empty; the root is /"),
         Mistake::QuietAndVerbose => write!(errors, "--quiet and --verbose exclude each other"),
+        Mistake::KeepUnderInclude => write!(
+            errors,
+            "--keep-copies is for exclude alone; include always keeps what copies bring to included paths"
+        ),
+        Mistake::KeepAndFollow => {
+            write!(
+                errors,
+                "--keep-copies and --follow-copies exclude each other"
+            )
+        }
         Mistake::NotText => write!(errors, "an argument is not UTF-8"),
     }
 }

@@ -41,15 +41,24 @@ Revision-number: 2\nProp-content-length: 10\nContent-length: 10\n\nPROPS-END\n\n
 const INCLUDED_LINES: &[u8] =
     b"revisions kept 3 (1 of them emptied), dropped 0; nodes kept 2, dropped 1; texts checked 0\n";
 
-const SOURCE_LINES: &[u8] =
-    b"svndumpcut: nothing written: sources of copies are not included, in 1 place\n  \
+/// The same without `d`: `e` and what it has are added.
+const ADDED: &[u8] = b"SVN-fs-dump-format-version: 2\n\n\
+Revision-number: 0\nProp-content-length: 10\nContent-length: 10\n\nPROPS-END\n\n\
+Revision-number: 1\nProp-content-length: 10\nContent-length: 10\n\nPROPS-END\n\n\
+Revision-number: 2\nProp-content-length: 10\nContent-length: 10\n\nPROPS-END\n\n\
+Node-path: e\nNode-kind: dir\nNode-action: add\nProp-content-length: 10\nContent-length: 10\n\nPROPS-END\n\n\n\
+Node-path: e/f\nNode-kind: file\nNode-action: add\nProp-content-length: 10\nText-content-length: 2\nContent-length: 12\n\n\
+PROPS-END\na\n\n\n";
+
+const ADDED_LINES: &[u8] =
+    b"1 copy is written as an addition, because its source is not included; --follow-copies includes it\n  \
 r2: /e, copied from /d@1: 1 file, 2 bytes\n\
-use --follow-copies to include the sources too, 1 path in all\n";
+revisions kept 3 (1 of them emptied), dropped 0; nodes kept 2, dropped 2; 1 node written as 2; texts checked 0\n";
 
 const RETURN_LINES: &[u8] =
     b"svndumpcut: nothing written: copies would bring excluded content back, in 1 place\n  \
 r2: /e/f, copied from /d/f@1: 1 file, 2 bytes\n\
-use --follow-copies to exclude these too, 1 path in all\n";
+use --follow-copies to exclude these too, 1 path in all, or --keep-copies to keep them\n";
 
 const FOLLOW_LINES: &[u8] = b"also excluded, as copies of excluded content: 1 path\n  \
 /e/f (r2, copied from /d/f@1)\n\
@@ -199,7 +208,7 @@ fn siblings_are_excluded(rt: HostRuntime) {
     let words = ["svndumpcut", "include", "d"];
     assert!(rt; is_cut(&rt, rt.alloc(), &words, (0, INCLUDED, INCLUDED_LINES)));
     let words = ["svndumpcut", "include", "e"];
-    assert!(rt; is_cut(&rt, rt.alloc(), &words, (3, b"", SOURCE_LINES)));
+    assert!(rt; is_cut(&rt, rt.alloc(), &words, (0, ADDED, ADDED_LINES)));
 }
 
 #[test]

@@ -15,6 +15,8 @@ each prefix, and the directories above; exclude keeps what no prefix matches.
   --map FILE         write the new number of each revision to this file
   --follow-copies    exclude also what is copied from excluded content; or
                      include also the sources of copies
+  --keep-copies      keep excluded content where copies bring it back; only with
+                     exclude
   --drop-empty-revs  drop revisions that lose all of their nodes, and renumber
   --dry-run          do everything but write the new dump
   --quiet            write only warnings, faults and failures

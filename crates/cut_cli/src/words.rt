@@ -1,5 +1,5 @@
 //! The arguments of a call.
-ghost use Rattle.std.specs.Prelude.{◌≡◌, ◌≢◌, ◌≤◌, Err, IfOk, map, option_map, true, codes};
+ghost use Rattle.std.specs.Prelude.{◌≡◌, ◌≢◌, ◌≤◌, Err, IfOk, is_some, map, option_map, true, codes};
 ghost use Rattle.std.specs.List.{list_any};
 ghost use Rattle.clap.specs.Built.{IsParsedFrom};
 ghost use Rattle.clap.specs.Walk.{is_empty};
@@ -8,7 +8,7 @@ ghost use Rattle.cli_support.specs.steps.LineReading.{ReadsLine};
 ghost use Rattle.cli_support.specs.Arguments.{flag_number};
 ghost use Rattle.cli_support.specs.steps.FilledFlags.{AreFilled};
 ghost use Rattle.dump_pipeline.specs.PlanViews.{worker_count, window_size};
-ghost use Rattle.cut_cli.specs.Words.{TellsCut, asked_map, cut_of_words, cut_of_side, cut_meaning, with_texts_of};
+ghost use Rattle.cut_cli.specs.Words.{TellsCut, are_refused, asked_map, cut_of_words, cut_of_side, cut_meaning, keeps_wrongly, prefixes_in, targets_in, with_texts_of};
 
 use crate::command::cut_command;
 use crate::mistakes::{Mistake, write_mistake, write_refused_line};
@@ -34,6 +34,8 @@ pub struct Call<'a> {
     pub map_name: Option<&'a str>,
     /// Whether the copies of what is excluded are excluded too, or the sources of what is included are included too.
     pub follow: bool,
+    /// Whether what copies bring back of excluded content is kept, under exclude.
+    pub keep: bool,
     /// Whether revisions are dropped that lose all of their nodes, and the others are renumbered.
     pub drop: bool,
     /// Whether nothing is written.
@@ -120,6 +122,42 @@ fn is_one_empty(prefixes: &[&[u8]]) -> bool
     false
 }
 
+/// What is wrong with a side and the options that say what becomes of what copies bring back.
+fn wrong_keeping(side: Side, keep: bool, follow: bool) -> Option<Mistake<'static>>
+    ensures { is_some result ≡ keeps_wrongly side keep follow }
+{
+    match side {
+        Side::Include if keep => Some(Mistake::KeepUnderInclude),
+        Side::Exclude if keep && follow => Some(Mistake::KeepAndFollow),
+        _ => None,
+    }
+}
+
+/// What is wrong with a side and the arguments after it, which have these prefixes and files.
+fn mistake_in(
+    side: Side,
+    matches: &ArgMatches<'_>,
+    prefixes: &[&[u8]],
+    targets: &[&str],
+) -> Option<Mistake<'static>>
+    requires prefixes { map (λ prefix. prefix.now) prefixes.now ≡ prefixes_in (rows_of (found_of matches.now)) }
+    requires targets { map (λ name. name.now) targets.now ≡ targets_in (rows_of (found_of matches.now)) }
+    ensures { is_some result ≡ are_refused side (rows_of (found_of matches.now)) }
+{
+    if prefixes.is_empty() && targets.is_empty() {
+        return Some(Mistake::NoPrefix);
+    }
+    if is_one_empty(prefixes) {
+        return Some(Mistake::EmptyPrefix);
+    }
+    if is_set(matches, "quiet") && is_set(matches, "verbose") {
+        return Some(Mistake::QuietAndVerbose);
+    }
+    let keep = is_set(matches, "keep-copies");
+    let follow = is_set(matches, "follow-copies");
+    wrong_keeping(side, keep, follow)
+}
+
 /// What a side and the arguments after it ask for.
 fn read_call<'a, E: Write>(
     alloc: Global,
@@ -136,16 +174,8 @@ fn read_call<'a, E: Write>(
     let Ok(targets) = read_values(alloc, matches, "targets") else {
         return Err(Usage::Memory);
     };
-    if prefixes.is_empty() && targets.is_empty() {
-        return wrong(errors, Mistake::NoPrefix);
-    }
-    let quiet = is_set(matches, "quiet");
-    let verbose = is_set(matches, "verbose");
-    if is_one_empty(&prefixes) {
-        return wrong(errors, Mistake::EmptyPrefix);
-    }
-    if quiet && verbose {
-        return wrong(errors, Mistake::QuietAndVerbose);
+    if let Some(mistake) = mistake_in(side, matches, &prefixes, &targets) {
+        return wrong(errors, mistake);
     }
     Ok(Call {
         side,
@@ -153,10 +183,11 @@ fn read_call<'a, E: Write>(
         targets,
         map_name: read_value(matches, "map"),
         follow: is_set(matches, "follow-copies"),
+        keep: is_set(matches, "keep-copies"),
         drop: is_set(matches, "drop-empty-revs"),
         dry_run: is_set(matches, "dry-run"),
-        quiet,
-        verbose,
+        quiet: is_set(matches, "quiet"),
+        verbose: is_set(matches, "verbose"),
         plan: plan_of(
             read_number(matches, "workers"),
             read_number(matches, "window"),

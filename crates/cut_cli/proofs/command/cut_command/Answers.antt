@@ -13,9 +13,10 @@ returns c =
     let e3 = one_more _ _ _ _ _ c.in_ok-arg-3.ensures c.switch-3.ensures.local e2 c.switch-3.ensures.rule in
     let e4 = one_more _ _ _ _ _ c.in_ok-arg-4.ensures c.switch-4.ensures.local e3 c.switch-4.ensures.rule in
     let e5 = one_more _ _ _ _ _ c.in_ok-arg-5.ensures c.switch-5.ensures.local e4 c.switch-5.ensures.rule in
-    let e6 = one_more _ _ _ _ _ c.in_ok-arg-6.ensures c.workers.ensures.local e5 c.workers.ensures.rule in
-    let e7 = one_more _ _ _ _ _ c.in_ok-arg-7.ensures c.window.ensures.local e6 c.window.ensures.rule in
-    let e8 = one_more _ _ _ _ _ c.in_ok-arg-8.ensures c.repeated.ensures.local e7 c.repeated.ensures.rule in
-    let e9 = one_more _ _ _ _ _ c.in_ok-arg-9.ensures c.valued.ensures.local e8 c.valued.ensures.rule in
-    IfOk-weaker c.arg-10.result _ _
-    (λ r adds. one_more _ _ _ _ _ adds c.any_prefixes.ensures.local e9 c.any_prefixes.ensures.rule) c.arg-10.ensures
+    let e6 = one_more _ _ _ _ _ c.in_ok-arg-6.ensures c.switch-6.ensures.local e5 c.switch-6.ensures.rule in
+    let e7 = one_more _ _ _ _ _ c.in_ok-arg-7.ensures c.workers.ensures.local e6 c.workers.ensures.rule in
+    let e8 = one_more _ _ _ _ _ c.in_ok-arg-8.ensures c.window.ensures.local e7 c.window.ensures.rule in
+    let e9 = one_more _ _ _ _ _ c.in_ok-arg-9.ensures c.repeated.ensures.local e8 c.repeated.ensures.rule in
+    let e10 = one_more _ _ _ _ _ c.in_ok-arg-10.ensures c.valued.ensures.local e9 c.valued.ensures.rule in
+    IfOk-weaker c.arg-11.result _ _
+    (λ r adds. one_more _ _ _ _ _ adds c.any_prefixes.ensures.local e10 c.any_prefixes.ensures.rule) c.arg-11.ensures
