@@ -20,7 +20,7 @@ the prefixes that the survey suggests: then no copy may stop the filter. (No pat
 names such a path.)
 
 cut: svndumpcut excludes and includes many sets of one to three paths of each dump, without --follow-copies and with it, some
-also with --dry-run and with --drop-empty-revs. Which paths are kept in the end, what copies bring back and what is deleted
+also with --dry-run and with --drop-empty-revs. Where copies bring excluded content back, --keep-copies is tried too. Which paths are kept in the end, what copies bring back and what is deleted
 behind copies is computed here, from the original's trees and copies as docs/CUT.md says: the status and the lists have to be
 as computed. Nothing may be written but with status 0. What is written then is loaded into an empty repository, with
 svnadmin's checks of properties. It has to have each revision of the original with its number and its properties, and its
@@ -90,21 +90,29 @@ FILE_PARENT = re.compile(
 BACK = re.compile(rb"^  r(?P<revision>\d+): /(?P<target>.*)" + FROM + rb": (?P<amount>.*)$", re.MULTILINE)
 BACK_COUNT = re.compile(
     rb"^svndumpcut: nothing written: copies would bring excluded content back, in (\d+) places?\n(?:  .*\n)*"
-    rb"use --follow-copies to exclude these too, (\d+) paths? in all\n\Z",
-    re.MULTILINE,
-)
-SOURCES_COUNT = re.compile(
-    rb"^svndumpcut: nothing written: sources of copies are not included, in (\d+) places?\n(?:  .*\n)*"
-    rb"(?:use --follow-copies to include the sources too, (\d+) paths? in all\n)?\Z",
+    rb"use --follow-copies to exclude these too, (\d+) paths? in all, or --keep-copies to keep them\n\Z",
     re.MULTILINE,
 )
 DELETED = re.compile(
-    rb"^r(?P<revision>\d+): /(?P<target>.*)" + FROM + rb": (?P<count>\d+) paths? deleted behind the copy$", re.MULTILINE
+    rb"^r(?P<revision>\d+): /(?P<target>.*)" + FROM + rb": (?P<count>\d+) paths? deleted after the copy$", re.MULTILINE
 )
 CUT_COUNTS = re.compile(
-    rb"^revisions kept (\d+)(?: \((\d+) of them emptied\))?, dropped 0; nodes kept (\d+), dropped (\d+)"
-    rb"(?:; (\d+) paths? deleted behind copies)?; texts checked \d+\n\Z",
+    rb"^revisions kept (?P<kept>\d+)(?: \((?P<emptied>\d+) of them emptied\))?, dropped 0"
+    rb"; nodes kept (?P<nodes>\d+), dropped (?P<dropped>\d+)(?:; (?P<replaced>\d+) nodes? written as (?P<written>\d+))?"
+    rb"(?:; (?P<deletes>\d+) paths? deleted after copies)?; texts checked \d+\n\Z",
     re.MULTILINE,
+)
+COUNTS = ("kept", "emptied", "nodes", "dropped", "deletes")
+# copies that are written as additions
+WRITTEN_COUNT = re.compile(
+    rb"^([\d,]+) cop(?:y is|ies are) written as (?:an addition|additions), because (?:its source is|their sources are) not "
+    rb"included; --follow-copies includes (?:it|them)$",
+    re.MULTILINE,
+)
+KEPT_COUNT = re.compile(rb"^copies bring excluded content back, in ([\d,]+) places? \(--keep-copies\)$", re.MULTILINE)
+PARENTS_COUNT = re.compile(rb"^copies of parents of prefixes that are written as additions: ([\d,]+)$", re.MULTILINE)
+NEEDED_DELTA = re.compile(
+    rb"^svndumpcut: r\d+: /.*: stored as a delta and needed in full: .* \(fault 32, record \d+, byte \d+\)$", re.MULTILINE
 )
 OWN_LIFE = re.compile(
     rb"^svndumpcut: warning: /(.*) is excluded in every revision, though what r(\d+) has there was not copied from excluded "
@@ -510,6 +518,10 @@ class Excluded(Call):
         everything = (it for _, some in history.copies for it in some)
         return [it for it in everything if self.keeps(it.target) and not self.keeps(it.source)]
 
+    def status(self, history, dump):
+        """The status of a call. The dump does not matter here."""
+        return 3 if self.back(history) else 0
+
     def own_life(self, history, path):
         """The first revision in which something comes to be at the path that isn't a copy of excluded content, if any."""
         copied = [it.revision for _, some in history.copies for it in some if it.target == path and self.keeps(it.source)]
@@ -541,6 +553,13 @@ class Excluded(Call):
         return len(kept), sum(bool(it) and not any(it) for it in kept), sum(nodes), len(nodes) - sum(nodes), deletes
 
 
+class Kept(Excluded):
+    """Paths that svndumpcut excludes with --keep-copies."""
+
+    def status(self, history, dump):
+        return status_of_additions(self, history, dump)
+
+
 class Included(Excluded):
     """Paths that svndumpcut includes, with the directories above them."""
 
@@ -556,6 +575,9 @@ class Included(Excluded):
         bare = path.removeprefix(b"/")
         return self.covers(bare) or self.is_above(bare)
 
+    def status(self, history, dump):
+        return status_of_additions(self, history, dump)
+
     def followed(self, history):
         """With the sources of what copies bring to included paths, and their sources."""
         found = Included(self.paths)
@@ -565,6 +587,12 @@ class Included(Excluded):
             found.paths.update(it.source for it in more)
             more = [it for it in everything if found.covers(it.target) and not found.covers(it.source)]
         return found
+
+
+def status_of_additions(own, history, dump):
+    """What comes back is written as additions, unless a text of it is only there as a delta, as each is in version 3."""
+    is_file = any(history.trees[it.number][it.source].text is not None for it in own.back(history))
+    return 1 if is_file and dump.startswith(b"SVN-fs-dump-format-version: 3") else 0
 
 
 def mergeinfo(value):
@@ -752,9 +780,9 @@ class Run(Trial):
 
 
 class Cut(Trial):
-    """Runs of svndumpcut on the dump of a whole repository, without and with --follow-copies."""
+    """Runs of svndumpcut on the dump of a whole repository, without and with --follow-copies or --keep-copies."""
 
-    side, back_count = "exclude", BACK_COUNT
+    side = "exclude"
 
     def __init__(self, name, original, dump, given, place):
         super().__init__(name, original, dump, [])
@@ -764,7 +792,10 @@ class Cut(Trial):
 
     def judge(self, built):
         named = self.named(map(canonical, self.given))
-        for options, meant in ([], named), (["--follow-copies"], named.followed(self.original)):
+        calls = [([], named), (["--follow-copies"], named.followed(self.original))]
+        if self.side == "exclude" and named.back(self.original):
+            calls.append((["--keep-copies"], Kept(named.paths)))
+        for options, meant in calls:
             self.words = [self.side, *options, "--verbose", *self.given]
             answer = ran(built["cut"], *self.words, given=self.dump)
             why = self.wrong(answer, named, meant)
@@ -782,15 +813,17 @@ class Cut(Trial):
 
     def wrong(self, answer, named, meant):
         """What is wrong with an answer, where some paths are given, and these are meant to be excluded or included."""
-        status = 3 if meant.back(self.original) else 0
+        status = meant.status(self.original, self.dump)
         warnings = OWN_LIFE.findall(answer.stderr) + FILE_PARENT.findall(answer.stderr)
         if answer.returncode != status or answer.stderr.count(b"warning") != len(warnings):
             return f"the status is {answer.returncode}, and {status} is meant: {answer.stderr.decode()}"
         if status and answer.stdout:
             return f"something is written with status {status}"
         why = self.wrong_added(answer.stderr, named, meant)
-        if why or status == 3:
-            return why or self.wrong_back(answer.stderr, meant)
+        if why or status:
+            return why or (self.wrong_back(answer.stderr, meant) if status == 3 else self.wrong_delta(answer.stderr))
+        if meant.back(self.original):
+            return self.wrong_written(answer.stderr, meant) or self.wrong_output(answer, meant)
         return self.wrong_deleted(answer, meant) or self.wrong_output(answer, meant)
 
     def wrong_added(self, told, excluded, meant):
@@ -814,27 +847,49 @@ class Cut(Trial):
         if [(path, int(revision)) for path, revision in OWN_LIFE.findall(told)] != [it for it in lives if it[1] is not None]:
             return f"{lives} had content of their own: {told.decode()}"
         said = [int(it) for it in ADDED_COUNT.findall(told)]
-        if said != ([len(added)] if added else []) or len(added) != self.added * (meant is not excluded):
+        if said != ([len(added)] if added else []) or len(added) != self.added * ("--follow-copies" in self.words):
             return f"{len(added)} paths are listed, {said} are announced, and {self.added} were without --follow-copies"
         return None
 
     def wrong_back(self, told, meant):
         """Each place that is listed has to be one, and all that copies bring back is at or below one."""
-        back, places, said = meant.back(self.original), listed(BACK, told), self.back_count.search(told)
+        places, said = listed(BACK, told), BACK_COUNT.search(told)
         if not said or int(said[1]) != len(places):
             return f"{len(places)} places are listed: {told.decode()}"
         self.added = int(said[2] or 0)
-        if not set(places) <= set(back):
-            return f"nothing is brought back in {set(places) - set(back)}"
+        left, why = self.not_listed(told, meant)
+        if why or left:
+            return why or f"{left} are brought back, and only {places} are listed"
+        self.verdicts.append("not cut, since copies bring content back")
+        return None
+
+    def wrong_delta(self, told):
+        """Where a text is only there as a delta, this has to be the fault."""
+        if not NEEDED_DELTA.search(told):
+            return f"a text is needed in full: {told.decode()}"
+        self.verdicts.append("not cut, since a text is needed in full")
+        return None
+
+    def wrong_written(self, told, meant):
+        """All that comes back and is kept has to be listed."""
+        left, why = self.not_listed(told, meant)
+        places, said = listed(BACK, told), KEPT_COUNT.search(told)
+        if why or left or not said or len(places) != int(said[1].replace(b",", b"")):
+            return why or f"{left} are not listed, of {len(places)} copies: {told.decode()}"
+        return None
+
+    def not_listed(self, told, meant):
+        """What copies bring back that is not at or below a listed place, and what is wrong with the list, if something is."""
+        back, places = meant.back(self.original), listed(BACK, told)
         found = Excluded(it.target for it in places)
-        if any(found.keeps(it.target) for it in back):
-            return f"{back} are brought back, and only {places} are listed"
+        left = [it for it in back if found.keeps(it.target)]
+        if not set(places) <= set(back):
+            return left, f"nothing is brought back in {set(places) - set(back)}"
         for place, it in zip(places, BACK.finditer(told)):
             amount = self.amount(place, back)
             if it["amount"].decode().removesuffix(", changed in the copy") != amount:
-                return f"{place} brings back {amount}: {told.decode()}"
-        self.verdicts.append("not cut, since copies bring content back")
-        return None
+                return left, f"{place} brings back {amount}: {told.decode()}"
+        return left, None
 
     def amount(self, place, back):
         """How much is brought back in a place, as svndumpcut says it."""
@@ -864,11 +919,13 @@ class Cut(Trial):
 
     def wrong_output(self, answer, meant):
         """What is wrong with what was written."""
-        said = CUT_COUNTS.search(answer.stderr)
-        if not said or tuple(int(it or 0) for it in said.groups()) != meant.counts(self.original):
-            return f"{meant.counts(self.original)} are meant: {answer.stderr.decode()}"
+        back = meant.back(self.original)
+        why = self.wrong_counts(answer, meant, bool(back))
+        if why:
+            return why
+        added = {it.source for it in back}
         for marker, paths in self.original.markers.items():
-            if marker in answer.stdout and not any(map(meant.keeps, paths)):
+            if marker in answer.stdout and not any(map(meant.keeps, paths)) and added.isdisjoint(paths):
                 return f"the output has '{marker.decode()}', which only excluded files have"
         if answer.stdout != self.right:
             with tempfile.TemporaryDirectory(dir=MEMORY) as folder:
@@ -879,8 +936,24 @@ class Cut(Trial):
             if why:
                 return why
         self.right = answer.stdout
-        self.verdicts.append("cut and equal, with deletes" if meant.deleted(self.original) else "cut and equal")
+        how = ", with additions" if back else ", with deletes" if meant.deleted(self.original) else ""
+        self.verdicts.append("cut and equal" + how)
         return None
+
+    def wrong_counts(self, answer, meant, are_added):
+        """What is wrong with the last line. Where copies are written as additions, the nodes are those of the output."""
+        said, counts = CUT_COUNTS.search(answer.stderr), meant.counts(self.original)
+        if not said or are_added != bool(said["replaced"]):
+            return f"{counts} are meant: {answer.stderr.decode()}"
+        got = {name: int(said[name] or 0) for name in (*COUNTS, "replaced", "written")}
+        if not are_added and tuple(map(got.get, COUNTS)) == counts:
+            return None
+        all_nodes = counts[2] + counts[3] - got["replaced"] + got["written"]
+        nodes = answer.stdout.count(b"\nNode-path: ")
+        is_right = (got["kept"], got["emptied"], got["nodes"] + got["deletes"]) == (*counts[:2], nodes)
+        if are_added and is_right and got["nodes"] + got["dropped"] == all_nodes:
+            return None
+        return f"{counts} are meant: {answer.stderr.decode()}"
 
     def wrong_dropped(self, built, meant):
         """With --drop-empty-revs the new repository lacks the emptied revisions, and is else the same."""
@@ -907,7 +980,7 @@ class Cut(Trial):
 class CutIncluded(Cut):
     """The same of paths that are included."""
 
-    side, back_count = "include", SOURCES_COUNT
+    side = "include"
 
     def named(self, paths):
         return Included(paths)
@@ -929,6 +1002,18 @@ class CutIncluded(Cut):
             return f"{len(added)} paths are listed, {said} are announced, and {self.added} were without --follow-copies"
         return self.wrong_parents(told, meant) or self.wrong_others(told, meant)
 
+    def wrong_written(self, told, meant):
+        """All that comes back has to be listed, but for directories above included paths, which are counted."""
+        left, why = self.not_listed(told, meant)
+        places, said = listed(BACK, told), WRITTEN_COUNT.search(told)
+        if why or len(places) != (int(said[1].replace(b",", b"")) if said else 0):
+            return why or f"{len(places)} copies are listed: {told.decode()}"
+        others = [it for it in left if meant.covers(it.target) or not meant.is_above(it.target)]
+        # another copy to a listed path may be one of parents alone
+        if others or left and not PARENTS_COUNT.search(told):
+            return f"{left} are not listed: {told.decode()}"
+        return None
+
     def wrong_parents(self, told, meant):
         """A directory above included paths that is a file at the end of a revision is reported, with the first of them."""
         said = {path: int(revision) for path, revision in FILE_PARENT.findall(told)}
@@ -941,7 +1026,7 @@ class CutIncluded(Cut):
     def wrong_others(self, told, meant):
         """No path is listed as excluded that is meant to be kept, and each other one is at or below a listed one."""
         others = OTHERS.search(told)
-        if b"nothing written" in told:
+        if b"nothing written" in told or NEEDED_DELTA.search(told):
             return None
         paths = [it[3:] for it in others[2].splitlines()] if others else []
         if others and int(others[1].replace(b",", b"")) != len(paths) or any(map(meant.keeps, paths)):
@@ -978,10 +1063,13 @@ class CutOther(Trial):
         meant = named(canonical(path) for path in self.words[1:] if path[0] != "-")
         if "--follow-copies" in self.words:
             meant = meant.followed(original)
-        status = 3 if meant.back(original) else 0
-        if it.returncode != status or status and it.stdout:
+        status = meant.status(original, self.dump)
+        # the first revision of a part has whole texts, so the needed ones may be there
+        if it.returncode not in ({0, status} if status == 1 else {status}) or it.returncode and it.stdout:
             return f"the status is {it.returncode}, and {status} is meant, with {len(it.stdout)} bytes"
-        if status:
+        if it.returncode:
+            if status == 1 and not NEEDED_DELTA.search(it.stderr):
+                return "a text is needed in full, and this is not the fault"
             self.verdicts.append("not cut, since copies of another dump bring content back")
             return None
         os.mkdir(folder)

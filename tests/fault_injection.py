@@ -32,6 +32,8 @@ CASES = [
     ("cut", "exclude_drops_emptied_revisions", []),
     ("cut", "exclude_in_the_target_alone", []),
     ("cut", "include_follows_the_source_of_a_part", []),
+    ("cut", "include_of_a_renamed_project", []),
+    ("cut", "include_writes_additions_and_deletes", []),
 ]
 # arguments, and how many threads are started by them: the workers, the cutter and the sequencer
 PLANS = [([], 6), (["--workers", "1"], 3), (["--workers=5", "--window=2"], 7), (["--workers", "64"], 66)]
