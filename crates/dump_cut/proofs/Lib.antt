@@ -3,10 +3,15 @@ pub mod DeleteGroups
 pub mod DirectoryLemmas
 pub mod ExcludedLemmas
 pub mod FateLemmas
+pub mod FirstLaw
+pub mod FirstTrimLaw
 pub mod FollowedLemmas
 pub mod FoundDeletes
 pub mod FoundSiblings
 pub mod GrowingLemmas
+pub mod LaterLaw
+pub mod LaterLemmas
+pub mod LaterRecords
 pub mod LoadLaws
 pub mod NamedLemmas
 pub mod NamedSiblings
@@ -24,3 +29,4 @@ pub mod TakenLemmas
 pub mod TrimLaw
 pub mod TrimLemmas
 pub mod TrimmedTextLemmas
+pub mod Values

@@ -155,7 +155,7 @@ cut_behind number place text (s ∷ rs) r rest end (lfs, front, after, is, at, b
     }
 
 -- records to the end
-cut_texts : (number place : ℕ) (text : List ℕ) (records : List DumpRecord) → IsCutInto number place text records []
+pub cut_texts : (number place : ℕ) (text : List ℕ) (records : List DumpRecord) → IsCutInto number place text records []
     → (lfs : ℕ) × (front : List ℕ) × (text ≡ line_feeds lfs ++ front) × AreRecordTexts records front
 cut_texts number place text [] (lfs, is, stop) = (lfs, [], is, refl)
 cut_texts number place text (r ∷ records) (lfs, front, after, is, at, b, more) =

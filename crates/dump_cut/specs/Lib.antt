@@ -1,5 +1,7 @@
+pub mod FirstParts
 pub mod FollowedCopies
 pub mod FoundSiblings
+pub mod LaterParts
 pub mod LoadChecks
 pub mod NamedLines
 pub mod NamedPaths

@@ -1,3 +1,4 @@
+pub mod CountedRevisions
 pub mod Deletes
 pub mod ExcludedPaths
 pub mod ExcludedTexts

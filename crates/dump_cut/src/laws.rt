@@ -1,6 +1,8 @@
 //! Laws of what a cut finds, each the contract of a function that does nothing.
+ghost use Rattle.dump_cut.specs.FirstParts.{FirstPartsAreFiltered, FirstPartsAreTrimmed};
 ghost use Rattle.dump_cut.specs.FollowedCopies.{FollowedIsLeast};
 ghost use Rattle.dump_cut.specs.FoundSiblings.{FoundSiblingsAreAll};
+ghost use Rattle.dump_cut.specs.LaterParts.{DumpsLoadInParts};
 ghost use Rattle.dump_cut.specs.LoadChecks.{RefusedIsFirst, UnrefusedLoads};
 ghost use Rattle.dump_cut.specs.Refusals.{RefusedIsNotAllowed};
 ghost use Rattle.dump_cut.specs.TakenCopies.{SeparatedDumpIsItsExpansion, TakenDumpLoads, TakenRevisionsSeparate};
@@ -38,4 +40,17 @@ pub fn followed_paths_are_least()
 /// an included path, and the directories above.
 pub fn siblings_are_found()
     ensures { FoundSiblingsAreAll }
+{}
+
+/// A dump that loads, and in which the format version stays the same, can be cut after each revision: the part up to there
+/// loads into an empty repository, and the records before the first revision with those after the cut load into that.
+pub fn dumps_load_in_parts()
+    ensures { DumpsLoadInParts }
+{}
+
+/// What the filter writes of the first part of a dump, up to a revision, is the first part of what it writes of the dump, if
+/// no revision is dropped or renumbered. So it is with deletes behind the nodes.
+pub fn first_parts_are_cut()
+    ensures filtered { FirstPartsAreFiltered }
+    ensures trimmed { FirstPartsAreTrimmed }
 {}

@@ -53,7 +53,14 @@
 //! let fates = revision_fates(alloc, &dump, &options)?;
 //! ```
 //!
-//! `tests::drops` runs this.
+//! `tests::drops` runs this. [`later_part`] is what a dump has after a revision, with what is before its first one:
+//!
+//! ```
+//! let part = later_part(dump, number);
+//! part.head == head.as_bytes() && part.revisions == revisions.as_bytes()
+//! ```
+//!
+//! `tests::is_part` runs this.
 #![tactic(auto)]
 
 mod canonical;
@@ -64,6 +71,7 @@ mod fates;
 mod followed;
 mod joined_rests;
 mod kinds;
+mod later;
 pub mod laws;
 mod load_check;
 mod named_siblings;
@@ -83,6 +91,7 @@ pub use excluded::Excluded;
 pub use fates::{RevisionFate, revision_fates};
 pub use followed::{Addition, follow};
 pub use kinds::Kinds;
+pub use later::{LaterPart, NoPart, later_part, no_part_after};
 pub use load_check::{Refused, first_refused};
 pub use named_siblings::add_named_siblings;
 pub use refusal::{Refusal, refusal_of};

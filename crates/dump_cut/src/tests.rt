@@ -5,8 +5,9 @@ ghost use Rattle.std.specs.List.{list_all};
 ghost use Rattle.dump_cut.specs.NamedPaths.{has_named_paths};
 
 use crate::{
-    Addition, Deletes, Excluded, Memory, PlacedRest, Refusal, Refused, Way, all_followed,
-    canonical_prefix, find_siblings, first_not_taken, first_refused, follow, revision_fates,
+    Addition, Deletes, Excluded, Memory, NoPart, PlacedRest, Refusal, Refused, Way, all_followed,
+    canonical_prefix, find_siblings, first_not_taken, first_refused, follow, later_part,
+    no_part_after, revision_fates,
 };
 use dump_changes::{End, read_changes};
 use dump_index::{ChangeIndex, first_out_of_order};
@@ -315,4 +316,22 @@ fn a_revision_without_its_nodes_is_dropped(rt: HostRuntime) -> Result<(), Fail> 
 fn fates_or_no_memory(rt: HostRuntime) {
     let answer = drops(rt.alloc(), b"e");
     assert!(rt; matches!(answer, Ok(true) | Err(Memory)));
+}
+
+/// Whether these are the two pieces of what a dump has after a revision.
+fn is_part(dump: &[u8], number: u64, head: &str, revisions: &str) -> bool {
+    let part = later_part(dump, number);
+    part.head == head.as_bytes() && part.revisions == revisions.as_bytes()
+}
+
+#[test]
+fn parts_of_a_dump(rt: HostRuntime) {
+    let dump = HEAD.as_bytes();
+    let head = "SVN-fs-dump-format-version: 3\n\n";
+    assert!(rt; is_part(dump, 1, head, "Revision-number: 2\n\n"));
+    assert!(rt; is_part(dump, 2, head, ""));
+    assert!(rt; is_part(head.as_bytes(), 0, head, ""));
+    assert!(rt; no_part_after(dump, 2).is_none());
+    assert!(rt; no_part_after(dump, 3) == Some(NoPart::NoRevision));
+    assert!(rt; no_part_after(head.as_bytes(), 0) == Some(NoPart::NotNumbered));
 }

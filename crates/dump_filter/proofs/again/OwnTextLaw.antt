@@ -60,7 +60,7 @@ module _ (settings : Settings) (dump text : List ℕ) (records : List DumpRecord
       ((own kept).0, λ again. (own again).1)
 
   -- each record that is written is read again
-  record_again : (before after : List DumpRecord) (r : DumpRecord) → records ≡ before ++ r ∷ after
+  pub record_again : (before after : List DumpRecord) (r : DumpRecord) → records ≡ before ++ r ∷ after
       → HasAgain settings kept r after
   record_again before after r at front written output = by_kind (is_revision_record r) (is_node r) refl refl written
       output

@@ -9,7 +9,8 @@ written_once : (settings : Settings) (ended : Bool) (records : List DumpRecord) 
     → IsWrittenText settings ended records x → IsWrittenText settings ended records y → x ≡ y
 written_once settings ended records x y = outputs_once settings ended (kept_revisions settings records) records x y
 
-front_free : (settings : Settings) (records more : List DumpRecord) → AreFaultFree settings (records ++ more)
+-- the first records of a list without a fault have none
+pub front_free : (settings : Settings) (records more : List DumpRecord) → AreFaultFree settings (records ++ more)
     → AreFaultFree settings records
 front_free settings records more free before after r is =
     free before (after ++ more) r (ap (λ (l : List DumpRecord). l ++ more) is ∙ append_assoc before (r ∷ after) more)

@@ -68,7 +68,7 @@ behind_versions version (r ∷ records) (nodes ∷ behind) (in_force, have) = (
 )
 
 -- their text is a dump
-trimmed_is_dump : (dump text front : List ℕ) (records : List DumpRecord) (behind : List (List WrittenNode)) (lfs : ℕ)
+pub trimmed_is_dump : (dump text front : List ℕ) (records : List DumpRecord) (behind : List (List WrittenNode)) (lfs : ℕ)
     → HasRecords dump records Ending.Whole → MayStandBehind records behind → text ≡ line_feeds lfs ++ front
     → AreRecordTexts (records_behind records behind) front
     → (parts : List DumpRecord) × HasRecords text parts Ending.Whole
@@ -126,7 +126,7 @@ same_take (x ∷ xs) (y ∷ ys) (one, same) =
 same_revision : (x y : DumpRecord) → IsSameRecord x y → is_revision_record y ≡ is_revision_record x
 same_revision x y one = ap (has_header revision_name) one.headers
 
-same_group_revisions : (xs ys : List DumpRecord) → AllZip IsSameRecord xs ys → HaveSameRevisions (groups xs) (groups ys)
+pub same_group_revisions : (xs ys : List DumpRecord) → AllZip IsSameRecord xs ys → HaveSameRevisions (groups xs) (groups ys)
 same_group_revisions [] [] same = tt
 same_group_revisions [] (y ∷ ys) same = absurd same
 same_group_revisions (x ∷ xs) [] same = absurd same
@@ -140,7 +140,7 @@ same_group_revisions (x ∷ xs) (y ∷ ys) (one, same) =
     cases true later = (one, later)
     cases false later = later
 
-same_ordered : (may : Bool) (xs ys : List DumpRecord) → AllZip IsSameRecord xs ys → has_ordered_nodes may xs ≡ true
+pub same_ordered : (may : Bool) (xs ys : List DumpRecord) → AllZip IsSameRecord xs ys → has_ordered_nodes may xs ≡ true
     → has_ordered_nodes may ys ≡ true
 same_ordered may [] [] same order = order
 same_ordered may [] (y ∷ ys) same order = absurd same
@@ -153,7 +153,7 @@ same_ordered may (x ∷ xs) (y ∷ ys) (one, same) order =
     ∙ same_ordered (is_revision_record x || is_node x) xs ys same
     (second_true (not (is_node x) || may) (has_ordered_nodes (is_revision_record x || is_node x) xs) order))
 
-same_groups_make : (patched : Patching) (xs ys : List DumpRecord) (revisions : List (List Change))
+pub same_groups_make : (patched : Patching) (xs ys : List DumpRecord) (revisions : List (List Change))
     → AllZip IsSameRecord xs ys → AllZip (MakeChanges patched) (groups xs) revisions
     → AllZip (MakeChanges patched) (groups ys) revisions
 same_groups_make patched [] [] revisions same make = make

@@ -25,7 +25,8 @@ may_grow [] (x ∷ steads) r stead all can = absurd all
 may_grow (x ∷ records) [] r stead all can = absurd all
 may_grow (x ∷ records) (y ∷ steads) r stead (one, all) can = (one, may_grow records steads r stead all can)
 
-texts_grow : (xs ys : List DumpRecord) (text own : List ℕ) → AreRecordTexts xs text → AreRecordTexts ys own
+-- records before others
+pub texts_grow : (xs ys : List DumpRecord) (text own : List ℕ) → AreRecordTexts xs text → AreRecordTexts ys own
     → AreRecordTexts (xs ++ ys) (text ++ own)
 texts_grow [] ys text own none more = subst (λ t. AreRecordTexts ys (t ++ own)) (sym none) more
 texts_grow (x ∷ xs) ys text own (lfs, rest, is, texts) more = (

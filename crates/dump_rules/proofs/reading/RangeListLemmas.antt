@@ -36,7 +36,8 @@ parts_lack b (c ∷ text) = elim (cases_Bool (c == b)) [
 abbrev pub Reads : List ℕ → Range → Type 0
 Reads part r = range_of part ≡ Some r
 
-zip_map : {A B : Type 0} (P Q : A → B → Type 0) → ((x : A) (y : B) → P x y → Q x y) → (xs : List A) (ys : List B)
+-- what is zipped so is zipped in a weaker way
+pub zip_map : {A B : Type 0} (P Q : A → B → Type 0) → ((x : A) (y : B) → P x y → Q x y) → (xs : List A) (ys : List B)
     → AllZip P xs ys → AllZip Q xs ys
 zip_map P Q each [] [] all = tt
 zip_map P Q each (x ∷ xs) (y ∷ ys) all = (each x y all.0, zip_map P Q each xs ys all.1)

@@ -1,0 +1,11 @@
+use Rattle.std.proofs.Common.{◌∙◌, ◌++◌, ap, ap₂, take, drop}
+use Rattle.std.proofs.lemmas.List.{take_rest}
+use Rattle.dump_cut.proofs.later.later_part.Goals as goal
+
+pub returns : goal.returns
+returns c records has =
+    let dump = c.args.dump.now in
+    let head = c.first_place-head.ensures.place records has in
+    let later = c.first_place-later.ensures.place records has in
+    ap₂ (λ a b. a ++ b) (ap (λ n. take n dump) head)
+    (take_rest dump c.first_place-later.result ∙ ap (λ n. drop n dump) later)
