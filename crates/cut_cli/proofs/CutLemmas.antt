@@ -3,7 +3,7 @@ use Rattle.std.proofs.Common.{ap, ◌≡◌, ◌||◌, ℕ, Bool, true, false, I
 use Rattle.std.proofs.lemmas.Bool.{and_from, or_cases, or_right}
 use Rattle.std.proofs.KnownBytes.{Keeps-refl}
 use Rattle.std.specs.Io.KnownBytes.{Keeps}
-use Rattle.std.specs.List.{AllZip, list_all, list_any}
+use Rattle.std.specs.List.{list_all, list_any}
 use Rattle.dump_text.specs.PropertyList.{Property}
 use Rattle.dump_records.specs.DumpText.{Ending, HasRecords}
 use Rattle.dump_records.specs.RecordText.{DumpRecord}
@@ -68,7 +68,7 @@ use Rattle.dump_expansion.specs.GivenSteads.{GivenStead, IsExpandedBy, steads_in
 use Rattle.dump_additions.specs.AdditionLaws.{HasAdditions}
 use Rattle.dump_additions.specs.Additions.{AreAdditionsFrom}
 use Rattle.dump_additions.proofs.AdditionLaw.{additions_load}
-use Rattle.cut_cli.specs.Cuts.{AreChangesOf, AreCopiesTaken, AreKnownAs, AreListedButNumbers, BringsNothingBack, CutLoads, ExcludesAsAsked, FiltersOrTrims, FollowsAsAsked, IsAskedBy, IsClosureOf, IsCutAsAsked, IsCutText, IsObstacleTo, IsReadFor, IsReadyFor, IsSetUp, IsTrimmedIf, LeadsNowhere, MergeinfoStaysByCut, text_read, writes_additions}
+use Rattle.cut_cli.specs.Cuts.{AreChangesOf, AreCopiesTaken, AreKnownAs, AreListedButNumbers, BringsNothingBack, CutLoads, ExcludesAsAsked, FiltersOrTrims, FollowsAsAsked, HasPartIf, IsAskedBy, IsClosureOf, IsCutAsAsked, IsCutText, IsObstacleTo, IsReadFor, IsReadyFor, IsSetUp, IsTrimmedIf, LeadsNowhere, MergeinfoStaysByCut, text_read, writes_additions}
 use Rattle.cut_cli.specs.Drive.{CleanTextsAreCuts, CutsDump, CutsInput, WritesBoth, WritesIfAsked, obstacle_status}
 use Rattle.cut_cli.specs.Words.{CutMeaning, asked_map}
 use Rattle.cut_cli.specs.declared.examine.Obstacle.{Obstacle}
@@ -485,7 +485,8 @@ clean_texts_are_cuts m dump expansion settings deletes ready records again filte
     text whole numbered clean trims
 
 module _ (m : CutMeaning) (dump : List ℕ) (expansion : Option (List ℕ)) (settings : Settings) (deletes : Option Deletes)
-    (old new map_old map_new : Option (List ℕ)) (status : ℕ) (ready : IsReadyFor m dump expansion settings deletes) where
+    (old new map_old map_new : Option (List ℕ)) (status : ℕ) (part : HasPartIf m.after dump)
+    (ready : IsReadyFor m dump expansion settings deletes) where
   abbrev read_text : List ℕ
   read_text = text_read expansion dump
 
@@ -493,34 +494,35 @@ module _ (m : CutMeaning) (dump : List ℕ) (expansion : Option (List ℕ)) (set
   cuts_ready : WritesIfAsked m settings deletes read_text old new map_old map_new status
       → CutsDump m dump old new map_old map_new status
   cuts_ready writes =
-      inl (expansion, settings, deletes, ready, clean_texts_are_cuts m dump expansion settings deletes ready, writes)
+      inl (expansion, settings, deletes, part, ready, clean_texts_are_cuts m dump expansion settings deletes ready, writes)
 
   -- also in a trial, of which the writer keeps what it has
   pub tries_cut : m.dry_run ≡ true
-      → WritesBoth (asked_map m) settings deletes read_text None None map_old map_new status
+      → WritesBoth (asked_map m) settings deletes m.after read_text None None map_old map_new status
       → CutsDump m dump old old map_old map_new status
   tries_cut dry writes = inl (
     expansion,
     settings,
     deletes,
+    part,
     ready,
     clean_texts_are_cuts m dump expansion settings deletes ready,
     on m.dry_run dry,
   )
     where
       on : (b : Bool) → b ≡ true → MatchBool b
-          (WritesBoth (asked_map m) settings deletes read_text None None map_old map_new status × Keeps old old)
-          (WritesBoth (asked_map m) settings deletes read_text old old map_old map_new status)
+          (WritesBoth (asked_map m) settings deletes m.after read_text None None map_old map_new status × Keeps old old)
+          (WritesBoth (asked_map m) settings deletes m.after read_text old old map_old map_new status)
       on true is = (writes, Keeps-refl old)
       on false is = absurd (let bad : false ≡ true = is in cc)
 
-  pub writes_cut : m.dry_run ≡ false → WritesBoth (asked_map m) settings deletes read_text old new map_old map_new status
-      → CutsDump m dump old new map_old map_new status
+  pub writes_cut : m.dry_run ≡ false
+      → WritesBoth (asked_map m) settings deletes m.after read_text old new map_old map_new status → CutsDump m dump old new map_old map_new status
   writes_cut wet writes = cuts_ready (on m.dry_run wet)
     where
       on : (b : Bool) → b ≡ false → MatchBool b
-          (WritesBoth (asked_map m) settings deletes read_text None None map_old map_new status × Keeps old new)
-          (WritesBoth (asked_map m) settings deletes read_text old new map_old map_new status)
+          (WritesBoth (asked_map m) settings deletes m.after read_text None None map_old map_new status × Keeps old new)
+          (WritesBoth (asked_map m) settings deletes m.after read_text old new map_old map_new status)
       on true is = absurd (let bad : true ≡ false = is in cc)
       on false is = writes
 

@@ -1,17 +1,21 @@
 -- A run with its last line, and what is told once its last bytes are handed on.
-use Rattle.std.proofs.Common.{◌≡◌, ℕ, true, false, List, [], ◌++◌, take, drop, Option, Some, None, Result, Ok, Err, OnErr, OnOk, sym, subst, inl, inr, append_assoc, ap, ◌∙◌}
+use Rattle.std.proofs.Common.{◌≡◌, ℕ, true, false, List, [], ◌++◌, take, drop, Option, Some, None, Result, Ok, Err, refl, ◌⊎◌, OnErr, OnOk, ◌||◌, is_some, sym, subst, inl, inr, append_assoc, ap, ◌∙◌}
 use Rattle.std.proofs.KnownBytes.{Appends-kept, Appends-trans}
 use Rattle.std.proofs.lemmas.List.{append-nil, take-append-drop}
 use Rattle.std.specs.Io.KnownBytes.{Appends, GrowsBy, Keeps, append_known}
+use Rattle.dump_text.specs.declared.fault.FaultKind.{FaultKind}
 use Rattle.dump_rules.specs.Settings.{Settings}
+use Rattle.dump_filter.specs.declared.report.Report.{Report}
 use Rattle.dump_writer.specs.steps.SinkCalls.{TakesOnlyFirst}
 use Rattle.dump_writer.specs.steps.SinkStates.{LentState, lent_taken}
 use Rattle.dump_pipeline.specs.RunAnswer.{IsRunAnswer, RunLeaves}
 use Rattle.dump_pipeline.specs.declared.answer.Answer.{Answer}
+use Rattle.dump_pipeline.specs.declared.answer.Answer.TheVariants.{Clean, Fault}
 use Rattle.dump_pipeline.specs.declared.answer.Failure.{Failure}
 use Rattle.cli_support.proofs.OutputLemmas.{from_none, handed_on, part_taken}
-use Rattle.cut_cli.specs.Drive.{IsSent, RanCut, TakesPart, stop_line_of}
-use Rattle.cut_cli.specs.steps.Ended.{IsTrimmedPiece, TellsAfter}
+use Rattle.cut_cli.specs.Cuts.{IsTrimmedIf}
+use Rattle.cut_cli.specs.Drive.{ArrivesOrBreaksOff, IsKeptOf, IsPartIf, IsSent, RanCut, TakesPart, stop_line_of}
+use Rattle.cut_cli.specs.steps.Ended.{FailsFirst, TellsAfter}
 
 -- the first bytes of a text, fewer than all
 pub first_of : (old new : Option (List ℕ)) (text line : List ℕ) (n : ℕ) → TakesOnlyFirst old new text n → line ≡ text
@@ -46,8 +50,7 @@ module _ {A E : Type 0} (r : Result A E) (a d : Option (List ℕ)) (waiting piec
       subst (λ w. OnErr r (TakesPart (append_known a w) d all)) none
       (subst (λ p. OnErr r (TakesPart (append_known a waiting) d p)) same part)
 
-module _ (settings : Settings) (deletes : Option (List (List (List ℕ)))) (dump : List ℕ) (answer : Answer) (sent : List ℕ)
-    (answered : IsSent settings deletes dump sent answer) (a d : Option (List ℕ)) (sink : LentState)
+module _ (answer : Answer) (sent : List ℕ) (a d : Option (List ℕ)) (sink : LentState)
     (kept : Keeps d (lent_taken sink)) (start : sink.out.start ≡ a) where
   -- of a first part the last bytes may wait for a writer that failed
   first_taken : (n : ℕ) → GrowsBy a sink.out.taken n → TakesPart (append_known a []) d (sent ++ stop_line_of answer)
@@ -64,56 +67,45 @@ module _ (settings : Settings) (deletes : Option (List (List (List ℕ)))) (dump
   pub told_after : {A : Type 0} (ending : Result A Failure) (told : Answer)
       → OnOk ending (Appends (append_known a []) d (sent ++ stop_line_of answer))
       → OnErr ending (TakesPart (append_known a []) d (sent ++ stop_line_of answer))
-      → TellsAfter sink answer ending told → RanCut settings deletes dump a sink.out.taken told
+      → TellsAfter sink answer ending told → ArrivesOrBreaksOff sent answer a sink.out.taken told
   told_after (Ok x) told whole part (inl all) =
-      record {
-        answer = answer;
-        sent = sent;
-        answered = answered;
-        arrived = inl (handed_on a d sink (sent ++ stop_line_of answer) whole kept all.2, all.0);
-      }
+      inl (handed_on a d sink (sent ++ stop_line_of answer) whole kept all.2, all.0)
   told_after (Err e) told whole part (inl all) = absurd (let bad : false ≡ true = all.1 in cc)
   told_after (Ok x) told whole part (inr (failure, written, is, grown)) =
       let counted = subst (λ s. GrowsBy s sink.out.taken written) start grown in
-      record {
-        answer = answer;
-        sent = sent;
-        answered = answered;
-        arrived = inr (record {
-          failure = failure;
-          written = written;
-          part = first_taken written counted
-              (sent ++ stop_line_of answer, ([], sym (append-nil (sent ++ stop_line_of answer))), whole);
-          counted = counted;
-          told_is = is;
-        });
-      }
+      inr (record {
+        failure = failure;
+        written = written;
+        part = first_taken written counted
+            (sent ++ stop_line_of answer, ([], sym (append-nil (sent ++ stop_line_of answer))), whole);
+        counted = counted;
+        told_is = is;
+      })
   told_after (Err e) told whole part (inr (failure, written, is, grown)) =
       let counted = subst (λ s. GrowsBy s sink.out.taken written) start grown in
-      record {
-        answer = answer;
-        sent = sent;
-        answered = answered;
-        arrived = inr (record {
-          failure = failure;
-          written = written;
-          part = first_taken written counted part;
-          counted = counted;
-          told_is = is;
-        });
-      }
+      inr (record {
+        failure = failure;
+        written = written;
+        part = first_taken written counted part;
+        counted = counted;
+        told_is = is;
+      })
 
 -- a run with what is told after it
 pub ran_and_told : (settings : Settings) (dump : List ℕ) (answer : Answer) (a b d : Option (List ℕ)) (sink : LentState)
     → RunLeaves settings dump (append_known a []) b answer → Keeps d (lent_taken sink) → sink.out.start ≡ a
     → {A : Type 0} (ending : Result A Failure) (told : Answer)
     → OnOk ending (Appends b d (stop_line_of answer)) → OnErr ending (TakesPart b d (stop_line_of answer))
-    → TellsAfter sink answer ending told → RanCut settings None dump a sink.out.taken told
-ran_and_told settings dump answer a b d sink ran kept start ending told whole part tells =
-    told_after settings None dump answer ran.received ran.answered a d sink kept start ending told
-    (on_ok ending whole
-    (λ more. Appends-trans (append_known a []) b d ran.received (stop_line_of answer) ran.appended more))
-    (on_err ending part with_front) tells
+    → TellsAfter sink answer ending told → RanCut settings None None dump a sink.out.taken told
+ran_and_told settings dump answer a b d sink ran kept start ending told whole part tells = record {
+  answer = answer;
+  sent = ran.received;
+  answered = ran.answered;
+  arrived = told_after answer ran.received a d sink kept start ending told
+      (on_ok ending whole
+      (λ more. Appends-trans (append_known a []) b d ran.received (stop_line_of answer) ran.appended more))
+      (on_err ending part with_front) tells;
+}
   where
     with_front : TakesPart b d (stop_line_of answer)
         → TakesPart (append_known a []) d (ran.received ++ stop_line_of answer)
@@ -123,12 +115,54 @@ ran_and_told settings dump answer a b d sink ran kept start ending told whole pa
       Appends-trans (append_known a []) b d ran.received first ran.appended more,
     )
 
--- what a run leaves in memory that was empty
-pub in_memory : (settings : Settings) (deletes : List (List (List ℕ))) (dump filtered piece : List ℕ) (answer : Answer)
-    → RunLeaves settings dump (Some []) (Some filtered) answer → IsTrimmedPiece deletes filtered answer piece
-    → (sent : List ℕ) × IsSent settings (Some deletes) dump sent answer × (piece ≡ sent ++ stop_line_of answer)
-in_memory settings deletes dump filtered piece answer ran (sent, trimmed, is) = (
-  sent,
-  (filtered, subst (λ bytes. IsRunAnswer settings dump bytes answer) (sym ran.appended) ran.answered, trimmed),
-  is,
-)
+-- what is sent of a run that left this in memory that was empty
+pub in_memory : (settings : Settings) (deletes : Option (List (List (List ℕ)))) (after : Option ℕ)
+    (dump filtered sent : List ℕ) (answer : Answer) → (is_some deletes || is_some after) ≡ true
+    → RunLeaves settings dump (Some []) (Some filtered) answer → IsKeptOf deletes after filtered sent answer
+    → IsSent settings deletes after dump sent answer
+in_memory settings None None dump filtered sent answer asked ran kept = absurd (let bad : false ≡ true = asked in cc)
+in_memory settings None (Some number) dump filtered sent answer asked ran kept =
+    (filtered, subst (λ bytes. IsRunAnswer settings dump bytes answer) (sym ran.appended) ran.answered, kept)
+in_memory settings (Some deletes) after dump filtered sent answer asked ran kept =
+    (filtered, subst (λ bytes. IsRunAnswer settings dump bytes answer) (sym ran.appended) ran.answered, kept)
+
+-- of a run with a fault nothing is sent
+pub nothing_kept : (deletes : Option (List (List (List ℕ)))) (after : Option ℕ) (filtered : List ℕ) (answer : Answer)
+    (kind : FaultKind) (number place : ℕ) → answer ≡ Fault kind number place → IsKeptOf deletes after filtered [] answer
+nothing_kept deletes after filtered answer kind number place is =
+    subst (λ a. IsKeptOf deletes after filtered [] a) (sym is) refl
+
+-- a cut, or its part, is sent of what a clean run left in memory; or nothing is
+module _ (deletes : Option (List (List (List ℕ)))) (after : Option ℕ) (filtered : List ℕ) (report : Report)
+    (old new : Option (List ℕ)) (told : Answer) where
+  abbrev pub IsSentOf : List ℕ → Type 0
+  IsSentOf cut = ((sent : List ℕ) × IsPartIf after cut sent × ArrivesOrBreaksOff sent (Clean report) old new told)
+      ⊎ (Keeps old new × FailsFirst told)
+
+  abbrev pub IsCutSent : Type 0
+  IsCutSent = ((cut sent : List ℕ) × IsTrimmedIf deletes filtered cut × IsPartIf after cut sent
+      × ArrivesOrBreaksOff sent (Clean report) old new told) ⊎ (Keeps old new × FailsFirst told)
+
+  pub cut_sent : (cut : List ℕ) → IsTrimmedIf deletes filtered cut → IsSentOf cut → IsCutSent
+  cut_sent cut trims (inl (sent, part, arrives)) = inl (cut, sent, trims, part, arrives)
+  cut_sent cut trims (inr failed) = inr failed
+
+  pub ran_and_sent : (settings : Settings) (dump : List ℕ) (answer : Answer) → (is_some deletes || is_some after) ≡ true
+      → RunLeaves settings dump (Some []) (Some filtered) answer → answer ≡ Clean report → IsCutSent
+      → RanCut settings deletes after dump old new told ⊎ (Keeps old new × FailsFirst told)
+  ran_and_sent settings dump answer asked ran is (inl (cut, sent, trims, part, arrives)) = inl (record {
+    answer = answer;
+    sent = sent;
+    answered = in_memory settings deletes after dump filtered sent answer asked ran
+        (subst (λ a. IsKeptOf deletes after filtered sent a) (sym is) (cut, trims, part));
+    arrived = subst (λ a. ArrivesOrBreaksOff sent a old new told) (sym is) arrives;
+  })
+  ran_and_sent settings dump answer asked ran is (inr failed) = inr failed
+
+-- a run without deletes, of which all is written
+pub ran_plain : (settings : Settings) (deletes : Option (List (List (List ℕ)))) (after : Option ℕ) (dump : List ℕ)
+    (old new : Option (List ℕ)) (told : Answer) → (is_some deletes || is_some after) ≡ false
+    → RanCut settings None None dump old new told → RanCut settings deletes after dump old new told
+ran_plain settings None None dump old new told plain ran = ran
+ran_plain settings None (Some number) dump old new told plain ran = absurd (let bad : true ≡ false = plain in cc)
+ran_plain settings (Some deletes) after dump old new told plain ran = absurd (let bad : true ≡ false = plain in cc)

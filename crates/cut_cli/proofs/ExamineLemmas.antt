@@ -1,35 +1,27 @@
 -- What is found of a dump, from what is found of the changes that the filter reads.
-use Rattle.std.proofs.Common.{◌≡◌, ◌⊎◌, ℕ, Bool, true, false, List, [], ◌∷◌, length, map, MatchBool, MatchOption, Option, Some, None, Result, Ok, Err, is_some, refl, sym, ap, ◌∙◌, subst, inl, inr}
-use Rattle.std.specs.List.{AllZip, list_all}
-use Rattle.clap.specs.Walk.{is_empty}
+use Rattle.std.proofs.Common.{◌≡◌, ◌⊎◌, ℕ, Bool, true, false, List, MatchOption, Option, Some, None, Result, Ok, Err, is_some, refl, sym, ◌∙◌, subst, inl, inr, IfOk}
 use Rattle.dump_records.specs.DumpText.{Ending, HasRecords}
 use Rattle.dump_records.specs.RecordText.{DumpRecord}
 use Rattle.dump_rules.specs.declared.options.Side.{Side}
 use Rattle.dump_rules.specs.declared.options.Side.TheVariants.{Exclude, Include}
-use Rattle.dump_trees.specs.Following.{Way}
-use Rattle.dump_trees.specs.FollowedRests.{all_rests}
-use Rattle.dump_trees.specs.Looking.{Placed}
 use Rattle.dump_trees.specs.Paths.{NodePath}
-use Rattle.dump_index.specs.IndexLaws.{IsListed}
 use Rattle.dump_index.specs.Listed.{Listed}
-use Rattle.dump_index.specs.ToldKinds.{kinds_told_by}
 use Rattle.dump_changes.specs.FileTexts.{ToldText, record_texts}
 use Rattle.dump_changes.specs.NodeProperties.{property_blocks}
+use Rattle.dump_cut.specs.LaterParts.{IsWhyNoPart}
 use Rattle.dump_cut.specs.LoadChecks.{IsFirstRefused}
+use Rattle.dump_cut.specs.declared.later.NoPart.{NoPart}
 use Rattle.dump_cut.specs.declared.load_check.Refused.{Refused}
-use Rattle.dump_cut.specs.declared.returns.PlacedRest.{PlacedRest}
-use Rattle.dump_cut.specs.steps.Returned.{rest_meant}
 use Rattle.dump_expansion.specs.GivenSteads.{GivenStead, IsExpandedBy}
 use Rattle.dump_additions.specs.declared.not_added.NotAdded.{NotAdded}
 use Rattle.dump_additions.specs.steps.Nodes.{AreAdditions}
-use Rattle.cut_cli.specs.Cuts.{AreAdditionsUnread, AreChangesOf, BeginsWithChanges, BringsNothingBack, BringsSomeBack, ExcludesAsAsked, ExcludesWithReturns, HasAdditionsFor, IsAskedBy, IsNotAdded, IsNotRead, IsObstacleTo, IsReadyFor, IsTakenDump, IsUnreadFor, StaysBack, writes_additions}
+use Rattle.cut_cli.specs.Cuts.{AreAdditionsUnread, AreChangesOf, BeginsWithChanges, BringsNothingBack, BringsSomeBack, ExcludesAsAsked, ExcludesWithReturns, HasAdditionsFor, HasPartIf, IsAskedBy, IsNotAdded, IsNotRead, IsObstacleTo, IsTakenDump, IsUnreadFor, StaysBack, writes_additions}
 use Rattle.cut_cli.specs.Words.{CutMeaning}
 use Rattle.cut_cli.specs.declared.examine.Obstacle.{Obstacle}
 use Rattle.cut_cli.specs.declared.examine.Obstacle.TheVariants.{ComesBack}
-use Rattle.cut_cli.specs.declared.examine.Ready.{Ready}
-use Rattle.cut_cli.specs.declared.expansion.Expansion.{Expansion}
+use Rattle.cut_cli.specs.declared.examine.Obstacle.TheVariants as obstacles
 use Rattle.cut_cli.specs.declared.read.Unread.{Unread}
-use Rattle.cut_cli.specs.steps.Examined.{IsExamined, IsPrepared, expansion_text}
+use Rattle.cut_cli.specs.steps.Examined.{IsExamined, IsPrepared, LacksPart}
 use Rattle.cut_cli.proofs.UnfollowedLemmas.{back_is_unfollowed}
 
 -- a dump with additions is what the filter reads
@@ -116,3 +108,28 @@ module _ (dump : List ℕ) (listed : List Listed) (excluded : List NodePath) (bl
     additions = (additions_are (Ok given) additions).0;
     expanded = expanded;
   }
+
+-- the part of a dump after a revision, if one is asked for
+module _ (dump : List ℕ) (listed : List Listed) (are : AreChangesOf dump listed) (after : Option ℕ) (found : Option NoPart)
+    (lacks : (records : List DumpRecord) → HasRecords dump records Ending.Whole → LacksPart after records found) where
+  pub has_part : found ≡ None → HasPartIf after dump
+  has_part none = by after (lacks are.records are.whole)
+    where
+      by : (a : Option ℕ) → LacksPart a are.records found → HasPartIf a dump
+      by None why = tt
+      by (Some number) why = (are.records, are.whole, subst (IsWhyNoPart number are.records) none why)
+
+  pub lacks_part : (m : CutMeaning) → m.after ≡ after → (why : NoPart) → found ≡ Some why
+      → IsObstacleTo m dump (obstacles.NoPart why)
+  lacks_part m same why is = by after same (lacks are.records are.whole)
+    where
+      by : (a : Option ℕ) → m.after ≡ a → LacksPart a are.records found → IsObstacleTo m dump (obstacles.NoPart why)
+      by None at none = absurd (let bad : None ≡ Some why = sym none ∙ is in cc)
+      by (Some number) at lack =
+          (number, are.records, at, are.whole, subst (IsWhyNoPart number are.records) is lack)
+
+-- what is so of each result
+pub of_each : {A B C P : Type 0} (r : Result (Result A B) C) → P → IfOk r (λ found. IfOk found (λ ready. P))
+of_each (Ok (Ok x)) p = p
+of_each (Ok (Err x)) p = tt
+of_each (Err x) p = tt

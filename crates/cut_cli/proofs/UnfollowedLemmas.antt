@@ -1,9 +1,9 @@
 -- Under exclude something can come back only if copies are not followed.
-use Rattle.std.proofs.Common.{◌≡◌, ◌≢◌, ℕ, Bool, true, false, List, [], ◌∷◌, map, MatchBool, Option, Some, None, refl, sym, ap, ◌∙◌, subst}
+use Rattle.std.proofs.Common.{◌≡◌, ℕ, Bool, true, false, List, [], ◌∷◌, map, MatchBool, Option, None, refl, ap, ◌∙◌, subst}
 use Rattle.std.specs.List.{AllZip}
 use Rattle.dump_trees.specs.Changes.{Made}
 use Rattle.dump_trees.specs.Following.{Way}
-use Rattle.dump_trees.specs.Looking.{Placed, placed_from}
+use Rattle.dump_trees.specs.Looking.{Placed}
 use Rattle.dump_trees.specs.Paths.{NodePath}
 use Rattle.dump_history.specs.RecordChanges.{Patching}
 use Rattle.dump_index.specs.IndexLaws.{AreListed, HasProps, HasText, IsListed}

@@ -9,6 +9,7 @@ use Rattle.dump_pipeline.specs.declared.answer.Failure.TheVariants.{Memory}
 use Rattle.dump_rules.specs.Settings.{Settings}
 use Rattle.dump_rules.specs.declared.options.Side.TheVariants.{Exclude, Include}
 use Rattle.dump_cut.specs.declared.fates.RevisionFate.{RevisionFate}
+use Rattle.dump_cut.specs.declared.later.NoPart.TheVariants.{NoRevision}
 use Rattle.dump_text.specs.declared.fault.FaultKind.TheVariants.{Md5}
 use Rattle.cut_cli.specs.CommandLine.{cut_command}
 use Rattle.cli_support.specs.declared.info.Info.TheVariants.{Version}
@@ -17,13 +18,13 @@ use Rattle.cut_cli.specs.Drive.{AnswersArguments, AnswersWhole, BeginsMap, EndsM
 use Rattle.cut_cli.specs.RevisionMap.{TakesPartOfMap, fate_lines, last_behind, loaded_number}
 use Rattle.cut_cli.specs.Texts.{info_text}
 use Rattle.cut_cli.specs.Words.{CutMeaning, TellsCut, asked_map, cut_of_words, with_texts_of}
-use Rattle.cut_cli.specs.declared.examine.Obstacle.TheVariants.{ComesBack, OddDelete}
+use Rattle.cut_cli.specs.declared.examine.Obstacle.TheVariants.{ComesBack, NoPart, OddDelete}
 
 -- CommandLine
 
--- ten options, and the prefixes
-eleven_rules : length cut_command.top.rules ≡ 11
-eleven_rules = refl
+-- eleven options, and the prefixes
+twelve_rules : length cut_command.top.rules ≡ 12
+twelve_rules = refl
 
 no_sides : cut_command.subs ≡ []
 no_sides = refl
@@ -43,6 +44,7 @@ around : cut_of_words (given (codes "a" ∷ codes "--follow-copies" ∷ codes "-
       follow = true;
       keep = false;
       drop = false;
+      after = None;
       dry_run = false;
       quiet = true;
       verbose = false;
@@ -62,6 +64,7 @@ others : cut_of_words (codes "p" ∷ codes "include" ∷ codes "--verbose" ∷ c
       follow = false;
       keep = false;
       drop = true;
+      after = None;
       dry_run = true;
       quiet = false;
       verbose = true;
@@ -80,6 +83,7 @@ plan : cut_of_words (given (codes "--workers" ∷ codes "2" ∷ codes "a" ∷ co
       follow = false;
       keep = false;
       drop = false;
+      after = None;
       dry_run = false;
       quiet = false;
       verbose = false;
@@ -98,6 +102,7 @@ files : cut_of_words (given (codes "--targets" ∷ codes "f" ∷ codes "--target
       follow = false;
       keep = false;
       drop = false;
+      after = None;
       dry_run = false;
       quiet = false;
       verbose = false;
@@ -116,6 +121,7 @@ mapped : cut_of_words (given (codes "a" ∷ codes "--map" ∷ codes "m" ∷ code
       follow = false;
       keep = false;
       drop = false;
+      after = None;
       dry_run = true;
       quiet = false;
       verbose = false;
@@ -158,6 +164,7 @@ keeping : cut_of_words (given (codes "--keep-copies" ∷ codes "a" ∷ []))
       follow = false;
       keep = true;
       drop = false;
+      after = None;
       dry_run = false;
       quiet = false;
       verbose = false;
@@ -175,6 +182,37 @@ keeping_under_include : cut_of_words (codes "p" ∷ codes "include" ∷ codes "-
 unfolding clap_on_literals
 keeping_under_include = refl
 
+after_a_revision : cut_of_words (given (codes "--after" ∷ codes "005" ∷ codes "a" ∷ []))
+    ≡ Ok (record {
+      side = Exclude;
+      prefixes = codes "a" ∷ [];
+      targets = [];
+      map_name = None;
+      follow = false;
+      keep = false;
+      drop = false;
+      after = Some 5;
+      dry_run = false;
+      quiet = false;
+      verbose = false;
+      workers = 4;
+      window = 64;
+    })
+unfolding clap_on_literals
+after_a_revision = refl
+
+after_a_name : cut_of_words (given (codes "--after" ∷ codes "HEAD" ∷ codes "a" ∷ [])) ≡ Err Words
+unfolding clap_on_literals
+after_a_name = refl
+
+after_and_dropping : cut_of_words (given (codes "--after=5" ∷ codes "--drop-empty-revs" ∷ codes "a" ∷ [])) ≡ Err Words
+unfolding clap_on_literals
+after_and_dropping = refl
+
+after_and_following : cut_of_words (given (codes "--after=5" ∷ codes "--follow-copies" ∷ codes "a" ∷ [])) ≡ Err Words
+unfolding clap_on_literals
+after_and_following = refl
+
 options_of_the_filter : cut_of_words (given (codes "--renumber-revs" ∷ codes "a" ∷ [])) ≡ Err Words
 unfolding clap_on_literals
 options_of_the_filter = refl
@@ -191,6 +229,7 @@ meaning prefixes = record {
   follow = false;
   keep = false;
   drop = false;
+  after = None;
   dry_run = false;
   quiet = false;
   verbose = false;
@@ -234,6 +273,9 @@ returns_have_a_status = refl
 others_have_one : obstacle_status (OddDelete 3) ≡ 1
 others_have_one = refl
 
+no_part_has_one : obstacle_status (NoPart NoRevision) ≡ 1
+no_part_has_one = refl
+
 version_is_printed : AnswersArguments (λ _. None) (Some Version) (Err Words) None (Some []) (Some (info_text Version))
     (Some []) (Some []) 0
 version_is_printed = (inl (refl, refl), refl)
@@ -252,11 +294,11 @@ begun : BeginsMap (Some (codes "m")) (Some (codes "old")) (Some [])
 begun = refl
 
 -- a map that wasn't asked for can't fail
-unasked : (settings : Settings) → ¬ EndsMap None settings [] (Some []) (Some []) false
+unasked : (settings : Settings) → ¬ EndsMap None None settings [] (Some []) (Some []) false
 unasked settings (kept, e) = cc
 
 -- behind a fault the file stays as it is
-no_map_behind_a_fault : (settings : Settings) → FollowsCut (Some (codes "m")) settings [] (Some []) (Some []) 1 1
+no_map_behind_a_fault : (settings : Settings) → FollowsCut (Some (codes "m")) None settings [] (Some []) (Some []) 1 1
 no_map_behind_a_fault settings = (refl, refl)
 
 -- RevisionMap
@@ -265,15 +307,20 @@ abbrev fate : ℕ → Bool → RevisionFate
 fate number stays = record { number = number; stays = stays }
 
 -- 1 and 4 are dropped
-worked : fate_lines None (fate 0 true ∷ fate 1 false ∷ fate 2 true ∷ fate 3 true ∷ fate 4 false ∷ [])
+worked : fate_lines None None (fate 0 true ∷ fate 1 false ∷ fate 2 true ∷ fate 3 true ∷ fate 4 false ∷ [])
     ≡ codes "r0 becomes r0\nr1 is dropped; references to it become r0\nr2 becomes r1\nr3 becomes r2\nr4 is dropped; references to it become r2\n"
 unfolding digits
 worked = refl
 
 -- nothing is kept before it
-first_dropped : fate_lines None (fate 1 false ∷ fate 2 true ∷ []) ≡ codes "r1 is dropped\nr2 becomes r1\n"
+first_dropped : fate_lines None None (fate 1 false ∷ fate 2 true ∷ []) ≡ codes "r1 is dropped\nr2 becomes r1\n"
 unfolding digits
 first_dropped = refl
+
+-- the lines of those after 1 are as in the whole map
+of_a_part : fate_lines (Some 1) None (fate 0 true ∷ fate 1 true ∷ fate 2 true ∷ []) ≡ codes "r2 becomes r2\n"
+unfolding digits
+of_a_part = refl
 
 later_number : loaded_number (Some 6) 9 ≡ 7
 later_number = refl
@@ -281,5 +328,5 @@ later_number = refl
 last_stays : last_behind (Some 6) (fate 9 false) ≡ Some 6
 last_stays = refl
 
-nothing_taken : (settings : Settings) → TakesPartOfMap settings [] (Some (codes "a")) (Some (codes "a"))
+nothing_taken : (settings : Settings) → TakesPartOfMap None settings [] (Some (codes "a")) (Some (codes "a"))
 nothing_taken settings = inl refl

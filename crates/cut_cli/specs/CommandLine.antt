@@ -12,4 +12,5 @@ cut_command =
     let dry = with_rule drops (switch (codes "dry-run")) in
     let said = with_rule (with_rule dry (switch (codes "quiet"))) (switch (codes "verbose")) in
     let plan = with_rule (with_rule said (number (codes "workers") 64 (codes "4"))) (number (codes "window") 4096 (codes "64")) in
-    with_rule (with_rule (with_rule plan (repeated (codes "targets"))) (valued (codes "map"))) any_prefixes
+    let files = with_rule (with_rule plan (repeated (codes "targets"))) (valued (codes "map")) in
+    with_rule (with_rule files (valued (codes "after"))) any_prefixes

@@ -1,5 +1,5 @@
 -- What is found out of a dump before it is filtered, and what the filter then writes.
-use Rattle.std.specs.Prelude.{◌≡◌, ◌≢◌, ◌⊎◌, ℕ, true, false, List, [], ◌∷◌, ◌++◌, length, map, Bool, Option, Some, None, MatchBool, Contains, IsTrue, unwrap_or}
+use Rattle.std.specs.Prelude.{◌≡◌, ◌≢◌, ◌⊎◌, ℕ, true, false, List, [], ◌∷◌, ◌++◌, length, map, Bool, Option, Some, None, MatchBool, Contains, IsTrue, unwrap_or, ⊤}
 use Rattle.std.specs.List.{AllZip, list_all}
 use Rattle.dump_digest.specs.RecordParts.{HasPropertyList, is_mergeinfo, is_node, value_of}
 use Rattle.dump_records.specs.DumpText.{BeginsWithRecords, Ending, HasRecords}
@@ -41,6 +41,7 @@ use Rattle.dump_changes.specs.NodeProperties.{HaveNodeNumbers, property_blocks}
 use Rattle.dump_cut.specs.FollowedCopies.{ComeByFollowing}
 use Rattle.dump_cut.specs.FoundSiblings.{AreFoundSiblings}
 use Rattle.dump_cut.specs.NamedLines.{CoverMergeinfo}
+use Rattle.dump_cut.specs.LaterParts.{IsWhyNoPart}
 use Rattle.dump_cut.specs.LoadChecks.{IsFirstRefused}
 use Rattle.dump_cut.specs.TakenCopies.{IsFirstNotTaken, emptied_by}
 use Rattle.dump_cut.specs.TrimmedCopies.{AreDeletes, HasOddDelete, IsTrimmedBy}
@@ -229,11 +230,19 @@ pub record ExcludesWithReturns (m : CutMeaning) (dump : List ℕ) (listed : List
     pub asked : IsAskedBy m.side m dump listed excluded
     pub some_back : BringsSomeBack listed excluded
 
+-- the dump has a part after a revision, if one is asked for
+abbrev pub HasPartIf : Option ℕ → List ℕ → Type 0
+HasPartIf None dump = ⊤
+HasPartIf (Some number) dump = (records : List DumpRecord) × HasRecords dump records Ending.Whole
+    × IsWhyNoPart number records None
+
 -- why nothing is written
 abbrev pub IsObstacleTo : CutMeaning → List ℕ → Obstacle → Type 0
 IsObstacleTo m dump (Unread reason) = IsUnreadFor m.drop dump reason
 IsObstacleTo m dump (Refused refused) = (listed : List Listed) × BeginsWithChanges dump listed
     × IsFirstRefused listed (Some refused)
+IsObstacleTo m dump (obstacles.NoPart why) = (number : ℕ) × (records : List DumpRecord) × (m.after ≡ Some number)
+    × HasRecords dump records Ending.Whole × IsWhyNoPart number records (Some why)
 IsObstacleTo m dump ComesBack = (listed : List Listed) × (excluded : List NodePath)
     × ExcludesWithReturns m dump listed excluded × StaysBack m.side m dump listed excluded
 IsObstacleTo m dump (obstacles.NotAdded not_added) = (listed : List Listed) × (excluded : List NodePath)

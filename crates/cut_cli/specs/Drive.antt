@@ -22,8 +22,8 @@ use Rattle.cli_support.specs.Targets.{AreTextsOf}
 use Rattle.cli_support.specs.declared.info.Info.{Info}
 use Rattle.cli_support.specs.declared.usage.Usage.{Usage}
 use Rattle.dump_changes.specs.ListedDumps.{are_numbered}
-use Rattle.dump_cut.specs.TrimmedCopies.{IsTrimmedBy}
-use Rattle.cut_cli.specs.Cuts.{IsCutText, IsObstacleTo, IsReadyFor, IsTrimmedIf, text_read}
+use Rattle.dump_cut.specs.LaterParts.{IsLaterPart}
+use Rattle.cut_cli.specs.Cuts.{HasPartIf, IsCutText, IsObstacleTo, IsReadyFor, IsTrimmedIf, text_read}
 use Rattle.cut_cli.specs.RevisionMap.{IsMapOfCut, TakesPartOfMap}
 use Rattle.cut_cli.specs.Texts.{info_text}
 use Rattle.cut_cli.specs.Words.{CutMeaning, TellsCut, asked_map, cut_meaning, with_texts_of}
@@ -42,6 +42,7 @@ obstacle_status (obstacles.Refused _) = 1
 obstacle_status obstacles.ComesBack = 3
 obstacle_status (obstacles.OddDelete _) = 1
 obstacle_status (obstacles.NotAdded _) = 1
+obstacle_status (obstacles.NoPart _) = 1
 
 -- the line after the records before a fault: no reader of dumps takes it for a record
 abbrev pub stop_line : FaultKind → List ℕ
@@ -65,63 +66,79 @@ pub record BreaksOffCut (old new : Option (List ℕ)) (sent : List ℕ) (told : 
   pub counted : GrowsBy old new written
   pub told_is : told ≡ Failed failure written
 
--- what is written of what the filter wrote, by its answer: all of it, with deletes behind its nodes; or nothing
-abbrev pub IsTrimmedOf : List (List (List ℕ)) → List ℕ → List ℕ → Answer → Type 0
-IsTrimmedOf deletes filtered sent (Clean _) = IsTrimmedBy deletes filtered sent
-IsTrimmedOf deletes filtered sent (Fault _ _ _) = sent ≡ []
-IsTrimmedOf deletes filtered sent (Failed _ _) = sent ≡ []
+-- the text is what is written of a cut: all of it, or its part after a revision
+abbrev pub IsPartIf : Option ℕ → List ℕ → List ℕ → Type 0
+IsPartIf None cut text = text ≡ cut
+IsPartIf (Some number) cut text = IsLaterPart number cut text
 
--- a run on the input gives the answer, and these bytes are what it sends, or what is written of that
-abbrev pub IsSent : Settings → Option (List (List (List ℕ))) → List ℕ → List ℕ → Answer → Type 0
-IsSent settings None dump sent answer = IsRunAnswer settings dump sent answer
-IsSent settings (Some deletes) dump sent answer =
-    (filtered : List ℕ) × IsRunAnswer settings dump filtered answer × IsTrimmedOf deletes filtered sent answer
+-- what is written of what the filter wrote, by its answer: the cut, with deletes after its nodes, or its part after a revision;
+-- or nothing
+abbrev pub IsKeptOf : Option (List (List (List ℕ))) → Option ℕ → List ℕ → List ℕ → Answer → Type 0
+IsKeptOf deletes after filtered sent (Clean _) =
+    (cut : List ℕ) × IsTrimmedIf deletes filtered cut × IsPartIf after cut sent
+IsKeptOf deletes after filtered sent (Fault _ _ _) = sent ≡ []
+IsKeptOf deletes after filtered sent (Failed _ _) = sent ≡ []
 
--- a run on the input gave an answer, and bytes were sent: all of them reached the writer, with the last line of a fault, and
--- the answer is told; or the output broke off
-pub record RanCut (settings : Settings) (deletes : Option (List (List (List ℕ)))) (dump : List ℕ)
+-- a run on the input gives the answer, and these bytes are what it sends; or what is written of that, if there are deletes, or a
+-- part is to be written
+abbrev pub IsSent : Settings → Option (List (List (List ℕ))) → Option ℕ → List ℕ → List ℕ → Answer → Type 0
+IsSent settings None None dump sent answer = IsRunAnswer settings dump sent answer
+IsSent settings None (Some number) dump sent answer =
+    (filtered : List ℕ) × IsRunAnswer settings dump filtered answer × IsKeptOf None (Some number) filtered sent answer
+IsSent settings (Some deletes) after dump sent answer =
+    (filtered : List ℕ) × IsRunAnswer settings dump filtered answer × IsKeptOf (Some deletes) after filtered sent answer
+
+-- these bytes were sent, with the last line of a fault: all of them reached the writer, and the answer is told; or the output broke
+-- off
+abbrev pub ArrivesOrBreaksOff : List ℕ → Answer → Option (List ℕ) → Option (List ℕ) → Answer → Type 0
+ArrivesOrBreaksOff sent answer old new told = (Appends old new (sent ++ stop_line_of answer) × (told ≡ answer))
+    ⊎ BreaksOffCut old new (sent ++ stop_line_of answer) told
+
+-- a run on the input gave an answer, and bytes were sent
+pub record RanCut (settings : Settings) (deletes : Option (List (List (List ℕ)))) (after : Option ℕ) (dump : List ℕ)
     (old new : Option (List ℕ)) (told : Answer) : Type 0 where
   pub answer : Answer
   pub sent : List ℕ
-  pub answered : IsSent settings deletes dump sent answer
-  pub arrived : (Appends old new (sent ++ stop_line_of answer) × (told ≡ answer))
-      ⊎ BreaksOffCut old new (sent ++ stop_line_of answer) told
+  pub answered : IsSent settings deletes after dump sent answer
+  pub arrived : ArrivesOrBreaksOff sent answer old new told
 
 -- the dump is filtered, or no memory was left for that
-abbrev pub WritesCut : Settings → Option (List (List (List ℕ))) → List ℕ → Option (List ℕ) → Option (List ℕ) → ℕ → Type 0
-WritesCut settings deletes dump old new status =
-    ((told : Answer) × RanCut settings deletes dump old new told × (status ≡ cut_status told))
+abbrev pub WritesCut : Settings → Option (List (List (List ℕ))) → Option ℕ → List ℕ → Option (List ℕ) → Option (List ℕ) → ℕ
+    → Type 0
+WritesCut settings deletes after dump old new status =
+    ((told : Answer) × RanCut settings deletes after dump old new told × (status ≡ cut_status told))
     ⊎ (Keeps old new × (status ≡ 1))
 
 -- a map is written whole, or a first part of it
-abbrev pub WritesMap : Settings → List ℕ → Option (List ℕ) → Option (List ℕ) → Bool → Type 0
-WritesMap settings dump old new true = (text : List ℕ) × IsMapOfCut settings dump text × Appends old new text
-WritesMap settings dump old new false = TakesPartOfMap settings dump old new
+abbrev pub WritesMap : Option ℕ → Settings → List ℕ → Option (List ℕ) → Option (List ℕ) → Bool → Type 0
+WritesMap after settings dump old new true = (text : List ℕ) × IsMapOfCut after settings dump text × Appends old new text
+WritesMap after settings dump old new false = TakesPartOfMap after settings dump old new
 
 -- the same of a map that is asked for; one that isn't can't fail
-abbrev pub EndsMap : Option Text → Settings → List ℕ → Option (List ℕ) → Option (List ℕ) → Bool → Type 0
-EndsMap None settings dump old new whole = Keeps old new × (whole ≡ true)
-EndsMap (Some name) settings dump old new whole = WritesMap settings dump old new whole
+abbrev pub EndsMap : Option Text → Option ℕ → Settings → List ℕ → Option (List ℕ) → Option (List ℕ) → Bool → Type 0
+EndsMap None after settings dump old new whole = Keeps old new × (whole ≡ true)
+EndsMap (Some name) after settings dump old new whole = WritesMap after settings dump old new whole
 
 -- behind a whole cut the map is written, and the status is 1 where that failed; behind any other none is, and the status
 -- stays
-abbrev pub FollowsCut : Option Text → Settings → List ℕ → Option (List ℕ) → Option (List ℕ) → (cut status : ℕ) → Type 0
-FollowsCut asked settings dump old new cut status = MatchBool (cut == 0)
-    ((whole : Bool) × EndsMap asked settings dump old new whole × (status ≡ (if whole then 0 else 1)))
+abbrev pub FollowsCut : Option Text → Option ℕ → Settings → List ℕ → Option (List ℕ) → Option (List ℕ) → (cut status : ℕ)
+    → Type 0
+FollowsCut asked after settings dump old new cut status = MatchBool (cut == 0)
+    ((whole : Bool) × EndsMap asked after settings dump old new whole × (status ≡ (if whole then 0 else 1)))
     (Keeps old new × (status ≡ cut))
 
 -- the dump is filtered, with a status, and the map follows
-abbrev pub WritesBoth : Option Text → Settings → Option (List (List (List ℕ))) → List ℕ
+abbrev pub WritesBoth : Option Text → Settings → Option (List (List (List ℕ))) → Option ℕ → List ℕ
     → (old new map_old map_new : Option (List ℕ)) → ℕ → Type 0
-WritesBoth asked settings deletes dump old new map_old map_new status = (cut : ℕ)
-    × WritesCut settings deletes dump old new cut × FollowsCut asked settings dump map_old map_new cut status
+WritesBoth asked settings deletes after dump old new map_old map_new status = (cut : ℕ)
+    × WritesCut settings deletes after dump old new cut × FollowsCut asked after settings dump map_old map_new cut status
 
 -- the same where the call is for a trial: the writer receives nothing
 abbrev pub WritesIfAsked : CutMeaning → Settings → Option (List (List (List ℕ))) → List ℕ
     → (old new map_old map_new : Option (List ℕ)) → ℕ → Type 0
 WritesIfAsked m settings deletes dump old new map_old map_new status = MatchBool m.dry_run
-    (WritesBoth (asked_map m) settings deletes dump None None map_old map_new status × Keeps old new)
-    (WritesBoth (asked_map m) settings deletes dump old new map_old map_new status)
+    (WritesBoth (asked_map m) settings deletes m.after dump None None map_old map_new status × Keeps old new)
+    (WritesBoth (asked_map m) settings deletes m.after dump old new map_old map_new status)
 
 -- if the revisions of the dump are numbered 0, 1, 2 and so on: what the filter writes of what it reads, with these deletes, is the
 -- cut of the dump
@@ -136,8 +153,8 @@ CleanTextsAreCuts m expansion settings deletes dump =
 abbrev pub CutsDump : CutMeaning → List ℕ → (old new map_old map_new : Option (List ℕ)) → ℕ → Type 0
 CutsDump m dump old new map_old map_new status =
     ((expansion : Option (List ℕ)) × (settings : Settings) × (deletes : Option (List (List (List ℕ))))
-    × IsReadyFor m dump expansion settings deletes × CleanTextsAreCuts m expansion settings deletes dump
-    × WritesIfAsked m settings deletes (text_read expansion dump) old new map_old map_new status)
+    × HasPartIf m.after dump × IsReadyFor m dump expansion settings deletes
+    × CleanTextsAreCuts m expansion settings deletes dump × WritesIfAsked m settings deletes (text_read expansion dump) old new map_old map_new status)
     ⊎ ((obstacle : Obstacle) × IsObstacleTo m dump obstacle × Keeps old new × Keeps map_old map_new
     × (status ≡ obstacle_status obstacle))
     ⊎ (Keeps old new × Keeps map_old map_new × (status ≡ 1))

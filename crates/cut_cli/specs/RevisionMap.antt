@@ -1,6 +1,6 @@
 -- The map of revisions, word for word: the number that each one has in the new repository, or what becomes of references
 -- to it.
-use Rattle.std.specs.Prelude.{◌≡◌, ◌⊎◌, ℕ, ◌+◌, ◌==◌, List, [], ◌∷◌, ◌++◌, Option, Some, None, codes, decimal, unwrap_or, if◌then◌else◌}
+use Rattle.std.specs.Prelude.{◌≡◌, ◌⊎◌, ℕ, ◌+◌, ◌==◌, nat_lt, Bool, true, List, [], ◌∷◌, ◌++◌, Option, Some, None, codes, decimal, unwrap_or, if◌then◌else◌}
 use Rattle.std.specs.Io.KnownBytes.{Appends}
 use Rattle.std.specs.List.{concat}
 use Rattle.dump_records.specs.DumpText.{Ending, HasRecords}
@@ -33,19 +33,25 @@ abbrev pub fate_line : Option ℕ → RevisionFate → List ℕ
 fate_line last fate =
     if fate.stays then kept_line fate.number (loaded_number last fate.number) else dropped_line fate.number last
 
--- the lines of these revisions, in their order
-abbrev pub fate_lines : Option ℕ → List RevisionFate → List ℕ
-fate_lines last [] = []
-fate_lines last (fate ∷ fates) = fate_line last fate ++ fate_lines (last_behind last fate) fates
+-- whether a revision has a line: all have one, or those after this one
+abbrev pub has_line : Option ℕ → RevisionFate → Bool
+has_line None fate = true
+has_line (Some number) fate = nat_lt number fate.number
 
--- this is the map of the revisions of a dump, up to where its list of records ends
-pub record IsMapOfCut (settings : Settings) (dump text : List ℕ) : Type 0 where
+-- the lines of these revisions, in their order
+abbrev pub fate_lines : Option ℕ → Option ℕ → List RevisionFate → List ℕ
+fate_lines after last [] = []
+fate_lines after last (fate ∷ fates) =
+    (if has_line after fate then fate_line last fate else []) ++ fate_lines after (last_behind last fate) fates
+
+-- this is the map of the revisions of a dump, up to where its list of records ends; or of those after this one
+pub record IsMapOfCut (after : Option ℕ) (settings : Settings) (dump text : List ℕ) : Type 0 where
   pub records : List DumpRecord
   pub ending : Ending
   pub has : HasRecords dump records ending
-  pub text_is : text ≡ fate_lines None (fates_of_groups settings records)
+  pub text_is : text ≡ fate_lines after None (fates_of_groups settings records)
 
 -- the file took nothing, or a first part of the map
-abbrev pub TakesPartOfMap : Settings → List ℕ → Option (List ℕ) → Option (List ℕ) → Type 0
-TakesPartOfMap settings dump old new = Appends old new []
-    ⊎ ((text part : List ℕ) × IsMapOfCut settings dump text × IsPrefixOf part text × Appends old new part)
+abbrev pub TakesPartOfMap : Option ℕ → Settings → List ℕ → Option (List ℕ) → Option (List ℕ) → Type 0
+TakesPartOfMap after settings dump old new = Appends old new []
+    ⊎ ((text part : List ℕ) × IsMapOfCut after settings dump text × IsPrefixOf part text × Appends old new part)

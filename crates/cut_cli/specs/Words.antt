@@ -1,8 +1,10 @@
 -- What the program's arguments mean, by the side and by what clap finds after it.
-use Rattle.std.specs.Prelude.{ℕ, Bool, ◌||◌, ◌&&◌, List, [], ◌++◌, Result, Ok, Err, codes, drop, map, option_map, unwrap_or, Option, None, if◌then◌else◌}
+use Rattle.std.specs.Prelude.{ℕ, Bool, false, ◌||◌, ◌&&◌, List, [], ◌++◌, Result, Ok, Err, codes, drop, map, option_map, unwrap_or, Option, Some, None, is_none, if◌then◌else◌}
+use Rattle.std.specs.Option.{option_and_then}
 use Rattle.std.specs.List.{list_any}
 use Rattle.clap.specs.Walk.{is_empty}
 use Rattle.clap.specs.Words.{Row, Text, all_of, first_of}
+use Rattle.dump_text.specs.Number.{number_of}
 use Rattle.dump_rules.specs.declared.options.Side.{Side}
 use Rattle.dump_rules.specs.declared.options.Side.TheVariants.{Exclude, Include}
 use Rattle.dump_pipeline.specs.PlanViews.{worker_count, window_size}
@@ -14,8 +16,8 @@ use Rattle.cut_cli.specs.CommandLine.{cut_command}
 use Rattle.cut_cli.specs.declared.words.Call.{Call}
 
 -- what a call asks for: a side, prefixes, files with more of them, the file of a map of revisions, whether copies are
--- followed, whether what copies bring back is kept, whether emptied revisions are dropped, whether nothing is written, what is
--- reported, how many workers there are, and how wide their window is
+-- followed, whether what copies bring back is kept, whether emptied revisions are dropped, the revision after which the cut is
+-- written, whether nothing is written, what is reported, how many workers there are, and how wide their window is
 pub record CutMeaning : Type 0 where
   pub side : Side
   pub prefixes : List Text
@@ -24,6 +26,7 @@ pub record CutMeaning : Type 0 where
   pub follow : Bool
   pub keep : Bool
   pub drop : Bool
+  pub after : Option ℕ
   pub dry_run : Bool
   pub quiet : Bool
   pub verbose : Bool
@@ -39,6 +42,7 @@ cut_meaning call = record {
   follow = call.follow;
   keep = call.keep;
   drop = call.drop;
+  after = call.after;
   dry_run = call.dry_run;
   quiet = call.quiet;
   verbose = call.verbose;
@@ -59,12 +63,24 @@ abbrev pub keeps_wrongly : Side → (keep follow : Bool) → Bool
 keeps_wrongly Include keep follow = keep
 keeps_wrongly Exclude keep follow = keep && follow
 
+-- the revision after which the cut is written: one to eighteen digits
+abbrev pub after_in : List Row → Option ℕ
+after_in rows = option_and_then number_of (first_of (codes "after") rows)
+
+-- whether the text that says after which revision is no number, or the cut can't begin after one: revisions are dropped, or copies
+-- are followed
+abbrev pub goes_on_wrongly : Option Text → (drop follow : Bool) → Bool
+goes_on_wrongly None drop follow = false
+goes_on_wrongly (Some text) drop follow = is_none (number_of text) || (drop || follow)
+
 -- whether the rows have no prefix and no file, or an empty prefix, or options that contradict each other or the side
 abbrev pub are_refused : Side → List Row → Bool
 are_refused side rows = (is_empty (prefixes_in rows) && is_empty (targets_in rows))
     || (list_any is_empty (prefixes_in rows)
     || ((is_set (codes "quiet") rows && is_set (codes "verbose") rows)
-    || keeps_wrongly side (is_set (codes "keep-copies") rows) (is_set (codes "follow-copies") rows)))
+    || (keeps_wrongly side (is_set (codes "keep-copies") rows) (is_set (codes "follow-copies") rows)
+    || goes_on_wrongly (first_of (codes "after") rows) (is_set (codes "drop-empty-revs") rows)
+    (is_set (codes "follow-copies") rows))))
 
 -- what a side and its rows ask for
 abbrev pub cut_of_side : Side → List Row → Result CutMeaning Usage
@@ -76,6 +92,7 @@ cut_of_side side rows = if are_refused side rows then Err Words else Ok (record 
   follow = is_set (codes "follow-copies") rows;
   keep = is_set (codes "keep-copies") rows;
   drop = is_set (codes "drop-empty-revs") rows;
+  after = after_in rows;
   dry_run = is_set (codes "dry-run") rows;
   quiet = is_set (codes "quiet") rows;
   verbose = is_set (codes "verbose") rows;

@@ -23,5 +23,6 @@ pub fn cut_command<'a>(alloc: Global) -> Result<Command<'a>, AllocError>
         .arg(window(alloc))?
         .arg(repeated(alloc, "targets"))?
         .arg(valued(alloc, "map"))?
+        .arg(valued(alloc, "after"))?
         .arg(any_prefixes(alloc))
 }

@@ -1,5 +1,5 @@
 //! The whole program, over any reader and writers.
-ghost use Rattle.std.specs.Prelude.{◌≡◌, [], IfOk, OnErr, OnOk, map};
+ghost use Rattle.std.specs.Prelude.{◌≡◌, ◌⊎◌, ◌||◌, [], IfOk, OnErr, OnOk, is_some, map};
 ghost use Rattle.std.specs.Io.KnownBytes.{Appends, Keeps};
 ghost use Rattle.dump_writer.specs.steps.SinkStates.{lent_taken, loan_of};
 ghost use Rattle.cut_cli.specs.Drive.{AnswersArguments, AnswersCall, AnswersWhole, CutsDump, CutsInput, DrivesCut, RanCut, ReadsTargets, TakesPart, WritesBoth, WritesCut, stop_line, stop_line_of, obstacle_status, cut_status};
@@ -7,17 +7,17 @@ ghost use Rattle.cli_support.specs.Info.{info_of};
 ghost use Rattle.cut_cli.specs.Words.{asked_map, cut_of_words, cut_meaning};
 ghost use Rattle.cut_cli.specs.Cuts.{text_read};
 ghost use Rattle.cut_cli.specs.steps.Examined.{expansion_text};
-ghost use Rattle.cut_cli.specs.steps.Ended.{TellsAfter};
+ghost use Rattle.cut_cli.specs.steps.Ended.{FailsFirst, TellsAfter};
 
 use crate::examine::{Obstacle, Ready, examine};
 use crate::expansion::Expansion;
 use crate::faults::write_fault;
-use crate::lines::{Counts, write_report};
+use crate::lines::write_report;
 use crate::map::{begin_map, end_map};
+use crate::memory::run_in_memory;
 use crate::mistakes::{Mistake, write_mistake, write_no_file};
 use crate::spot::first_revision;
 use crate::texts::info_text;
-use crate::trim::run_and_trim;
 use crate::words::{Call, call_of, with_targets};
 use cli_support::{
     Cause, NamedFiles, NamedOutput, Program, UnreadFile, Usage, fail, fail_unread, finish, info_of,
@@ -245,17 +245,17 @@ fn write_cut<H: Threads + Wait + Sync, W: Write, M: NamedOutput, E: Write>(
     map_file: &mut M,
     errors: &mut E,
 ) -> u8
-    ensures { WritesBoth (asked_map (cut_meaning call.now)) ready.now.options ready.now.deletes (text_read (expansion_text ready.now.expansion) dump.now) (W.contents writer.old) (W.contents writer.new) (M.contents map_file.old) (M.contents map_file.new) result }
+    ensures { WritesBoth (asked_map (cut_meaning call.now)) ready.now.options ready.now.deletes call.now.after (text_read (expansion_text ready.now.expansion) dump.now) (W.contents writer.old) (W.contents writer.new) (M.contents map_file.old) (M.contents map_file.new) result }
 {
     let text = ready.text(dump);
-    let answer = filter_cut(rt, alloc, text, call.plan, ready, writer);
+    let answer = filter_cut(rt, alloc, text, call, ready, writer);
     let Answer::Clean(_) = answer else {
-        return tell(errors, dump, answer, call.quiet, ready);
+        return tell(errors, dump, answer, call, ready);
     };
     if !end_map(alloc, text, &ready.options, call, map_file, errors) {
         return 1;
     }
-    tell(errors, dump, answer, call.quiet, ready)
+    tell(errors, dump, answer, call, ready)
 }
 
 /// Filters a dump that is ready.
@@ -263,11 +263,11 @@ fn filter_cut<H: Threads + Wait + Sync, W: Write>(
     rt: &H,
     alloc: Global,
     dump: &[u8],
-    plan: Plan,
+    call: &Call<'_>,
     ready: &Ready,
     writer: &mut W,
 ) -> Answer
-    ensures { WritesCut ready.now.options ready.now.deletes dump.now (W.contents writer.old) (W.contents writer.new) (cut_status result) }
+    ensures { WritesCut ready.now.options ready.now.deletes call.now.after dump.now (W.contents writer.old) (W.contents writer.new) (cut_status result) }
 {
     let Ok(buffer) = output_buffer(alloc) else {
         return Answer::Failed {
@@ -276,13 +276,40 @@ fn filter_cut<H: Threads + Wait + Sync, W: Write>(
         };
     };
     let mut sink = OutMut::new(writer, buffer);
-    let options = &ready.options;
-    let answer = match &ready.deletes {
-        None => run_and_flush(rt, alloc, dump, options, plan, &mut sink),
-        Some(deletes) => run_and_trim(rt, alloc, dump, options, deletes, plan, &mut sink),
-    };
+    let answer = run_cut(rt, alloc, dump, call, ready, &mut sink);
     let _ = sink.into_inner();
     answer
+}
+
+/// Whether what the filter writes is kept in memory before it is written.
+fn is_kept_back(deletes: &Option<Deletes>, after: Option<u64>) -> bool
+    ensures { result ≡ (is_some deletes.now || is_some after) }
+{
+    deletes.is_some() || after.is_some()
+}
+
+/// Runs the filter, with the deletes after its nodes, and writes all of the cut or its part after a revision.
+fn run_cut<H: Threads + Wait + Sync, W: Write>(
+    rt: &H,
+    alloc: Global,
+    dump: &[u8],
+    call: &Call<'_>,
+    ready: &Ready,
+    sink: &mut OutMut<'_, W>,
+) -> Answer
+    requires waiting { sink.old.waiting ≡ [] }
+    requires start { sink.old.out.start ≡ sink.old.out.taken }
+    ensures ran { RanCut ready.now.options ready.now.deletes call.now.after dump.now sink.old.out.taken sink.new.out.taken result
+        ⊎ (Keeps sink.old.out.taken sink.new.out.taken × FailsFirst result) }
+    ensures loan { loan_of sink.new ≡ loan_of sink.old }
+{
+    let options = &ready.options;
+    let deletes = &ready.deletes;
+    let after = call.after;
+    if is_kept_back(deletes, after) {
+        return run_in_memory(rt, alloc, dump, options, deletes, after, call.plan, sink);
+    }
+    run_and_flush(rt, alloc, dump, options, call.plan, sink)
 }
 
 /// Runs the filter, and hands on all that waits after the run.
@@ -296,7 +323,7 @@ fn run_and_flush<H: Threads + Wait + Sync, W: Write>(
 ) -> Answer
     requires waiting { sink.old.waiting ≡ [] }
     requires start { sink.old.out.start ≡ sink.old.out.taken }
-    ensures ran { RanCut options.now None dump.now sink.old.out.taken sink.new.out.taken result }
+    ensures ran { RanCut options.now None None dump.now sink.old.out.taken sink.new.out.taken result }
     ensures loan { loan_of sink.new ≡ loan_of sink.old }
 {
     let answer = run(rt, alloc, dump, options, plan, &FreeGate, sink);
@@ -305,7 +332,7 @@ fn run_and_flush<H: Threads + Wait + Sync, W: Write>(
 }
 
 /// The line that ends the output if the filter found a fault. No reader of dumps takes it for a record.
-pub(crate) fn ending(alloc: Global, kind: FaultKind) -> Result<Vec<u8>, io::Error>
+fn ending(alloc: Global, kind: FaultKind) -> Result<Vec<u8>, io::Error>
     ensures { IfOk result (λ line. line.items ≡ stop_line kind) }
 {
     let mut line = Vec::new(alloc);
@@ -315,7 +342,11 @@ pub(crate) fn ending(alloc: Global, kind: FaultKind) -> Result<Vec<u8>, io::Erro
 }
 
 /// Writes that line, if the filter found a fault.
-fn write_ending<S: Sink>(alloc: Global, answer: Answer, sink: &mut S) -> Result<(), Failure>
+pub(crate) fn write_ending<S: Sink>(
+    alloc: Global,
+    answer: Answer,
+    sink: &mut S,
+) -> Result<(), Failure>
     ensures whole { OnOk result (Appends (S.taken sink.old) (S.taken sink.new) (stop_line_of answer)) }
     ensures part { OnErr result (TakesPart (S.taken sink.old) (S.taken sink.new) (stop_line_of answer)) }
     ensures through { S.through sink.new ≡ S.through sink.old }
@@ -381,21 +412,18 @@ fn is_sink_down(answer: Answer) -> bool {
 }
 
 /// The line of an answer, and the status.
-fn tell<E: Write>(errors: &mut E, dump: &[u8], answer: Answer, quiet: bool, ready: &Ready) -> u8
+fn tell<E: Write>(errors: &mut E, dump: &[u8], answer: Answer, call: &Call<'_>, ready: &Ready) -> u8
     ensures { result ≡ cut_status answer }
 {
     match answer {
         Answer::Clean(report) => {
-            if !quiet {
-                let deleted = count_deletes(&ready.deletes);
-                let youngest = youngest(dump, report.revisions_kept);
-                let more = Counts {
-                    youngest,
-                    emptied: ready.emptied,
-                    deleted,
-                    written: written(&ready.expansion),
+            if !call.quiet {
+                let first = match call.after {
+                    Some(number) => number.saturating_add(1),
+                    None => 0,
                 };
-                let _ = write_report(errors, report, more);
+                let youngest = youngest(dump, report.revisions_kept);
+                let _ = write_report(errors, report, ready.counts, first, youngest);
             }
             0
         }
@@ -412,25 +440,6 @@ fn youngest(dump: &[u8], kept: u64) -> u64 {
     match first_revision(dump) {
         Some(0) => kept.saturating_sub(1),
         _ => kept,
-    }
-}
-
-/// How many paths are deleted after copies.
-fn count_deletes(deletes: &Option<Deletes>) -> usize {
-    let mut count: usize = 0;
-    if let Some(deletes) = deletes {
-        for paths in deletes.behind() {
-            count = count.saturating_add(paths.len());
-        }
-    }
-    count
-}
-
-/// How many nodes of the dump are replaced, and how many are in their place.
-fn written(expansion: &Option<Expansion>) -> Option<(usize, usize)> {
-    match expansion {
-        Some(expansion) => Some((expansion.replaced.len(), expansion.nodes())),
-        None => None,
     }
 }
 

@@ -1,30 +1,34 @@
 //! What is found out of a dump before anything is written.
 ghost use Rattle.std.specs.Prelude.{◌≡◌, List, IfOk, IsTrue};
 ghost use Rattle.std.specs.List.{AllZip, list_all};
+ghost use Rattle.dump_records.specs.DumpText.{Ending, HasRecords};
+ghost use Rattle.dump_records.specs.RecordText.{DumpRecord};
 ghost use Rattle.dump_index.specs.IndexLaws.{IsListed};
 ghost use Rattle.dump_index.specs.ToldKinds.{kinds_told_by};
 ghost use Rattle.dump_trees.specs.Looking.{Placed};
 ghost use Rattle.dump_cut.specs.NamedPaths.{has_named_paths};
 ghost use Rattle.dump_cut.specs.steps.ExcludedPaths.{paths_of};
 ghost use Rattle.dump_cut.specs.steps.Returned.{way_meant};
-ghost use Rattle.cut_cli.specs.Cuts.{AreNamed, BringsSomeBack, FollowsAsAsked, IsAskedBy, IsTakenDump, LeavesIncluded, text_read};
+ghost use Rattle.cut_cli.specs.Cuts.{AreNamed, BringsSomeBack, FollowsAsAsked, HasPartIf, IsAskedBy, IsTakenDump, LeavesIncluded, text_read};
 ghost use Rattle.cut_cli.specs.Words.{cut_meaning};
-ghost use Rattle.cut_cli.specs.steps.Examined.{AreDeletesIfAny, IsExamined, IsExpandedToCut, IsFrontOf, IsPrepared, expansion_text};
+ghost use Rattle.cut_cli.specs.steps.Examined.{AreDeletesIfAny, IsExamined, IsExpandedToCut, IsFrontOf, IsPrepared, LacksPart, expansion_text};
 
 use crate::expansion::{Expansion, front_to_cut, returns_of, with_additions};
-use crate::faults::{write_not_added, write_refused, write_unread};
-use crate::lines::{write_advice, write_deletes, write_odd_delete, write_places, write_siblings};
+use crate::faults::{write_no_part, write_not_added, write_refused, write_unread};
+use crate::lines::{
+    Counts, write_advice, write_deletes, write_odd_delete, write_places, write_siblings,
+};
 use crate::own_lives::report_additions;
 use crate::parents::report_parents;
 use crate::prefixes::report_prefixes;
 use crate::read::{Front, Unread, read_front};
 use crate::words::Call;
-use crate::written::{list_returns, report_replaced, report_written};
+use crate::written::{count_earlier, list_returns, report_replaced, report_written};
 use dump_additions::NotAdded;
 use dump_changes::Memory;
 use dump_cut::{
-    Deletes, Excluded, PlacedRest, Refused, Way, add_named_siblings, find_siblings,
-    first_not_taken, first_refused, follow,
+    Deletes, Excluded, NoPart, PlacedRest, Refused, Way, add_named_siblings, find_siblings,
+    first_not_taken, first_refused, follow, no_part_after,
 };
 use dump_index::{ChangeIndex, NodeChange};
 use dump_rules::{Options, Side};
@@ -38,6 +42,8 @@ pub enum Obstacle {
     Unread(Unread),
     /// `svnadmin load` would reject a change of the dump.
     Refused(Refused),
+    /// There is no part of the dump after the revision that the call names.
+    NoPart(NoPart),
     /// Copies would bring excluded content back.
     ComesBack,
     /// The change at this place is a copy, after which a path would have to be deleted that no line of a dump can hold.
@@ -53,8 +59,8 @@ pub struct Ready {
     pub options: Options,
     /// The paths to delete after each node that the filter keeps; none if it has to delete nothing.
     pub deletes: Option<Deletes>,
-    /// How many revisions stay that have changes, and all of them at excluded paths.
-    pub emptied: u64,
+    /// What the summary counts of the revisions that are written.
+    pub counts: Counts,
     /// What the filter reads in place of the dump, if something excluded comes back there.
     pub expansion: Option<Expansion>,
 }
@@ -93,6 +99,49 @@ fn count_emptied(excluded: &Excluded, changes: &[NodeChange<'_>]) -> u64 {
         keeps_some = keeps_some || !excluded.covers(change.path);
     }
     emptied.saturating_add(u64::from(!keeps_some))
+}
+
+/// How many of the changes are at paths that aren't excluded.
+fn count_kept(excluded: &Excluded, changes: &[NodeChange<'_>]) -> usize {
+    let mut kept: usize = 0;
+    for change in changes {
+        kept = kept.saturating_add(usize::from(!excluded.covers(change.path)));
+    }
+    kept
+}
+
+/// How many paths are deleted after copies, without those after the first kept nodes.
+fn count_deletes(deletes: &Option<Deletes>, first: usize) -> usize {
+    let mut count: usize = 0;
+    if let Some(deletes) = deletes {
+        for paths in deletes.behind().iter().skip(first) {
+            count = count.saturating_add(paths.len());
+        }
+    }
+    count
+}
+
+/// What the summary counts of the revisions that are written.
+fn counts_of(
+    index: &ChangeIndex<'_>,
+    excluded: &Excluded,
+    call: &Call<'_>,
+    deletes: &Option<Deletes>,
+) -> Counts {
+    let changes = index.changes();
+    let first = count_earlier(changes, call.after);
+    let kept = count_kept(excluded, &changes[..first]);
+    Counts {
+        emptied: if call.drop {
+            0
+        } else {
+            count_emptied(excluded, &changes[first..])
+        },
+        deleted: count_deletes(deletes, kept),
+        written: None,
+        kept_before: kept as u64,
+        dropped_before: first.saturating_sub(kept) as u64,
+    }
 }
 
 /// The paths that the prefixes name.
@@ -237,7 +286,9 @@ fn look_for_deletes<E: Write>(
     match Deletes::find(alloc, index, excluded)? {
         Ok(deletes) => {
             if call.verbose {
-                let _ = write_deletes(errors, index.changes(), excluded, deletes.behind());
+                let changes = index.changes();
+                let first = count_earlier(changes, call.after);
+                let _ = write_deletes(errors, changes, excluded, deletes.behind(), first);
             }
             Ok(Ok(Some(deletes)))
         }
@@ -265,15 +316,11 @@ fn prepare<E: Write>(
         Err(place) => return Ok(Err(Obstacle::OddDelete(place))),
     };
     let options = excluded.filter_options(alloc, call.drop)?;
-    let emptied = if call.drop {
-        0
-    } else {
-        count_emptied(excluded, index.changes())
-    };
+    let counts = counts_of(index, excluded, call, &deletes);
     Ok(Ok(Ready {
         options,
         deletes,
-        emptied,
+        counts,
         expansion: None,
     }))
 }
@@ -310,7 +357,7 @@ fn prepare_expanded<E: Write>(
     };
     match found {
         Ok(mut ready) => {
-            report_replaced(index, &expansion, call, errors);
+            ready.counts.written = report_replaced(index, &expansion, call, errors);
             ready.expansion = Some(expansion);
             Ok(Some(Ok(ready)))
         }
@@ -375,7 +422,8 @@ fn examine_front<E: Write>(
 ) -> Result<Result<Ready, Obstacle>, Memory>
     requires named { IsTrue (list_all has_named_paths front.now.index) }
     requires front { IsFrontOf (cut_meaning call.now).drop dump.now front.now }
-    ensures { IfOk result (IsExamined (cut_meaning call.now) dump.now) }
+    ensures examined { IfOk result (IsExamined (cut_meaning call.now) dump.now) }
+    ensures part { IfOk result (λ found. IfOk found (λ ready. HasPartIf call.now.after dump.now)) }
 {
     let index = &front.index;
     if let Some(refused) = first_refused(alloc, index)? {
@@ -386,7 +434,21 @@ fn examine_front<E: Write>(
         let _ = write_unread(errors, dump, unread);
         return Ok(Err(Obstacle::Unread(unread)));
     }
+    if let Some(why) = no_part(dump, call) {
+        let _ = write_no_part(errors, call.after, why);
+        return Ok(Err(Obstacle::NoPart(why)));
+    }
     examine_changes(alloc, dump, index, call, errors)
+}
+
+/// Why a whole dump has no part after the revision that the call names, if it names one.
+fn no_part(dump: &[u8], call: &Call<'_>) -> Option<NoPart>
+    ensures { (records : List DumpRecord) → HasRecords dump.now records Ending.Whole → LacksPart call.now.after records result }
+{
+    match call.after {
+        Some(number) => no_part_after(dump, number),
+        None => None,
+    }
 }
 
 /// Looks whether the dump loads, what the call excludes of it, and whether the filter can write the cut. It reports what
@@ -397,7 +459,8 @@ pub fn examine<E: Write>(
     call: &Call<'_>,
     errors: &mut E,
 ) -> Result<Result<Ready, Obstacle>, Memory>
-    ensures { IfOk result (IsExamined (cut_meaning call.now) dump.now) }
+    ensures examined { IfOk result (IsExamined (cut_meaning call.now) dump.now) }
+    ensures part { IfOk result (λ found. IfOk found (λ ready. HasPartIf call.now.after dump.now)) }
 {
     let front = read_front(alloc, dump, call.drop)?;
     examine_front(alloc, dump, &front, call, errors)

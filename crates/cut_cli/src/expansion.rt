@@ -32,15 +32,6 @@ pub struct Expansion {
 }
 
 impl Expansion {
-    /// How many nodes are written in place of all that are replaced.
-    pub fn nodes(&self) -> usize {
-        let mut count: usize = 0;
-        for one in &self.replaced {
-            count = count.saturating_add(one.nodes);
-        }
-        count
-    }
-
     /// The number of the record of the dump to which the record of the text with this number belongs: the same record, or the
     /// one that is replaced.
     pub fn given_number(&self, number: u64) -> u64 {

@@ -3,7 +3,7 @@ use crate::lines::{write_path, write_source};
 use crate::read::Unread;
 use crate::spot::{Spot, first_revision, spot_of};
 use dump_additions::{NotAdded, Reason};
-use dump_cut::{Refusal, Refused};
+use dump_cut::{NoPart, Refusal, Refused};
 use dump_digest::properties_of;
 use dump_index::NodeChange;
 use dump_nodes::{action_of, has_odd_delta};
@@ -138,6 +138,18 @@ pub fn write_fault<E: Write>(
 ) -> io::Result<()> {
     let spot = spot_of(dump, number);
     write_fault_at(errors, kind.code(), fault_text(kind), spot)
+}
+
+/// Says why the dump has no part after a revision.
+pub fn write_no_part<E: Write>(errors: &mut E, number: Option<u64>, why: NoPart) -> io::Result<()> {
+    let Some(number) = number else {
+        return Ok(());
+    };
+    let text = match why {
+        NoPart::NotNumbered => "the revisions of the dump are not numbered 0, 1, 2 and so on",
+        NoPart::NoRevision => "the dump has no such revision",
+    };
+    writeln!(errors, "svndumpcut: --after {number}: {text}")
 }
 
 /// Says why nothing can be written in place of a copy.

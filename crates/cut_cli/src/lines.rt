@@ -288,12 +288,13 @@ fn write_copy<E: Write>(
     write_source(errors, source, b"")
 }
 
-/// Lists the copies after which paths are deleted: these after each change at a path that isn't excluded.
+/// Lists the copies from this place on after which paths are deleted: these after each change at a path that isn't excluded.
 pub fn write_deletes<E: Write>(
     errors: &mut E,
     changes: &[NodeChange<'_>],
     excluded: &Excluded,
     deletes: &[Vec<Vec<u8>>],
+    from: usize,
 ) -> io::Result<()> {
     let mut behind = deletes;
     for (place, change) in changes.iter().enumerate() {
@@ -307,7 +308,7 @@ pub fn write_deletes<E: Write>(
         let Some((change, source)) = source_at(changes, place) else {
             continue;
         };
-        if !paths.is_empty() {
+        if place >= from && !paths.is_empty() {
             write_copy(errors, change, source)?;
             write!(errors, ": ")?;
             write_count(errors, paths.len(), "path")?;
@@ -408,21 +409,28 @@ pub fn write_replaced<E: Write>(
     writeln!(errors, "")
 }
 
-/// What is counted beside what the filter counts.
+/// What is counted of the revisions that are written, beside what the filter counts.
 #[derive(Clone, Copy)]
 pub struct Counts {
-    /// The number that a load gives the last revision.
-    pub youngest: u64,
     /// How many revisions stay that lose all of their nodes.
     pub emptied: u64,
     /// How many paths are deleted after copies.
     pub deleted: usize,
     /// How many nodes of the dump are replaced, and how many are in their place.
     pub written: Option<(usize, usize)>,
+    /// How many nodes are kept, and how many are dropped, in revisions that aren't written.
+    pub kept_before: u64,
+    pub dropped_before: u64,
 }
 
-/// Writes the counts of a run.
-pub fn write_report<E: Write>(errors: &mut E, report: Report, counts: Counts) -> io::Result<()> {
+/// Writes the counts of a run, without those of the first revisions, so many. The last revision gets this number from a load.
+pub fn write_report<E: Write>(
+    errors: &mut E,
+    report: Report,
+    counts: Counts,
+    first: u64,
+    youngest: u64,
+) -> io::Result<()> {
     let Report {
         revisions_kept,
         revisions_dropped,
@@ -431,11 +439,15 @@ pub fn write_report<E: Write>(errors: &mut E, report: Report, counts: Counts) ->
         texts_checked,
     } = report;
     let Counts {
-        youngest,
         emptied,
         deleted,
         written,
+        kept_before,
+        dropped_before,
     } = counts;
+    let revisions_kept = revisions_kept.saturating_sub(first);
+    let nodes_kept = nodes_kept.saturating_sub(kept_before);
+    let nodes_dropped = nodes_dropped.saturating_sub(dropped_before);
     write!(errors, "revisions kept {revisions_kept}")?;
     if emptied > 0 {
         write!(errors, " ({emptied} of them emptied)")?;

@@ -8,6 +8,7 @@ mod expansion;
 mod faults;
 mod lines;
 mod map;
+mod memory;
 mod mistakes;
 mod own_lives;
 mod parents;
@@ -16,7 +17,6 @@ mod read;
 mod sizes;
 mod spot;
 mod texts;
-mod trim;
 mod words;
 mod written;
 

@@ -1,8 +1,8 @@
 //! The map of revisions: which number each one has in the new repository.
-ghost use Rattle.std.specs.Prelude.{◌≡◌, ◌+◌, ◌<◌, ◌^◌, ◌++◌, IfOk, None, OnOk, false, true, is_some, unwrap_or};
+ghost use Rattle.std.specs.Prelude.{◌≡◌, ◌+◌, ◌<◌, ◌^◌, ◌++◌, [], if◌then◌else◌, IfOk, None, OnOk, false, true, is_some, unwrap_or};
 ghost use Rattle.std.specs.Io.KnownBytes.{Keeps};
 ghost use Rattle.cut_cli.specs.Drive.{BeginsMap, EndsMap, WritesMap};
-ghost use Rattle.cut_cli.specs.RevisionMap.{IsMapOfCut, fate_line, fate_lines, last_behind, loaded_number};
+ghost use Rattle.cut_cli.specs.RevisionMap.{IsMapOfCut, fate_line, fate_lines, has_line, last_behind, loaded_number};
 ghost use Rattle.cut_cli.specs.Words.{asked_map, cut_meaning};
 
 use crate::mistakes::{write_cut_map, write_no_map};
@@ -48,48 +48,88 @@ fn loaded_number(last: Option<u64>, number: u64) -> u64
     }
 }
 
-/// Adds the line of a revision, if the last number that a load gave is this. It gives the last number after it.
-fn push_line(text: &mut Vec<u8>, last: Option<u64>, fate: RevisionFate) -> io::Result<Option<u64>>
+/// The last number that a load gave after this revision, if the last one before it is this.
+fn last_after(last: Option<u64>, fate: RevisionFate) -> Option<u64>
     requires { unwrap_or last 0 + 1 < 2 ^ 64 }
-    ensures line { OnOk result (text.new.items ≡ text.old.items ++ fate_line last fate) }
-    ensures last { IfOk result (λ behind. behind ≡ last_behind last fate) }
+    ensures { result ≡ last_behind last fate }
+{
+    if !fate.stays {
+        return last;
+    }
+    Some(loaded_number(last, fate.number))
+}
+
+/// Adds the line of a revision, if the last number that a load gave before it is this.
+fn push_line(text: &mut Vec<u8>, last: Option<u64>, fate: RevisionFate) -> io::Result<()>
+    requires { unwrap_or last 0 + 1 < 2 ^ 64 }
+    ensures { OnOk result (text.new.items ≡ text.old.items ++ fate_line last fate) }
 {
     let number = fate.number;
     if fate.stays {
         let new = loaded_number(last, number);
-        writeln!(text, "r{number} becomes r{new}")?;
-        return Ok(Some(new));
+        return writeln!(text, "r{number} becomes r{new}");
     }
     match last {
         Some(kept) => writeln!(
             text,
             "r{number} is dropped; references to it become r{kept}"
-        )?,
-        None => writeln!(text, "r{number} is dropped")?,
+        ),
+        None => writeln!(text, "r{number} is dropped"),
     }
-    Ok(last)
+}
+
+/// Whether a revision has a line: all have one, or those after this one.
+fn has_line(after: Option<u64>, fate: RevisionFate) -> bool
+    ensures { result ≡ has_line after fate }
+{
+    match after {
+        Some(number) => fate.number > number,
+        None => true,
+    }
+}
+
+/// The same, if the revision has a line.
+fn push_shown(
+    text: &mut Vec<u8>,
+    after: Option<u64>,
+    last: Option<u64>,
+    fate: RevisionFate,
+) -> io::Result<()>
+    requires { unwrap_or last 0 + 1 < 2 ^ 64 }
+    ensures { OnOk result (text.new.items ≡ text.old.items ++ (if has_line after fate then fate_line last fate else [])) }
+{
+    if has_line(after, fate) {
+        push_line(text, last, fate)?;
+    }
+    Ok(())
 }
 
 /// The lines of these revisions.
-fn lines_of(alloc: Global, fates: &[RevisionFate]) -> io::Result<Vec<u8>>
-    ensures { IfOk result (λ text. text.items ≡ fate_lines None fates.now) }
+fn lines_of(alloc: Global, fates: &[RevisionFate], after: Option<u64>) -> io::Result<Vec<u8>>
+    ensures { IfOk result (λ text. text.items ≡ fate_lines after None fates.now) }
 {
     let mut text = Vec::new(alloc);
     let mut last = None;
     let mut left = fates;
     while let [fate, others @ ..] = left {
-        last = push_line(&mut text, last, *fate)?;
+        push_shown(&mut text, after, last, *fate)?;
+        last = last_after(last, *fate);
         left = others;
     }
     Ok(text)
 }
 
-/// The map of the revisions of a dump that is cut with these options.
-fn map_text(alloc: Global, dump: &[u8], options: &Options) -> io::Result<Vec<u8>>
-    ensures { IfOk result (λ text. IsMapOfCut options.now dump.now text.items) }
+/// The map of the revisions of a dump that is cut with these options, or of those after one.
+fn map_text(
+    alloc: Global,
+    dump: &[u8],
+    options: &Options,
+    after: Option<u64>,
+) -> io::Result<Vec<u8>>
+    ensures { IfOk result (λ text. IsMapOfCut after options.now dump.now text.items) }
 {
     match revision_fates(alloc, dump, options) {
-        Ok(fates) => lines_of(alloc, &fates),
+        Ok(fates) => lines_of(alloc, &fates, after),
         Err(Memory) => Err(ErrorKind::OutOfMemory.into()),
     }
 }
@@ -104,12 +144,12 @@ pub fn end_map<M: NamedOutput, E: Write>(
     map_file: &mut M,
     errors: &mut E,
 ) -> bool
-    ensures { EndsMap (asked_map (cut_meaning call.now)) options.now dump.now (M.contents map_file.old) (M.contents map_file.new) result }
+    ensures { EndsMap (asked_map (cut_meaning call.now)) call.now.after options.now dump.now (M.contents map_file.old) (M.contents map_file.new) result }
 {
     let Some(name) = asked_map(call) else {
         return true;
     };
-    let is_written = write_map(alloc, dump, options, map_file);
+    let is_written = write_map(alloc, dump, options, call.after, map_file);
     if !is_written {
         let _ = write_cut_map(errors, name);
     }
@@ -121,11 +161,12 @@ fn write_map<M: NamedOutput>(
     alloc: Global,
     dump: &[u8],
     options: &Options,
+    after: Option<u64>,
     map_file: &mut M,
 ) -> bool
-    ensures { WritesMap options.now dump.now (M.contents map_file.old) (M.contents map_file.new) result }
+    ensures { WritesMap after options.now dump.now (M.contents map_file.old) (M.contents map_file.new) result }
 {
-    match map_text(alloc, dump, options) {
+    match map_text(alloc, dump, options, after) {
         Ok(text) => write_text(alloc, &text, map_file).is_ok(),
         Err(_) => false,
     }

@@ -25,6 +25,12 @@ pub enum Mistake<'a> {
     KeepUnderInclude,
     /// Copies are to be followed, and what they bring back is to be kept.
     KeepAndFollow,
+    /// The text after `--after` is no number.
+    NoRevision(&'a str),
+    /// The cut is to begin after a revision, and others are to be dropped.
+    AfterAndDrop,
+    /// The cut is to begin after a revision, and copies are to be followed.
+    AfterAndFollow,
     /// An argument is not UTF-8.
     NotText,
 }
@@ -54,6 +60,17 @@ fn write_text<E: Write>(errors: &mut E, mistake: Mistake<'_>) -> io::Result<()> 
                 errors,
                 "--keep-copies and --follow-copies exclude each other"
             )
+        }
+        Mistake::NoRevision(text) => {
+            write!(errors, "not the number of a revision: --after '")?;
+            write_seen(errors, text.as_bytes())?;
+            write!(errors, "'")
+        }
+        Mistake::AfterAndDrop => {
+            write!(errors, "--after and --drop-empty-revs exclude each other")
+        }
+        Mistake::AfterAndFollow => {
+            write!(errors, "--after and --follow-copies exclude each other")
         }
         Mistake::NotText => write!(errors, "an argument is not UTF-8"),
     }

@@ -18,6 +18,8 @@ each prefix, and the directories above; exclude keeps what no prefix matches.
   --keep-copies      keep excluded content where copies bring it back; only with
                      exclude
   --drop-empty-revs  drop revisions that lose all of their nodes, and renumber
+  --after N          write only the revisions after N, for a repository that was
+                     loaded from an earlier cut up to N
   --dry-run          do everything but write the new dump
   --quiet            write only warnings, faults and failures
   --verbose          write lists whole

@@ -1,6 +1,8 @@
 //! The arguments of a call.
 ghost use Rattle.std.specs.Prelude.{◌≡◌, ◌≢◌, ◌≤◌, Err, IfOk, is_some, map, option_map, true, codes};
 ghost use Rattle.std.specs.List.{list_any};
+ghost use Rattle.std.specs.Option.{option_and_then};
+ghost use Rattle.dump_text.specs.Number.{number_of};
 ghost use Rattle.clap.specs.Built.{IsParsedFrom};
 ghost use Rattle.clap.specs.Walk.{is_empty};
 ghost use Rattle.clap.specs.Words.{app_of, found_of, is_simple_and_free, rows_of};
@@ -8,7 +10,7 @@ ghost use Rattle.cli_support.specs.steps.LineReading.{ReadsLine};
 ghost use Rattle.cli_support.specs.Arguments.{flag_number};
 ghost use Rattle.cli_support.specs.steps.FilledFlags.{AreFilled};
 ghost use Rattle.dump_pipeline.specs.PlanViews.{worker_count, window_size};
-ghost use Rattle.cut_cli.specs.Words.{TellsCut, are_refused, asked_map, cut_of_words, cut_of_side, cut_meaning, keeps_wrongly, prefixes_in, targets_in, with_texts_of};
+ghost use Rattle.cut_cli.specs.Words.{TellsCut, are_refused, asked_map, cut_of_words, cut_of_side, cut_meaning, goes_on_wrongly, keeps_wrongly, prefixes_in, targets_in, with_texts_of};
 
 use crate::command::cut_command;
 use crate::mistakes::{Mistake, write_mistake, write_refused_line};
@@ -19,6 +21,7 @@ use cli_support::{
 };
 use dump_pipeline::Plan;
 use dump_rules::Side;
+use dump_text::number;
 use std::alloc::{AllocError, Global};
 use std::io::Write;
 
@@ -38,6 +41,8 @@ pub struct Call<'a> {
     pub keep: bool,
     /// Whether revisions are dropped that lose all of their nodes, and the others are renumbered.
     pub drop: bool,
+    /// The revision after which the cut is written: the others were loaded before.
+    pub after: Option<u64>,
     /// Whether nothing is written.
     pub dry_run: bool,
     /// Whether warnings and faults alone are reported.
@@ -133,13 +138,35 @@ fn wrong_keeping(side: Side, keep: bool, follow: bool) -> Option<Mistake<'static
     }
 }
 
+/// The number of the revision after which the cut is written, by its text.
+fn after_of(text: Option<&str>) -> Option<u64>
+    ensures { result ≡ option_and_then number_of (option_map (λ text. text.now) text.entry) }
+{
+    match text {
+        Some(text) => number(text.as_bytes()),
+        None => None,
+    }
+}
+
+/// What is wrong with the text that says after which revision the cut is written, and these options.
+fn wrong_after<'a>(text: Option<&'a str>, drop: bool, follow: bool) -> Option<Mistake<'a>>
+    ensures { is_some result ≡ goes_on_wrongly (option_map (λ text. text.now) text.entry) drop follow }
+{
+    match text {
+        Some(text) if number(text.as_bytes()).is_none() => Some(Mistake::NoRevision(text)),
+        Some(_) if drop => Some(Mistake::AfterAndDrop),
+        Some(_) if follow => Some(Mistake::AfterAndFollow),
+        _ => None,
+    }
+}
+
 /// What is wrong with a side and the arguments after it, which have these prefixes and files.
-fn mistake_in(
+fn mistake_in<'a>(
     side: Side,
-    matches: &ArgMatches<'_>,
+    matches: &ArgMatches<'a>,
     prefixes: &[&[u8]],
     targets: &[&str],
-) -> Option<Mistake<'static>>
+) -> Option<Mistake<'a>>
     requires prefixes { map (λ prefix. prefix.now) prefixes.now ≡ prefixes_in (rows_of (found_of matches.now)) }
     requires targets { map (λ name. name.now) targets.now ≡ targets_in (rows_of (found_of matches.now)) }
     ensures { is_some result ≡ are_refused side (rows_of (found_of matches.now)) }
@@ -155,7 +182,12 @@ fn mistake_in(
     }
     let keep = is_set(matches, "keep-copies");
     let follow = is_set(matches, "follow-copies");
-    wrong_keeping(side, keep, follow)
+    let wrong = wrong_keeping(side, keep, follow);
+    if wrong.is_some() {
+        return wrong;
+    }
+    let drop = is_set(matches, "drop-empty-revs");
+    wrong_after(read_value(matches, "after"), drop, follow)
 }
 
 /// What a side and the arguments after it ask for.
@@ -185,6 +217,7 @@ fn read_call<'a, E: Write>(
         follow: is_set(matches, "follow-copies"),
         keep: is_set(matches, "keep-copies"),
         drop: is_set(matches, "drop-empty-revs"),
+        after: after_of(read_value(matches, "after")),
         dry_run: is_set(matches, "dry-run"),
         quiet: is_set(matches, "quiet"),
         verbose: is_set(matches, "verbose"),

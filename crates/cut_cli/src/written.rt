@@ -1,5 +1,5 @@
 //! What is reported of copies that are written as additions.
-ghost use Rattle.std.specs.Prelude.{IsTrue};
+ghost use Rattle.std.specs.Prelude.{IsTrue, ◌≤◌, length};
 ghost use Rattle.std.specs.List.{list_all};
 ghost use Rattle.dump_cut.specs.NamedPaths.{has_named_paths};
 
@@ -13,7 +13,7 @@ use crate::sizes::sizes_of;
 use crate::words::Call;
 use dump_changes::Memory;
 use dump_cut::{Excluded, PlacedRest, Way, all_followed};
-use dump_index::ChangeIndex;
+use dump_index::{ChangeIndex, NodeChange};
 use std::alloc::Global;
 use std::io::Write;
 
@@ -56,6 +56,26 @@ fn included_returns<'e>(
     Ok(found)
 }
 
+/// How many changes are in revisions that aren't written: those up to this one, if there is one.
+pub fn count_earlier(changes: &[NodeChange<'_>], after: Option<u64>) -> usize
+    ensures { result ≤ length changes.now }
+{
+    match after {
+        Some(number) => changes.partition_point(|change| change.revision <= number),
+        None => 0,
+    }
+}
+
+/// What comes back in the revisions that are written, in the order of the dump.
+fn written_returns<'r, 'e>(
+    index: &ChangeIndex<'_>,
+    call: &Call<'_>,
+    returns: &'r [PlacedRest<'e>],
+) -> &'r [PlacedRest<'e>] {
+    let first = count_earlier(index.changes(), call.after);
+    &returns[returns.partition_point(|found| found.place < first)..]
+}
+
 /// Lists what copies bring back, with how much the first of them bring.
 pub fn list_returns<E: Write>(
     alloc: Global,
@@ -84,7 +104,8 @@ pub fn report_written<E: Write>(
 ) -> Result<(), Memory>
     requires { IsTrue (list_all has_named_paths index.now) }
 {
-    if call.quiet {
+    let returns = written_returns(index, call, returns);
+    if call.quiet || returns.is_empty() {
         return Ok(());
     }
     let excluded = &asked.excluded;
@@ -104,24 +125,38 @@ pub fn report_written<E: Write>(
     Ok(())
 }
 
-/// Lists the copies in place of which other nodes are written.
+/// Lists the copies in place of which other nodes are written. The result is how many there are, and how many nodes are in
+/// their place; none if there is none.
 pub fn report_replaced<E: Write>(
     index: &ChangeIndex<'_>,
     expansion: &Expansion,
     call: &Call<'_>,
     errors: &mut E,
-) {
-    if !call.verbose {
-        return;
-    }
+) -> Option<(usize, usize)> {
+    let first = count_earlier(index.changes(), call.after);
+    let mut copies: usize = 0;
+    let mut nodes: usize = 0;
     let mut left = expansion.replaced.as_slice();
     for (place, change) in index.changes().iter().enumerate() {
         let [one, others @ ..] = left else {
             break;
         };
-        if one.record_number == change.record_number {
-            let _ = write_replaced(errors, index.changes(), place, one.nodes);
-            left = others;
+        if one.record_number != change.record_number {
+            continue;
         }
+        left = others;
+        if place < first {
+            continue;
+        }
+        copies = copies.saturating_add(1);
+        nodes = nodes.saturating_add(one.nodes);
+        if call.verbose {
+            let _ = write_replaced(errors, index.changes(), place, one.nodes);
+        }
+    }
+    if copies > 0 {
+        Some((copies, nodes))
+    } else {
+        None
     }
 }

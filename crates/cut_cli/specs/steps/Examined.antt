@@ -7,7 +7,9 @@ use Rattle.dump_filter.specs.Groups.{revision_numbers}
 use Rattle.dump_trees.specs.LoadCheck.{ToldKinds}
 use Rattle.dump_trees.specs.Looking.{Placed}
 use Rattle.dump_trees.specs.Paths.{NodePath}
+use Rattle.dump_cut.specs.LaterParts.{IsWhyNoPart}
 use Rattle.dump_cut.specs.NamedPaths.{has_named_paths}
+use Rattle.dump_cut.specs.declared.later.NoPart.{NoPart}
 use Rattle.dump_cut.specs.TrimmedCopies.{HasOddDelete}
 use Rattle.dump_index.specs.IndexLaws.{IsListed}
 use Rattle.dump_index.specs.Listed.{Listed, listed_of}
@@ -31,6 +33,11 @@ use Rattle.cut_cli.specs.declared.read.Unread.TheVariants as unread
 -- the text that the filter reads in place of the dump
 abbrev pub expansion_text : Option Expansion → Option (List ℕ)
 expansion_text expansion = option_map (λ (e : Expansion). e.text.items) expansion
+
+-- why a dump with these records has no part after this revision, if there is one
+abbrev pub LacksPart : Option ℕ → List DumpRecord → Option NoPart → Type 0
+LacksPart None records why = why ≡ None
+LacksPart (Some number) records why = IsWhyNoPart number records why
 
 -- how the dump is cut, or why it isn't
 abbrev pub IsExamined : CutMeaning → List ℕ → Result Ready Obstacle → Type 0

@@ -18,5 +18,6 @@ returns c =
     let e8 = one_more _ _ _ _ _ c.in_ok-arg-8.ensures c.window.ensures.local e7 c.window.ensures.rule in
     let e9 = one_more _ _ _ _ _ c.in_ok-arg-9.ensures c.repeated.ensures.local e8 c.repeated.ensures.rule in
     let e10 = one_more _ _ _ _ _ c.in_ok-arg-10.ensures c.valued.ensures.local e9 c.valued.ensures.rule in
-    IfOk-weaker c.arg-11.result _ _
-    (λ r adds. one_more _ _ _ _ _ adds c.any_prefixes.ensures.local e10 c.any_prefixes.ensures.rule) c.arg-11.ensures
+    let e11 = one_more _ _ _ _ _ c.in_ok-arg-11.ensures c.valued-2.ensures.local e10 c.valued-2.ensures.rule in
+    IfOk-weaker c.arg-12.result _ _
+    (λ r adds. one_more _ _ _ _ _ adds c.any_prefixes.ensures.local e11 c.any_prefixes.ensures.rule) c.arg-12.ensures
