@@ -20,8 +20,9 @@ the prefixes that the survey suggests: then no copy may stop the filter. (No pat
 names such a path.)
 
 cut: svndumpcut excludes and includes many sets of one to three paths of each dump, without --follow-copies and with it, some
-also with --dry-run and with --drop-empty-revs. Where copies bring excluded content back, --keep-copies is tried too. Which paths are kept in the end, what copies bring back and what is deleted
-behind copies is computed here, from the original's trees and copies as docs/CUT.md says: the status and the lists have to be
+also with --dry-run and with --drop-empty-revs. Where copies bring excluded content back, --keep-copies is tried too. Some are
+also written in two parts with --after: the second one has to load after the first. Which paths are kept in the end, what
+copies bring back and what is deleted behind copies is computed here, from the original's trees and copies as docs/CUT.md says: the status and the lists have to be
 as computed. Nothing may be written but with status 0. What is written then is loaded into an empty repository, with
 svnadmin's checks of properties. It has to have each revision of the original with its number and its properties, and its
 tree with the kept paths alone, and no text that only excluded files have. The same is done with parts of each history, and
@@ -351,12 +352,17 @@ def property_list(block):
 
 def records(dump):
     """The records of a dump that svnadmin wrote."""
+    return (record for _, record in placed_records(dump))
+
+
+def placed_records(dump):
+    """The same, each with the byte at which it begins."""
     at = 0
     while at < len(dump):
         if dump[at : at + 1] == b"\n":
             at += 1
             continue
-        end = dump.index(b"\n\n", at)
+        place, end = at, dump.index(b"\n\n", at)
         headers = dict(line.split(b": ", 1) for line in dump[at:end].split(b"\n"))
         at = end + 2
         parts = []
@@ -364,7 +370,7 @@ def records(dump):
             size = int(headers.get(name, 0))
             parts.append(dump[at : at + size] if name in headers else None)
             at += size
-        yield Record(headers, None if parts[0] is None else property_list(parts[0]), parts[1])
+        yield place, Record(headers, None if parts[0] is None else property_list(parts[0]), parts[1])
 
 
 # a folder has no text
@@ -786,7 +792,7 @@ class Cut(Trial):
 
     def __init__(self, name, original, dump, given, place):
         super().__init__(name, original, dump, [])
-        self.given, self.is_dry, self.is_validated = given, place % 3 == 0, place % 10 == 0
+        self.given, self.is_dry, self.is_validated, self.place = given, place % 3 == 0, place % 10 == 0, place
         # how many paths --follow-copies adds, as it is said without it, and the last output that was right
         self.added, self.right = 0, None
 
@@ -803,6 +809,8 @@ class Cut(Trial):
                 why = answer.returncode == 0 and self.wrong_dropped(built, meant)
                 self.words.append("--dry-run")
                 why = why or self.wrong_dry(built, answer)
+            if not why and self.place % 3 == 1 and answer.returncode == 0 and "--follow-copies" not in options:
+                why = self.wrong_part(built, answer, meant)
             if why:
                 return self.fail(why)
         return self
@@ -967,6 +975,33 @@ class Cut(Trial):
             return f"with --drop-empty-revs the status is {it.returncode}: {why}"
         self.verdicts.append("cut and equal, with dropped revisions")
         return None
+
+    def wrong_part(self, built, answer, meant):
+        """The part after a revision has to be that of the whole output, and has to load after the rest of it."""
+        whole = answer.stdout
+        revisions = [(place, it) for place, it in placed_records(whole) if b"Revision-number" in it.headers]
+        numbers = [int(it.headers[b"Revision-number"]) for _, it in revisions]
+        number = self.place // 3 % max(len(numbers), 1)
+        if not numbers or numbers != list(range(len(numbers))):
+            it = ran(built["cut"], *self.words, "--after", str(number), given=self.dump)
+            is_right = it.returncode == 1 and not it.stdout and b"the revisions of the dump are not numbered" in it.stderr
+            return None if is_right else f"with --after {number} the status is {it.returncode}: {it.stderr.decode()}"
+        places = [place for place, _ in revisions] + [len(whole)]
+        first, part = whole[: places[number + 1]], whole[: places[0]] + whole[places[number + 1] :]
+        it = ran(built["cut"], *self.words, "--after", str(number), given=self.dump)
+        if it.returncode or it.stdout != part:
+            return f"with --after {number} the status is {it.returncode}, and {len(part)} bytes are meant: {it.stderr.decode()}"
+        said = CUT_COUNTS.search(it.stderr)
+        nodes = int(said["nodes"]) + int(said["deletes"] or 0)
+        if (int(said["kept"]), nodes) != (len(places) - 2 - number, part.count(b"\nNode-path: ")):
+            return f"with --after {number}: {it.stderr.decode()}"
+        with tempfile.TemporaryDirectory(dir=MEMORY) as folder:
+            loaded, why = load(folder, first, [], options=["--ignore-uuid"])
+            if not why:
+                call("svnadmin", "load", "-q", "--ignore-uuid", loaded.path, given=part)
+                why = Meant(self.original, meant).wrong(History(loaded.path))
+        self.verdicts.append("cut and equal, in two parts")
+        return why and f"with --after {number}: {why}"
 
     def wrong_dry(self, built, answer):
         """A dry run has to answer the same, and to write nothing."""

@@ -34,6 +34,8 @@ CASES = [
     ("cut", "include_follows_the_source_of_a_part", []),
     ("cut", "include_of_a_renamed_project", []),
     ("cut", "include_writes_additions_and_deletes", []),
+    ("cut", "after_a_revision_between_additions", []),
+    ("cut", "after_a_revision_before_a_delete", []),
 ]
 # arguments, and how many threads are started by them: the workers, the cutter and the sequencer
 PLANS = [([], 6), (["--workers", "1"], 3), (["--workers=5", "--window=2"], 7), (["--workers", "64"], 66)]
