@@ -190,8 +190,9 @@ class Trial:
         found = Round(mutants, said)
         self.count += 1
         if not found.is_judged and len(mutants) > 1:
-            # one does not compile: alone it is named
-            self.rounds[:0] = [[it] for it in mutants]
+            # one does not compile: alone it is named, and halves find it in few rounds
+            half = len(mutants) // 2
+            self.rounds[:0] = [mutants[:half], mutants[half:]]
         elif not found.is_judged:
             errors = [line for line in said.splitlines() if "error" in line] or said.splitlines()[-1:] or ["it said nothing"]
             self.wrong[mutants[0].name] = f"the check does not come to the prover, so no contract was tried: {errors[0]}"
