@@ -20,14 +20,15 @@ the prefixes that the survey suggests: then no copy may stop the filter. (No pat
 names such a path.)
 
 cut: svndumpcut excludes and includes many sets of one to three paths of each dump, without --follow-copies and with it, some
-also with --dry-run and with --drop-empty-revs. Where copies bring excluded content back, --keep-copies is tried too. Some are
-also written in two parts with --after: the second one has to load after the first. Which paths are kept in the end, what
-copies bring back and what is deleted behind copies is computed here, from the original's trees and copies as docs/CUT.md says: the status and the lists have to be
-as computed. Nothing may be written but with status 0. What is written then is loaded into an empty repository, with
-svnadmin's checks of properties. It has to have each revision of the original with its number and its properties, and its
-tree with the kept paths alone, and no text that only excluded files have. The same is done with parts of each history, and
-with dumps whose numbers have gaps, which svndumpfilter makes: there the original is what svnadmin loads of them, and nothing
-may be written of a dump that it rejects. If it rejects the mergeinfo alone, the cut is not judged.
+also with --dry-run and with --drop-empty-revs. Where copies bring excluded content back, --keep-copies is tried too. Some
+are also written in two parts with --after: the second one has to load after the first, and mergeinfo is not compared then,
+since svnadmin load changes it. Which paths are kept in the end, what copies bring back and what is deleted behind copies is
+computed here, from the original's trees and copies as docs/CUT.md says: the status and the lists have to be as computed.
+Nothing may be written but with status 0. What is written then is loaded into an empty repository, with svnadmin's checks of
+properties. It has to have each revision of the original with its number and its properties, and its tree with the kept paths
+alone, and no text that only excluded files have. The same is done with parts of each history, and with dumps whose numbers
+have gaps, which svndumpfilter makes: there the original is what svnadmin loads of them, and nothing may be written of a dump
+that it rejects. If it rejects the mergeinfo alone, the cut is not judged.
 
 The files of a failed run are kept in build/loaded_trees. Where Subversion is not installed, the test is left out and says
 so. The last line is 'N passed, M failed'.
@@ -647,13 +648,13 @@ class Meant:
         found.update((path, self.node(node)) for path, node in whole.items() if self.own.keeps(path))
         return found
 
-    def wrong(self, loaded):
-        """What a loaded repository has otherwise, if there is anything."""
+    def wrong(self, loaded, in_parts=False):
+        """What a loaded repository has otherwise, if there is anything. A load of a later part changes mergeinfo."""
         if len(loaded.trees) != len(self.numbers) + bool(self.folders):
             return f"{len(loaded.trees)} revisions are loaded"
         for number, (properties, nodes) in enumerate(zip(self.original.properties, self.original.nodes)):
             got, wanted = loaded.trees[self.image(number)], self.tree(number)
-            if self.original.first > 1:
+            if self.original.first > 1 or in_parts:
                 got, wanted = without_mergeinfo(got), without_mergeinfo(wanted)
             else:
                 got = {path: read_mergeinfo(node) for path, node in got.items()}
@@ -999,7 +1000,7 @@ class Cut(Trial):
             loaded, why = load(folder, first, [], options=["--ignore-uuid"])
             if not why:
                 call("svnadmin", "load", "-q", "--ignore-uuid", loaded.path, given=part)
-                why = Meant(self.original, meant).wrong(History(loaded.path))
+                why = Meant(self.original, meant).wrong(History(loaded.path), in_parts=True)
         self.verdicts.append("cut and equal, in two parts")
         return why and f"with --after {number}: {why}"
 
