@@ -154,7 +154,8 @@ abbrev pub CutsDump : CutMeaning → List ℕ → (old new map_old map_new : Opt
 CutsDump m dump old new map_old map_new status =
     ((expansion : Option (List ℕ)) × (settings : Settings) × (deletes : Option (List (List (List ℕ))))
     × HasPartIf m.after dump × IsReadyFor m dump expansion settings deletes
-    × CleanTextsAreCuts m expansion settings deletes dump × WritesIfAsked m settings deletes (text_read expansion dump) old new map_old map_new status)
+    × CleanTextsAreCuts m expansion settings deletes dump
+    × WritesIfAsked m settings deletes (text_read expansion dump) old new map_old map_new status)
     ⊎ ((obstacle : Obstacle) × IsObstacleTo m dump obstacle × Keeps old new × Keeps map_old map_new
     × (status ≡ obstacle_status obstacle))
     ⊎ (Keeps old new × Keeps map_old map_new × (status ≡ 1))

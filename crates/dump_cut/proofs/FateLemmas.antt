@@ -1,5 +1,5 @@
 -- The revisions that the filter keeps, record by record, are those of the groups.
-use Rattle.std.proofs.Common.{◌≡◌, ℕ, suc, ◌+◌, ◌≤◌, ◌==◌, Bool, true, false, ◌&&◌, ◌||◌, List, [], ◌∷◌, ◌++◌, length, length-append, map, take_while, Option, Some, None, if◌then◌else◌, cond, refl, sym, ap, ap₂, ◌∙◌, subst, arith, append-nil, append_assoc}
+use Rattle.std.proofs.Common.{◌≡◌, ℕ, suc, ◌+◌, ◌==◌, Bool, true, false, ◌&&◌, ◌||◌, List, [], ◌∷◌, ◌++◌, length, map, take_while, Option, Some, None, if◌then◌else◌, cond, refl, sym, ap, ap₂, ◌∙◌, arith, append-nil, append_assoc}
 use Rattle.std.proofs.Math.Bool.{and-true, or-false, or_assoc}
 use Rattle.std.proofs.lemmas.List.Sums.{take_while-cons}
 use Rattle.std.specs.List.{list_any}
@@ -9,12 +9,9 @@ use Rattle.dump_records.specs.RecordText.{DumpRecord, record_text}
 use Rattle.dump_records.specs.declared.cutter.Cut.{Cut}
 use Rattle.dump_records.specs.declared.cutter.Cut.TheVariants as cuts
 use Rattle.dump_records.specs.declared.record.Record.{Record}
-use Rattle.dump_records.specs.steps.CutRecords.{EndsAfter, IsRecordOf}
+use Rattle.dump_records.specs.steps.CutRecords.{EndsAfter}
 use Rattle.dump_records.specs.steps.CutterState.{CutterState}
 use Rattle.dump_records.specs.steps.RecordViews.{CutStep, record_item}
-use Rattle.dump_records.proofs.CutLemmas.{count_fits}
-use Rattle.dump_records.proofs.ListLaw.{each_dump_has_one_list}
-use Rattle.dump_records.proofs.Prefixes.{begins_prefix, one_more, whole_list}
 use Rattle.dump_rules.specs.Settings.{Settings}
 use Rattle.dump_digest.specs.RecordParts.{is_kept_node, is_node, is_revision_record}
 use Rattle.dump_filter.specs.Groups.{group_of, groups, keeps_empty, revision_number}
@@ -22,6 +19,7 @@ use Rattle.dump_filter.proofs.groups.KindLemmas.{alone}
 use Rattle.dump_cut.specs.declared.fates.OpenRevision.{OpenRevision}
 use Rattle.dump_cut.specs.declared.fates.RevisionFate.{RevisionFate}
 use Rattle.dump_cut.specs.RevisionFates.{fate_of_group, fates_of_groups}
+use Rattle.dump_cut.proofs.CutterLemmas.{ReadSoFar, none_read, read_ends, read_more}
 use Rattle.dump_cut.specs.steps.OpenRevisions.{AreFatesIn, ended_fates, fates_before, open_after, open_with}
 
 -- the fates that are added behind an open revision, up to the end of these records
@@ -135,24 +133,17 @@ fates_are_by settings present (r ∷ records) kinds =
     fates_step settings present r records (λ next. fates_are_by settings next records kinds.1) (is_revision_record r)
     (is_node r) refl refl kinds.0
 
--- what is known behind the records that the cutter has given
+-- what is known after the records that the cutter has given
 pub record FatesSoFar (settings : Settings) (dump : List ℕ) (cutter : CutterState) (present : Option OpenRevision)
     (fates : List RevisionFate) : Type 0 where
-  pub dump_is : cutter.dump ≡ dump
-  pub before : List DumpRecord
-  pub begins : BeginsWithRecords dump before
-  pub count : length before ≡ cutter.number
-  pub so_far : (rest : List DumpRecord) → fates_by settings None (before ++ rest) ≡ fates ++ fates_by settings present rest
+  pub read : ReadSoFar dump cutter
+  pub so_far : (rest : List DumpRecord) → fates_by settings None (read.before ++ rest) ≡ fates ++ fates_by settings present rest
 
 pub no_fates : (settings : Settings) (dump : List ℕ) (cutter : CutterState) (present : Option OpenRevision)
     (fates : List RevisionFate) → cutter ≡ record { dump = dump; number = 0 } → present ≡ None → fates ≡ []
     → FatesSoFar settings dump cutter present fates
 no_fates settings dump cutter present fates is none empty = record {
-  dump_is = ap (λ (c : CutterState). c.dump) is;
-  before = [];
-  begins = let (records, ending, has, once) = each_dump_has_one_list dump in
-      begins_prefix dump [] records (has.0, has.1, has.2);
-  count = sym (ap (λ (c : CutterState). c.number) is);
+  read = none_read dump cutter is;
   so_far = λ rest. ap₂ (λ (o : Option OpenRevision) (fs : List RevisionFate). fs ++ fates_by settings o rest) (sym none)
       (sym empty);
 }
@@ -160,51 +151,27 @@ no_fates settings dump cutter present fates is none empty = record {
 -- one more record
 module _ (settings : Settings) (dump : List ℕ) (cutter after : CutterState) (present : Option OpenRevision)
     (fates : List RevisionFate) (known : FatesSoFar settings dump cutter present fates) where
-  module _ (item : Record) (step : CutStep cutter (cuts.Item item) after) where
-    begins_more : BeginsWithRecords dump (known.before ++ record_item item ∷ [])
-    begins_more =
-        subst (λ d. BeginsWithRecords d (known.before ++ record_item item ∷ [])) known.dump_is
-        (one_more cutter.dump known.before (record_item item)
-        (subst (λ d. BeginsWithRecords d known.before) (sym known.dump_is) known.begins)
-        ∣ subst (λ n. IsRecordOf cutter.dump n (record_item item)) (sym known.count) step.2 ∣₁)
-
-    -- the cutter is nearer to the end
-    pub fates_nearer : (after.number ≡ cutter.number + 1) × (after.number ≤ length dump)
-    fates_nearer =
-        let more = begins_more in
-        let fits = count_fits 0 0 dump more.0 (known.before ++ record_item item ∷ []) more.1 in
-        let size = length-append known.before (record_item item ∷ []) in
-        let its = known.count in
-        let number = ap (λ (c : CutterState). c.number) step.3 in
-        (number, omega arith)
-
-    pub fates_more : (all : List RevisionFate) (next : Option OpenRevision)
-        → all ≡ fates ++ fates_before settings present (record_item item)
-        → next ≡ open_after settings present (record_item item) → FatesSoFar settings dump after next all
-    fates_more all next are is = record {
-      dump_is = ap (λ (c : CutterState). c.dump) step.3 ∙ known.dump_is;
-      before = known.before ++ record_item item ∷ [];
-      begins = begins_more;
-      count = length-append known.before (record_item item ∷ [])
-          ∙ (ap (λ n. n + 1) known.count ∙ sym (ap (λ (c : CutterState). c.number) step.3));
-      so_far = λ rest. ap (fates_by settings None) (append_assoc known.before (record_item item ∷ []) rest)
-          ∙ known.so_far (record_item item ∷ rest)
-          ∙ sym (append_assoc fates (fates_before settings present (record_item item))
-          (fates_by settings (open_after settings present (record_item item)) rest))
-          ∙ ap₂ (λ (fs : List RevisionFate) (o : Option OpenRevision). fs ++ fates_by settings o rest) (sym are) (sym is);
-    }
+  pub fates_more : (item : Record) → CutStep cutter (cuts.Item item) after → (all : List RevisionFate)
+      (next : Option OpenRevision) → all ≡ fates ++ fates_before settings present (record_item item)
+      → next ≡ open_after settings present (record_item item) → FatesSoFar settings dump after next all
+  fates_more item step all next are is = record {
+    read = read_more dump cutter after known.read item step;
+    so_far = λ rest. ap (fates_by settings None) (append_assoc known.read.before (record_item item ∷ []) rest)
+        ∙ known.so_far (record_item item ∷ rest)
+        ∙ sym (append_assoc fates (fates_before settings present (record_item item))
+        (fates_by settings (open_after settings present (record_item item)) rest))
+        ∙ ap₂ (λ (fs : List RevisionFate) (o : Option OpenRevision). fs ++ fates_by settings o rest) (sym are) (sym is);
+  }
 
   -- where the records end
   ended_with : (ending : Ending) → EndsAfter cutter.dump cutter.number ending → (all : List RevisionFate)
       → all ≡ fates ++ ended_fates settings present → AreFatesIn settings dump all
   ended_with ending ends all are = record {
-    records = known.before;
+    records = known.read.before;
     ending = ending;
-    has = whole_list dump known.before ending known.begins
-        (subst (λ d. EndsAfter d (length known.before) ending) known.dump_is
-        (subst (λ n. EndsAfter cutter.dump n ending) (sym known.count) ends));
-    fates_are = are ∙ sym (known.so_far []) ∙ ap (fates_by settings None) (append-nil known.before)
-        ∙ fates_are_by settings None known.before (kinds_begun dump known.before known.begins);
+    has = read_ends dump cutter after known.read ending ends;
+    fates_are = are ∙ sym (known.so_far []) ∙ ap (fates_by settings None) (append-nil known.read.before)
+        ∙ fates_are_by settings None known.read.before (kinds_begun dump known.read.before known.read.begins);
   }
 
   pub all_fates : (found : Cut) → CutStep cutter found after → ((item : Record) → found ≡ cuts.Item item → ⊥)

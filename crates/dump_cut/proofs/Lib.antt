@@ -1,4 +1,5 @@
 pub mod CheckLemmas
+pub mod CutterLemmas
 pub mod DeleteGroups
 pub mod DirectoryLemmas
 pub mod ExcludedLemmas

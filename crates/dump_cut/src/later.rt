@@ -4,7 +4,7 @@ ghost use Rattle.dump_records.specs.DumpText.{Ending, HasRecords};
 ghost use Rattle.dump_records.specs.RecordText.{DumpRecord};
 ghost use Rattle.dump_records.specs.steps.RecordViews.{record_item};
 ghost use Rattle.dump_filter.specs.Groups.{revision_numbers};
-ghost use Rattle.dump_cut.specs.LaterParts.{IsLaterPart, IsWhyNoPart, place_of_first};
+ghost use Rattle.dump_cut.specs.LaterParts.{IsLaterPart, IsWhyNoPart, head_part, place_of_first};
 ghost use Rattle.dump_cut.specs.steps.CountedRevisions.{counted_from, is_after};
 
 use dump_records::{Cut, Cutter, Record};
@@ -55,7 +55,9 @@ fn first_place(dump: &[u8], number: Option<u64>) -> usize
 
 /// The part of a whole dump after the revision with this number.
 pub fn later_part(dump: &[u8], number: u64) -> LaterPart<'_>
-    ensures { IsLaterPart number dump.now (result.head.now ++ result.revisions.now) }
+    ensures part { IsLaterPart number dump.now (result.head.now ++ result.revisions.now) }
+    ensures head { (records : List DumpRecord) → HasRecords dump.now records Ending.Whole
+        → result.head.now ≡ head_part dump.now records }
 {
     let head = first_place(dump, None);
     let later = first_place(dump, Some(number));

@@ -3,9 +3,12 @@ use Rattle.std.proofs.lemmas.List.{take_rest}
 use Rattle.dump_cut.proofs.later.later_part.Goals as goal
 
 pub returns : goal.returns
-returns c records has =
+returns c =
     let dump = c.args.dump.now in
-    let head = c.first_place-head.ensures.place records has in
-    let later = c.first_place-later.ensures.place records has in
-    ap₂ (λ a b. a ++ b) (ap (λ n. take n dump) head)
-    (take_rest dump c.first_place-later.result ∙ ap (λ n. drop n dump) later)
+    record {
+      part = λ records has.
+          ap₂ (λ a b. a ++ b) (ap (λ n. take n dump) (c.first_place-head.ensures.place records has))
+          (take_rest dump c.first_place-later.result
+          ∙ ap (λ n. drop n dump) (c.first_place-later.ensures.place records has));
+      head = λ records has. ap (λ n. take n dump) (c.first_place-head.ensures.place records has);
+    }
