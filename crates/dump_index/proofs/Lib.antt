@@ -17,6 +17,7 @@ pub mod PartLemmas
 pub mod LookNames
 pub mod ChildLemmas
 pub mod EverLemmas
+pub mod ExistsLemmas
 pub mod SameNames
 pub mod PlainLemmas
 pub mod ToldLemmas

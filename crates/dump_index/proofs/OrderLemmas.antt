@@ -1,5 +1,5 @@
 -- Changes in the order of their revisions: copies look back, and the revisions' ends are found by a binary search.
-use Rattle.std.proofs.Common.{◌≡◌, ℕ, zero, suc, ◌+◌, ◌<◌, ◌≤◌, true, false, not, ◌&&◌, cond, List, [], ◌∷◌, length, map, get_or, Option, Some, None, option_map, nat_lt, nat_le, refl, sym, ap, ap₂, ◌∙◌, arith}
+use Rattle.std.proofs.Common.{◌≡◌, ℕ, zero, suc, ◌+◌, ◌<◌, ◌≤◌, true, false, not, ◌&&◌, cond, List, [], ◌∷◌, length, map, take, get_or, Option, Some, None, option_map, nat_lt, nat_le, refl, sym, ap, ap₂, ◌∙◌, arith}
 use Rattle.std.specs.Prelude.{slice_get}
 use Rattle.std.proofs.lemmas.Bool.{and_parts, and_from, le-leb, leb-true, not-true}
 use Rattle.std.proofs.lemmas.List.Sums.{sum_by-cons}
@@ -9,7 +9,7 @@ use Rattle.dump_trees.specs.Looking.{Placed, end_of}
 use Rattle.dump_trees.specs.LookingBack.{is_of_before, copies_back}
 use Rattle.dump_trees.proofs.expansions.BackLemmas.{AreFrom, Rise, from_more, LooksBack, looks_back}
 use Rattle.dump_index.specs.Listed.{Listed, listed_of, listed_made, placed_of, all_placed}
-use Rattle.dump_index.specs.InOrder.{is_from_before, are_in_order, ends_in_slash}
+use Rattle.dump_index.specs.InOrder.{comes_in_order, is_from_before, are_in_order, ends_in_slash}
 use Rattle.dump_index.specs.declared.change.NodeChange.{NodeChange}
 use Rattle.dump_index.specs.declared.change.NodeMade.{NodeMade}
 use Rattle.dump_index.specs.declared.change.NodeMade.TheVariants.{Folder, File, CopyOf}
@@ -138,3 +138,14 @@ pub point_is_end : (changes : List NodeChange) (number end : ℕ) → end ≤ le
     → end ≡ end_of (placed changes) number
 point_is_end changes number end low is =
     sym (end_counts changes number end low ((λ k d less. is.0 k d (omega arith) less), is.1))
+
+-- the first changes are in order
+pub first_ordered : (least : ℕ) (changes : List NodeChange) (count : ℕ) → are_in_order least changes ≡ true
+    → are_in_order least (take count changes) ≡ true
+first_ordered least [] zero is = refl
+first_ordered least [] (suc count) is = refl
+first_ordered least (c ∷ changes) zero is = refl
+first_ordered least (c ∷ changes) (suc count) is =
+    let parts = and_parts (comes_in_order least c) (are_in_order c.revision changes) is in
+    and_from (comes_in_order least c) (are_in_order c.revision (take count changes)) parts.0
+    (first_ordered c.revision changes count parts.1)

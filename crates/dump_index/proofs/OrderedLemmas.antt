@@ -1,5 +1,5 @@
 -- The first changes that are in order.
-use Rattle.std.proofs.Common.{Some, drop, get_or, take, ◌≡◌, ◌≤◌, ◌+◌, ◌-◌, ℕ, true, false, ◌&&◌, List, [], ◌∷◌, ◌++◌, length, length-append, append-nil, append_assoc, refl, sym, ap, ◌∙◌, subst, arith}
+use Rattle.std.proofs.Common.{Some, drop, get_or, take, ◌≡◌, ◌≤◌, ◌-◌, ℕ, true, false, ◌&&◌, List, [], ◌∷◌, ◌++◌, length, length-append, append-nil, append_assoc, refl, sym, ap, ◌∙◌, arith}
 use Rattle.std.proofs.Math.Seq.{take-length}
 use Rattle.dump_index.specs.InOrder.{are_in_order, comes_in_order}
 use Rattle.dump_index.specs.steps.OutOfOrder.{IsFirstOutOfOrder}

@@ -3,6 +3,7 @@ pub mod InOrder
 pub mod Kinds
 pub mod Children
 pub mod NamesEver
+pub mod ExistsEver
 pub mod Effects
 pub mod Settings
 pub mod IndexLaws

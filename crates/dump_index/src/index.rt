@@ -1,5 +1,5 @@
 //! The index of the changes of a dump.
-ghost use Rattle.std.specs.Prelude.{◌≡◌, ◌<◌, ◌==◌, ◌||◌, false, ℕ, suc, List, IfOk, IfSome, IsTrue, Some, length, map, option_copied, option_map, reverse, slice_get, true};
+ghost use Rattle.std.specs.Prelude.{◌≡◌, ◌<◌, ◌==◌, ◌||◌, false, ℕ, suc, List, IfOk, IfSome, IsTrue, Some, length, map, option_copied, option_map, reverse, slice_get, take, true};
 ghost use Rattle.dump_trees.specs.Paths.{names_of};
 ghost use Rattle.dump_trees.specs.Looking.{end_of, latest, touches_path};
 ghost use Rattle.dump_index.specs.InOrder.{are_in_order, comes_in_order, ends_in_slash, is_from_before};
@@ -16,6 +16,7 @@ ghost use Rattle.dump_index.specs.Children.{is_child_named};
 ghost use Rattle.dump_trees.specs.Listing.{names_behind, names_look, names_made};
 
 mod children;
+mod existing;
 
 use crate::change::{NodeChange, NodeKind, NodeMade};
 use crate::look::{Look, is_since};
@@ -173,6 +174,15 @@ impl<'a> ChangeIndex<'a> {
     {
         self.changes
             .partition_point(|change| change.revision <= revision)
+    }
+
+    /// An index of the changes of the revisions up to this number.
+    pub fn up_to(&self, alloc: Global, revision: u64) -> Result<ChangeIndex<'a>, Memory>
+        ensures { IfOk result (λ index. index ≡ take (end_of (all_placed self.now) revision) self.now) }
+    {
+        let end = self.end_of(revision);
+        let changes = Vec::from_slice(alloc, &self.changes[..end])?;
+        ChangeIndex::new(alloc, changes)
     }
 
     /// Where what stands at the path comes from, behind the change that decides that.

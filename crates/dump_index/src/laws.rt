@@ -1,4 +1,5 @@
 //! Laws of an index, each the contract of a function that does nothing.
+ghost use Rattle.dump_index.specs.ExistsEver.{ExistingIsFound};
 ghost use Rattle.dump_index.specs.ToldKinds.{IndexTellsKinds};
 ghost use Rattle.dump_index.specs.IndexLaws.{ChildrenAreOfTrees, KindsAreFound, KindsAreOfTrees, NamesEverAreFound, NamesEverSuffice, PropsAreFound, TextsAreFound};
 
@@ -22,4 +23,10 @@ pub fn children_are_found()
     ensures trees { ChildrenAreOfTrees }
     ensures ever { NamesEverAreFound }
     ensures siblings { NamesEverSuffice }
+{}
+
+/// Where the dump loads, an index finds that something exists at a path at some time exactly where something exists there
+/// after some of the changes.
+pub fn existing_is_found()
+    ensures { ExistingIsFound }
 {}

@@ -3,7 +3,8 @@
 //! A [`ChangeIndex`] is made of the changes of a dump in their order. [`first_out_of_order`] finds the first copy that isn't
 //! of an earlier revision. [`ChangeIndex::kind_at`] says what exists at a path, [`ChangeIndex::settings_at`] which changes set its
 //! properties or its text, [`ChangeIndex::children`] the names in a directory, and [`ChangeIndex::names_ever`] those that
-//! can ever be in it. [`ChangeIndex::end_of`] says how many changes are in the revisions up to a number.
+//! can ever be in it. [`ChangeIndex::exists_ever`] says whether something exists at a path at some time.
+//! [`ChangeIndex::end_of`] says how many changes are in the revisions up to a number.
 //!
 //! A caller that looks at the changes one after the other can collect what each leaves at its path, as
 //! [`ChangeIndex::kind_behind`] says it, and hand that to [`ChangeIndex::kind_known`]: then long chains of copies aren't

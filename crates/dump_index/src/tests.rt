@@ -113,6 +113,16 @@ fn ever_are(alloc: Global, index: &ChangeIndex<'_>, path: &[u8], names: &[&[u8]]
     }
 }
 
+fn exists_is(alloc: Global, index: &ChangeIndex<'_>, path: &[u8], expected: bool) -> bool {
+    if ends_in_slash(path) {
+        return false;
+    }
+    match index.exists_ever(alloc, path) {
+        Ok(found) => found == expected,
+        Err(_) => false,
+    }
+}
+
 fn assert_found(rt: &impl Abort, alloc: Global, index: &ChangeIndex<'_>) {
     assert!(rt; kind_is(alloc, index, b"", 0, Some(NodeKind::Folder)));
     assert!(rt; kind_is(alloc, index, b"trunk", 0, None));
@@ -233,6 +243,55 @@ fn what_is_known_is_found(rt: HostRuntime) -> Result<(), Fail> {
     Ok(())
 }
 
+/// A directory with two files in r1; in r2 a copy of it, and a file of the copy is deleted; in r3 a file of the first
+/// directory is deleted.
+fn copied_and_deleted(alloc: Global) -> Result<Vec<NodeChange<'static>>, Memory> {
+    let source = Source {
+        revision: 1,
+        path: b"d",
+    };
+    let mut changes = Vec::new(alloc);
+    changes.push(change(1, b"d", FOLDER))?;
+    changes.push(change(1, b"d/x", FILE))?;
+    changes.push(change(1, b"d/y", FILE))?;
+    changes.push(copy(2, b"e", source))?;
+    changes.push(deleted(2, b"e/x"))?;
+    changes.push(deleted(3, b"d/y"))?;
+    Ok(changes)
+}
+
+fn assert_existing(rt: &impl Abort, alloc: Global, index: &ChangeIndex<'_>) {
+    assert!(rt; exists_is(alloc, index, b"", true));
+    // at the end
+    assert!(rt; exists_is(alloc, index, b"d/x", true));
+    assert!(rt; exists_is(alloc, index, b"e/y", true));
+    // deleted in a later revision
+    assert!(rt; exists_is(alloc, index, b"d/y", true));
+    // copied and deleted in one revision
+    assert!(rt; exists_is(alloc, index, b"e/x", true));
+    // at no time
+    assert!(rt; exists_is(alloc, index, b"e/z", false));
+    assert!(rt; exists_is(alloc, index, b"d/x/z", false));
+    assert!(rt; exists_is(alloc, index, b"f", false));
+}
+
+#[test]
+fn what_ever_exists_is_found(rt: HostRuntime) -> Result<(), Fail> {
+    let alloc = rt.alloc();
+    let changes = copied_and_deleted(alloc)?;
+    if first_out_of_order(&changes).is_none() {
+        let index = ChangeIndex::new(alloc, changes)?;
+        assert_existing(&rt, alloc, &index);
+        let first = index.up_to(alloc, 1)?;
+        assert!(rt; first.len() == 3);
+        assert!(rt; exists_is(alloc, &first, b"d/y", true));
+        assert!(rt; exists_is(alloc, &first, b"e/x", false));
+        return Ok(());
+    }
+    assert!(rt; false, "the changes are in order");
+    Ok(())
+}
+
 fn finds_ever_or_lacks_memory(alloc: Global, index: &ChangeIndex<'_>) -> bool {
     let names: &[&[u8]] = &[b"s", b"s.txt", b"t", b"u"];
     match index.names_ever(alloc, b"e") {
@@ -245,6 +304,21 @@ fn lists_or_lacks_memory(alloc: Global, index: &ChangeIndex<'_>) -> bool {
     let names: &[&[u8]] = &[b"s.txt", b"t", b"u"];
     match index.children(alloc, b"e", 9) {
         Ok(found) => found.as_slice() == names,
+        Err(refused) => refused == Memory,
+    }
+}
+
+fn exists_or_lacks_memory(alloc: Global, index: &ChangeIndex<'_>) -> bool {
+    // it exists in the copy, until it is deleted there
+    match index.exists_ever(alloc, b"e/s") {
+        Ok(found) => found,
+        Err(refused) => refused == Memory,
+    }
+}
+
+fn has_first_or_lacks_memory(alloc: Global, index: &ChangeIndex<'_>) -> bool {
+    match index.up_to(alloc, 1) {
+        Ok(first) => first.len() < index.len(),
         Err(refused) => refused == Memory,
     }
 }
@@ -264,6 +338,8 @@ fn a_directory_or_no_memory(rt: HostRuntime) {
     };
     assert!(rt; lists_or_lacks_memory(alloc, &index));
     assert!(rt; finds_ever_or_lacks_memory(alloc, &index));
+    assert!(rt; exists_or_lacks_memory(alloc, &index));
+    assert!(rt; has_first_or_lacks_memory(alloc, &index));
 }
 
 #[test]

@@ -1,5 +1,5 @@
 use Rattle.dump_index.proofs.OrderedLemmas.{none_ordered, one_more_ordered, out_of_order}
-use Rattle.std.proofs.Common.{◌≡◌, sym, ◌∙◌}
+use Rattle.std.proofs.Common.{sym, ◌∙◌}
 use Rattle.dump_index.proofs.index.first_out_of_order.Goals as goal
 
 pub loop-left-init : goal.loop-left-init

@@ -1,5 +1,4 @@
-use Rattle.std.proofs.Common.{◌≡◌, map, rules, subst, sym}
-use Rattle.std.specs.List.{filter}
+use Rattle.std.proofs.Common.{map, rules, subst, sym}
 use Rattle.std.proofs.lemmas.Fn.{filter_same}
 use Rattle.std.proofs.lemmas.List.Kept.{IsSortedBy-filter}
 use Rattle.std.proofs.lemmas.List.Sorted.{ranks_by}

@@ -1,0 +1,32 @@
+//! Whether something exists at a path at some time.
+ghost use Rattle.std.specs.Prelude.{◌≡◌, IfOk, false};
+ghost use Rattle.dump_trees.specs.Paths.{names_of};
+ghost use Rattle.dump_index.specs.ExistsEver.{exists_ever};
+ghost use Rattle.dump_index.specs.InOrder.{ends_in_slash};
+
+use super::ChangeIndex;
+use dump_rules::Memory;
+use std::alloc::Global;
+
+impl<'a> ChangeIndex<'a> {
+    /// Whether something exists at the path after some of the changes, at the end of a revision or within one.
+    ///
+    /// It looks at the path before and behind each change that touches it, the latest first, and ends once it finds
+    /// something.
+    pub fn exists_ever(&self, alloc: Global, path: &[u8]) -> Result<bool, Memory>
+        requires { ends_in_slash path.now ≡ false }
+        ensures { IfOk result (λ found. found ≡ exists_ever self.now (names_of path.now)) }
+    {
+        let mut count = self.changes.len();
+        loop {
+            let kind = self.kind_at(alloc, path, count)?;
+            if kind.is_some() {
+                return Ok(true);
+            }
+            match self.latest_touching(path, count) {
+                Some(place) => count = place,
+                None => return Ok(false),
+            }
+        }
+    }
+}
