@@ -1,6 +1,10 @@
+pub mod AlikeCuts
+pub mod AlikeLaw
 pub mod CheckLemmas
+pub mod ColonLemmas
 pub mod CutterLemmas
 pub mod DeleteGroups
+pub mod DifferenceLemmas
 pub mod DirectoryLemmas
 pub mod ExcludedLemmas
 pub mod FateLemmas
@@ -14,6 +18,7 @@ pub mod LaterLaw
 pub mod LaterLemmas
 pub mod LaterRecords
 pub mod LoadLaws
+pub mod MergePathLemmas
 pub mod NamedLemmas
 pub mod NamedSiblings
 pub mod NameTextLemmas

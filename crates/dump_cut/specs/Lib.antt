@@ -1,3 +1,5 @@
+pub mod CutAlike
+pub mod FilteredAlike
 pub mod FirstParts
 pub mod FollowedCopies
 pub mod FoundSiblings

@@ -1,5 +1,7 @@
--- The siblings that mergeinfo names.
-use Rattle.std.specs.Prelude.{Bool, ◌||◌, ℕ, List, Contains, IsTrue}
+-- The paths that mergeinfo names, and siblings that cover those outside the cut.
+use Rattle.std.specs.Prelude.{◌≡◌, ◌==◌, Bool, ◌||◌, ℕ, List, ◌++◌, codes, Contains, IsTrue, IsFalse}
+use Rattle.std.specs.List.{slice_split}
+use Rattle.dump_text.specs.HeaderLine.{has_byte}
 use Rattle.dump_text.specs.PropertyList.{Property}
 use Rattle.dump_records.specs.DumpText.{Ending, HasRecords}
 use Rattle.dump_records.specs.RecordText.{DumpRecord}
@@ -32,3 +34,28 @@ CoverLinesOf included siblings r = (ps : List Property) → HasPropertyList r ps
 abbrev pub CoverMergeinfo : List NodePath → List NodePath → List ℕ → Type 0
 CoverMergeinfo included siblings dump = (records : List DumpRecord) (ending : Ending) (r : DumpRecord) →
     HasRecords dump records ending → Contains records r → CoverLinesOf included siblings r
+
+-- mergeinfo of the dump names the path, as a load reads it: a line has it before its last colon
+pub record NamesPath (dump : List ℕ) (path : NodePath) : Type 0 where
+  pub records : List DumpRecord
+  pub ending : Ending
+  pub r : DumpRecord
+  pub ps : List Property
+  pub p : Property
+  pub line : List ℕ
+  pub text : List ℕ
+  pub ranges : List ℕ
+  pub has : HasRecords dump records ending
+  pub among : Contains records r
+  pub properties : HasPropertyList r ps
+  pub there : Contains ps p
+  pub merges : IsTrue (is_mergeinfo p)
+  pub in_value : Contains (slice_split (λ c. c == 10) (value_of p)) line
+  pub parted : line ≡ text ++ codes ":" ++ ranges
+  pub last : IsFalse (has_byte 58 ranges)
+  pub names : path ≡ canonical_path text
+
+-- these are the paths that mergeinfo of the dump names
+pub record AreMergePaths (dump : List ℕ) (paths : List NodePath) : Type 0 where
+  pub all : (path : NodePath) → NamesPath dump path → Contains paths path
+  pub each : (path : NodePath) → Contains paths path → NamesPath dump path

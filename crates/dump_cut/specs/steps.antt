@@ -5,6 +5,7 @@ pub mod ExcludedTexts
 pub mod FollowedPaths
 pub mod KindViews
 pub mod KindsBefore
+pub mod MergePaths
 pub mod MoreSiblings
 pub mod NameTexts
 pub mod OpenRevisions

@@ -161,7 +161,8 @@ impl Excluded {
 
     /// The paths, in the order of their bytes.
     pub fn paths(&self, alloc: Global) -> Result<Vec<&[u8]>, Memory>
-        ensures { IfOk result (λ paths. map (λ path. path.now) paths.items ≡ self.now) }
+        ensures texts { IfOk result (λ paths. map (λ path. path.now) paths.items ≡ self.now) }
+        ensures named { OnOk result (IsTrue (list_all has_node_names (paths_of self.now))) }
     {
         let mut paths = Vec::new(alloc);
         for path in &self.paths {

@@ -1,10 +1,10 @@
-//! The part of a dump after a revision.
+//! The parts of a dump up to a revision, and after it.
 ghost use Rattle.std.specs.Prelude.{◌≡◌, ◌++◌, ◌≤◌, List, length};
 ghost use Rattle.dump_records.specs.DumpText.{Ending, HasRecords};
 ghost use Rattle.dump_records.specs.RecordText.{DumpRecord};
 ghost use Rattle.dump_records.specs.steps.RecordViews.{record_item};
 ghost use Rattle.dump_filter.specs.Groups.{revision_numbers};
-ghost use Rattle.dump_cut.specs.LaterParts.{IsLaterPart, IsWhyNoPart, head_part, place_of_first};
+ghost use Rattle.dump_cut.specs.LaterParts.{IsFirstPart, IsLaterPart, IsWhyNoPart, head_part, place_of_first};
 ghost use Rattle.dump_cut.specs.steps.CountedRevisions.{counted_from, is_after};
 
 use dump_records::{Cut, Cutter, Record};
@@ -51,6 +51,13 @@ fn first_place(dump: &[u8], number: Option<u64>) -> usize
         }
     }
     dump.len()
+}
+
+/// The part of a whole dump up to the revision with this number, which it has too.
+pub fn first_part(dump: &[u8], number: u64) -> &[u8]
+    ensures { IsFirstPart number dump.now result.now }
+{
+    &dump[..first_place(dump, Some(number))]
 }
 
 /// The part of a whole dump after the revision with this number.

@@ -1,4 +1,5 @@
 //! Laws of what a cut finds, each the contract of a function that does nothing.
+ghost use Rattle.dump_cut.specs.FilteredAlike.{AlikeCutsAreFilteredAlike, AlikeCutsCoverTheSame, FiltersWriteAlike, FirstPartsGoOn};
 ghost use Rattle.dump_cut.specs.FirstParts.{FirstPartsAreFiltered, FirstPartsAreTrimmed};
 ghost use Rattle.dump_cut.specs.FollowedCopies.{FollowedIsLeast};
 ghost use Rattle.dump_cut.specs.FoundSiblings.{FoundSiblingsAreAll};
@@ -53,4 +54,19 @@ pub fn dumps_load_in_parts()
 pub fn first_parts_are_cut()
     ensures filtered { FirstPartsAreFiltered }
     ensures trimmed { FirstPartsAreTrimmed }
+{}
+
+/// Filters that exclude different paths write the same of a dump if they keep the same of its nodes, of the sources of its
+/// copies and of its lines of mergeinfo. So the first part of what the one writes of a dump is what the other one writes of the
+/// first part, if they keep the same of that.
+pub fn filters_write_alike()
+    ensures alike { FiltersWriteAlike }
+    ensures first_parts { FirstPartsGoOn }
+{}
+
+/// Two cuts of a dump that don't differ exclude the same of what ever exists in it, and filters that exclude these paths keep the
+/// same of its records.
+pub fn alike_cuts_filter_alike()
+    ensures covered { AlikeCutsCoverTheSame }
+    ensures filtered { AlikeCutsAreFilteredAlike }
 {}

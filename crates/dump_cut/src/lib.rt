@@ -46,7 +46,14 @@
 //! let siblings = find_siblings(alloc, &index, &included)?;
 //! ```
 //!
-//! `tests::leaves` runs this. [`revision_fates`] are the revisions of a dump, and whether the filter keeps each of them:
+//! `tests::leaves` runs this. [`merge_paths`] are the paths that mergeinfo in a dump names, each once:
+//!
+//! ```
+//! let found = merge_paths(alloc, MERGED.as_bytes())?;
+//! ```
+//!
+//! `tests::names_paths` runs this. [`revision_fates`] are the revisions of a dump, and whether the filter keeps each of
+//! them:
 //!
 //! ```
 //! let options = excluded.filter_options(alloc, true)?;
@@ -66,6 +73,7 @@
 mod canonical;
 mod copies;
 mod deletes;
+mod differences;
 mod excluded;
 mod fates;
 mod followed;
@@ -74,6 +82,7 @@ mod kinds;
 mod later;
 pub mod laws;
 mod load_check;
+mod mergeinfo_paths;
 mod named_siblings;
 mod parent_path;
 mod refusal;
@@ -86,13 +95,15 @@ mod trimming;
 pub use canonical::canonical_prefix;
 pub use copies::source_of;
 pub use deletes::Deletes;
+pub use differences::cut_differences;
 pub use dump_rules::Memory;
 pub use excluded::Excluded;
 pub use fates::{RevisionFate, revision_fates};
 pub use followed::{Addition, follow};
 pub use kinds::Kinds;
-pub use later::{LaterPart, NoPart, later_part, no_part_after};
+pub use later::{LaterPart, NoPart, first_part, later_part, no_part_after};
 pub use load_check::{Refused, first_refused};
+pub use mergeinfo_paths::merge_paths;
 pub use named_siblings::add_named_siblings;
 pub use refusal::{Refusal, refusal_of};
 pub use returns::{PlacedRest, Way, all_followed, followed_rests};

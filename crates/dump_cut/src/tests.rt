@@ -6,8 +6,8 @@ ghost use Rattle.dump_cut.specs.NamedPaths.{has_named_paths};
 
 use crate::{
     Addition, Deletes, Excluded, Memory, NoPart, PlacedRest, Refusal, Refused, Way, all_followed,
-    canonical_prefix, find_siblings, first_not_taken, first_refused, follow, later_part,
-    no_part_after, revision_fates,
+    canonical_prefix, cut_differences, find_siblings, first_not_taken, first_part, first_refused,
+    follow, later_part, merge_paths, no_part_after, revision_fates,
 };
 use dump_changes::{End, read_changes};
 use dump_index::{ChangeIndex, first_out_of_order};
@@ -243,6 +243,37 @@ fn siblings_or_no_memory(rt: HostRuntime) {
     assert!(rt; matches!(answer, Ok(true) | Err(Memory)));
 }
 
+/// Two nodes with mergeinfo. One path is in both, with slashes at its ends in the first, and a line has no colon.
+const MERGED: &str = "SVN-fs-dump-format-version: 2\n\nRevision-number: 0\n\n\
+Node-path: d\nProp-content-length: 48\nContent-length: 48\n\n\
+K 13\nsvn:mergeinfo\nV 13\n//a/b/:1\n/c:2\nPROPS-END\n\n\n\
+Node-path: d\nProp-content-length: 42\nContent-length: 42\n\n\
+K 13\nsvn:mergeinfo\nV 8\n/a/b:3\nd\nPROPS-END\n\n";
+
+/// Whether mergeinfo in that dump names these paths.
+fn names_paths(alloc: Global, paths: &[&[u8]]) -> Result<bool, Memory> {
+    let found = merge_paths(alloc, MERGED.as_bytes())?;
+    let mut wanted = paths.iter();
+    for path in &found {
+        if wanted.next() != Some(&path.as_slice()) {
+            return Ok(false);
+        }
+    }
+    Ok(wanted.next().is_none())
+}
+
+#[test]
+fn paths_that_mergeinfo_names(rt: HostRuntime) -> Result<(), Fail> {
+    assert!(rt; names_paths(rt.alloc(), &[b"a/b".as_slice(), b"c"])?);
+    Ok(())
+}
+
+#[test]
+fn named_paths_or_no_memory(rt: HostRuntime) {
+    let answer = names_paths(rt.alloc(), &[b"a/b".as_slice(), b"c"]);
+    assert!(rt; matches!(answer, Ok(true) | Err(Memory)));
+}
+
 #[test]
 fn the_filter_excludes_the_paths(rt: HostRuntime) -> Result<(), Fail> {
     let excluded = Excluded::of(rt.alloc(), &[b"d/f".as_slice(), b"./e"])?;
@@ -328,10 +359,58 @@ fn is_part(dump: &[u8], number: u64, head: &str, revisions: &str) -> bool {
 fn parts_of_a_dump(rt: HostRuntime) {
     let dump = HEAD.as_bytes();
     let head = "SVN-fs-dump-format-version: 3\n\n";
+    assert!(rt;
+        first_part(dump, 0) == b"SVN-fs-dump-format-version: 3\n\nRevision-number: 0\n\n".as_slice()
+    );
+    assert!(rt; first_part(dump, 2) == dump);
     assert!(rt; is_part(dump, 1, head, "Revision-number: 2\n\n"));
     assert!(rt; is_part(dump, 2, head, ""));
     assert!(rt; is_part(head.as_bytes(), 0, head, ""));
     assert!(rt; no_part_after(dump, 2).is_none());
     assert!(rt; no_part_after(dump, 3) == Some(NoPart::NoRevision));
     assert!(rt; no_part_after(head.as_bytes(), 0) == Some(NoPart::NotNumbered));
+}
+
+/// A change of `d` that sets mergeinfo of `g`.
+const MERGE: &str =
+    "Node-path: d\nNode-action: change\nProp-content-length: 38\nContent-length: 38\n\n\
+K 13\nsvn:mergeinfo\nV 4\n/g:1\nPROPS-END\n";
+
+/// Whether cuts without these two prefixes of a dump with this node differ at these paths.
+fn differ(
+    alloc: Global,
+    node: &str,
+    prefixes: (&[u8], &[u8]),
+    paths: &[&[u8]],
+) -> Result<bool, Memory> {
+    let dump = dump_with(alloc, node)?;
+    let Some(index) = index_of(alloc, &dump)? else {
+        return Ok(false);
+    };
+    let one = Excluded::of(alloc, &[prefixes.0])?;
+    let other = Excluded::of(alloc, &[prefixes.1])?;
+    let found = cut_differences(alloc, &dump, &index, &one, &other)?;
+    Ok(
+        found.len() == paths.len()
+            && found
+                .iter()
+                .zip(paths)
+                .all(|(path, wanted)| path.as_slice() == *wanted),
+    )
+}
+
+#[test]
+fn cuts_differ_at_what_exists_or_is_named(rt: HostRuntime) -> Result<(), Fail> {
+    let alloc = rt.alloc();
+    assert!(rt; differ(alloc, COPY, (b"e/f", b"d/f"), &[b"e/f".as_slice(), b"d/f"])?);
+    assert!(rt; differ(alloc, COPY, (b"d/f", b"d"), &[b"d".as_slice()])?);
+    assert!(rt; differ(alloc, COPY, (b"g", b"h"), &[])?);
+    assert!(rt; differ(alloc, MERGE, (b"g", b"h"), &[b"g".as_slice()])?);
+    Ok(())
+}
+
+#[test]
+fn differences_or_no_memory(rt: HostRuntime) {
+    let answer = differ(rt.alloc(), MERGE, (b"g", b"d"), &[b"d".as_slice(), b"g"]);
+    assert!(rt; matches!(answer, Ok(true) | Err(Memory)));
 }
