@@ -15,7 +15,7 @@ use Rattle.dump_cut.specs.declared.load_check.Refused.{Refused}
 use Rattle.dump_expansion.specs.GivenSteads.{GivenStead, IsExpandedBy}
 use Rattle.dump_additions.specs.declared.not_added.NotAdded.{NotAdded}
 use Rattle.dump_additions.specs.steps.Nodes.{AreAdditions}
-use Rattle.cut_cli.specs.Cuts.{AreAdditionsUnread, AreChangesOf, BeginsWithChanges, BringsNothingBack, BringsSomeBack, ExcludesAsAsked, ExcludesWithReturns, HasAdditionsFor, HasPartIf, IsAskedBy, IsNotAdded, IsNotRead, IsObstacleTo, IsTakenDump, IsUnreadFor, StaysBack, writes_additions}
+use Rattle.cut_cli.specs.Cuts.{AreAdditionsUnread, AreChangesOf, BeginsWithChanges, BringsNothingBack, BringsSomeBack, ExcludesAsAsked, ExcludesWithReturns, BeginsAsBefore, HasAdditionsFor, HasPartIf, IsAskedBy, IsNotAdded, IsNotRead, IsObstacleTo, IsTakenDump, IsUnreadFor, StaysBack, writes_additions}
 use Rattle.cut_cli.specs.Words.{CutMeaning}
 use Rattle.cut_cli.specs.declared.examine.Obstacle.{Obstacle}
 use Rattle.cut_cli.specs.declared.examine.Obstacle.TheVariants.{ComesBack}
@@ -33,6 +33,7 @@ reads_expansion m dump text listed read excluded has read_taken none side return
   listed = listed;
   is_taken = returns.is_taken;
   asked = returns.asked;
+  goes_on = returns.goes_on;
   is_read = (side, returns.some_back, has);
   read_is_taken = read_taken;
   nothing_back = none;
@@ -58,12 +59,13 @@ unkept_is_included Exclude adds = absurd (let bad : false ≡ true = adds in cc)
 
 -- so it is the obstacle
 pub comes_back : (m : CutMeaning) (dump : List ℕ) (listed : List Listed) (excluded : List NodePath)
-    → IsTakenDump dump listed → IsAskedBy m.side m dump listed excluded → BringsSomeBack listed excluded
+    → IsTakenDump dump listed → IsAskedBy m.side m dump listed excluded → BeginsAsBefore m dump listed excluded
+    → BringsSomeBack listed excluded
     → (writes_additions m.side m.keep ≡ true → AreAdditionsUnread m.drop dump listed excluded) → IsObstacleTo m dump ComesBack
-comes_back m dump listed excluded taken asked some unread = (
+comes_back m dump listed excluded taken asked goes_on some unread = (
   listed,
   excluded,
-  record { is_taken = taken; asked = asked; some_back = some },
+  record { is_taken = taken; asked = asked; goes_on = goes_on; some_back = some },
   stays_back m dump listed excluded m.side taken asked some unread,
 )
 

@@ -1,6 +1,7 @@
 pub mod CommandLemmas
 pub mod CutLemmas
 pub mod DriveLemmas
+pub mod EarlierLemmas
 pub mod ExamineLemmas
 pub mod FrontLemmas
 pub mod MapLemmas

@@ -201,6 +201,25 @@ after_a_revision : cut_of_words (given (codes "--after" ∷ codes "005" ∷ code
 unfolding clap_on_literals
 after_a_revision = refl
 
+after_and_following : cut_of_words (given (codes "--after=5" ∷ codes "--follow-copies" ∷ codes "a" ∷ []))
+    ≡ Ok (record {
+      side = Exclude;
+      prefixes = codes "a" ∷ [];
+      targets = [];
+      map_name = None;
+      follow = true;
+      keep = false;
+      drop = false;
+      after = Some 5;
+      dry_run = false;
+      quiet = false;
+      verbose = false;
+      workers = 4;
+      window = 64;
+    })
+unfolding clap_on_literals
+after_and_following = refl
+
 after_a_name : cut_of_words (given (codes "--after" ∷ codes "HEAD" ∷ codes "a" ∷ [])) ≡ Err Words
 unfolding clap_on_literals
 after_a_name = refl
@@ -208,10 +227,6 @@ after_a_name = refl
 after_and_dropping : cut_of_words (given (codes "--after=5" ∷ codes "--drop-empty-revs" ∷ codes "a" ∷ [])) ≡ Err Words
 unfolding clap_on_literals
 after_and_dropping = refl
-
-after_and_following : cut_of_words (given (codes "--after=5" ∷ codes "--follow-copies" ∷ codes "a" ∷ [])) ≡ Err Words
-unfolding clap_on_literals
-after_and_following = refl
 
 options_of_the_filter : cut_of_words (given (codes "--renumber-revs" ∷ codes "a" ∷ [])) ≡ Err Words
 unfolding clap_on_literals

@@ -1,5 +1,5 @@
 -- What is found out of a dump before it is filtered, and what the filter then writes.
-use Rattle.std.specs.Prelude.{◌≡◌, ◌≢◌, ◌⊎◌, ℕ, true, false, List, [], ◌∷◌, ◌++◌, length, map, Bool, Option, Some, None, MatchBool, Contains, IsTrue, unwrap_or, ⊤}
+use Rattle.std.specs.Prelude.{◌≡◌, ◌≢◌, ◌⊎◌, ℕ, true, false, List, [], ◌∷◌, ◌++◌, length, map, take, Bool, Option, Some, None, MatchBool, Contains, IsTrue, unwrap_or, ⊤}
 use Rattle.std.specs.List.{AllZip, list_all}
 use Rattle.dump_digest.specs.RecordParts.{HasPropertyList, is_mergeinfo, is_node, value_of}
 use Rattle.dump_records.specs.DumpText.{BeginsWithRecords, Ending, HasRecords}
@@ -17,7 +17,7 @@ use Rattle.dump_trees.specs.ComingBack.{NothingComesBack}
 use Rattle.dump_trees.specs.FollowedRests.{all_rests}
 use Rattle.dump_trees.specs.Following.{Way, Covers, ExistsOnce, IsInClosure}
 use Rattle.dump_trees.specs.LoadCheck.{ToldKinds, all_apply}
-use Rattle.dump_trees.specs.Looking.{Placed, placed_from}
+use Rattle.dump_trees.specs.Looking.{Placed, end_of, placed_from}
 use Rattle.dump_trees.specs.Paths.{NodePath, is_short, keeps}
 use Rattle.dump_trees.specs.Returns.{is_covered, lie_apart}
 use Rattle.dump_trees.specs.Siblings.{ExcludesPaths, has_node_names, is_in_cut}
@@ -29,7 +29,7 @@ use Rattle.dump_history.specs.RecordChanges.{MakesChange, Patching}
 use Rattle.dump_history.specs.TrimmedDumps.{FiltersRenumbered, FiltersTrimmed}
 use Rattle.dump_index.specs.IndexLaws.{IsListed}
 use Rattle.dump_index.specs.InOrder.{are_in_order}
-use Rattle.dump_index.specs.Listed.{Listed, listed_of}
+use Rattle.dump_index.specs.Listed.{Listed, all_placed, listed_of}
 use Rattle.dump_index.specs.ToldKinds.{kinds_told_by}
 use Rattle.dump_index.specs.declared.change.NodeChange.{NodeChange}
 use Rattle.dump_additions.specs.Additions.{AreAdditionsFrom}
@@ -38,10 +38,11 @@ use Rattle.dump_additions.specs.FirstNotAdded.{IsFirstNotAdded}
 use Rattle.dump_changes.specs.FileTexts.{record_texts}
 use Rattle.dump_changes.specs.ListedDumps.{AreListedIn, IsOutOfPlace, are_numbered, is_listed_copy, rise_from, without_number}
 use Rattle.dump_changes.specs.NodeProperties.{HaveNodeNumbers, property_blocks}
+use Rattle.dump_cut.specs.CutAlike.{AreDifferences}
 use Rattle.dump_cut.specs.FollowedCopies.{ComeByFollowing}
 use Rattle.dump_cut.specs.FoundSiblings.{AreFoundSiblings}
 use Rattle.dump_cut.specs.NamedLines.{CoverMergeinfo}
-use Rattle.dump_cut.specs.LaterParts.{IsWhyNoPart}
+use Rattle.dump_cut.specs.LaterParts.{IsFirstPart, IsWhyNoPart}
 use Rattle.dump_cut.specs.LoadChecks.{IsFirstRefused}
 use Rattle.dump_cut.specs.TakenCopies.{IsFirstNotTaken, emptied_by}
 use Rattle.dump_cut.specs.TrimmedCopies.{AreDeletes, HasOddDelete, IsTrimmedBy}
@@ -159,6 +160,31 @@ abbrev pub IsAskedBy : Side → CutMeaning → List ℕ → List Listed → List
 IsAskedBy Exclude m dump listed excluded = FollowsAsAsked m listed Way.ToCopies excluded
 IsAskedBy Include m dump listed excluded = LeavesIncluded m dump listed excluded
 
+-- the changes of the revisions up to this one
+abbrev pub changes_up_to : ℕ → List Listed → List Listed
+changes_up_to number listed = take (end_of (all_placed listed) number) listed
+
+-- up to this revision, a cut that excludes these paths of the dump differs at these paths from the cut that the call asks for of the
+-- dump up to there
+pub record DiffersBefore (m : CutMeaning) (dump : List ℕ) (listed : List Listed) (number : ℕ)
+    (excluded differences : List NodePath) : Type 0 where
+  pub first : List ℕ
+  pub earlier : List NodePath
+  pub is_first : IsFirstPart number dump first
+  pub asked : IsAskedBy m.side m first (changes_up_to number listed) earlier
+  pub are : AreDifferences first (changes_up_to number listed) excluded earlier differences
+
+-- if the call follows copies, and writes the part after a revision, up to there the cut doesn't differ. (If it doesn't follow
+-- copies, later ones can't change what it excludes)
+abbrev pub BeginsAsBefore : CutMeaning → List ℕ → List Listed → List NodePath → Type 0
+BeginsAsBefore m dump listed excluded = (number : ℕ) → m.after ≡ Some number → m.follow ≡ true
+    → DiffersBefore m dump listed number excluded []
+
+-- if it does, and it differs
+abbrev pub CutsOtherwise : CutMeaning → List ℕ → List Listed → List NodePath → Type 0
+CutsOtherwise m dump listed excluded = (number : ℕ) × (path : NodePath) × (differences : List NodePath)
+    × (m.after ≡ Some number) × (m.follow ≡ true) × DiffersBefore m dump listed number excluded (path ∷ differences)
+
 -- a load takes all changes of the dump, as far as paths and kinds go
 abbrev pub IsTakenDump : List ℕ → List Listed → Type 0
 IsTakenDump dump listed = AreChangesOf dump listed × IsFirstRefused listed None
@@ -195,6 +221,7 @@ pub record ExcludesAsAsked (m : CutMeaning) (dump : List ℕ) (expansion : Optio
   pub listed : List Listed
   pub is_taken : IsTakenDump dump listed
   pub asked : IsAskedBy m.side m dump listed excluded
+  pub goes_on : BeginsAsBefore m dump listed excluded
   pub is_read : IsReadFor m dump listed excluded expansion read
   pub read_is_taken : IsTakenDump (text_read expansion dump) read
   pub nothing_back : BringsNothingBack read excluded
@@ -228,6 +255,7 @@ pub record ExcludesWithReturns (m : CutMeaning) (dump : List ℕ) (listed : List
   where
     pub is_taken : IsTakenDump dump listed
     pub asked : IsAskedBy m.side m dump listed excluded
+    pub goes_on : BeginsAsBefore m dump listed excluded
     pub some_back : BringsSomeBack listed excluded
 
 -- the dump has a part after a revision, if one is asked for
@@ -243,6 +271,8 @@ IsObstacleTo m dump (Refused refused) = (listed : List Listed) × BeginsWithChan
     × IsFirstRefused listed (Some refused)
 IsObstacleTo m dump (obstacles.NoPart why) = (number : ℕ) × (records : List DumpRecord) × (m.after ≡ Some number)
     × HasRecords dump records Ending.Whole × IsWhyNoPart number records (Some why)
+IsObstacleTo m dump obstacles.CutsOtherwise = (listed : List Listed) × (excluded : List NodePath)
+    × IsTakenDump dump listed × IsAskedBy m.side m dump listed excluded × CutsOtherwise m dump listed excluded
 IsObstacleTo m dump ComesBack = (listed : List Listed) × (excluded : List NodePath)
     × ExcludesWithReturns m dump listed excluded × StaysBack m.side m dump listed excluded
 IsObstacleTo m dump (obstacles.NotAdded not_added) = (listed : List Listed) × (excluded : List NodePath)

@@ -40,6 +40,7 @@ abbrev pub obstacle_status : Obstacle → ℕ
 obstacle_status (obstacles.Unread _) = 1
 obstacle_status (obstacles.Refused _) = 1
 obstacle_status obstacles.ComesBack = 3
+obstacle_status obstacles.CutsOtherwise = 3
 obstacle_status (obstacles.OddDelete _) = 1
 obstacle_status (obstacles.NotAdded _) = 1
 obstacle_status (obstacles.NoPart _) = 1

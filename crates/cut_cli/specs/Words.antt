@@ -67,11 +67,10 @@ keeps_wrongly Exclude keep follow = keep && follow
 abbrev pub after_in : List Row → Option ℕ
 after_in rows = option_and_then number_of (first_of (codes "after") rows)
 
--- whether the text that says after which revision is no number, or the cut can't begin after one: revisions are dropped, or copies
--- are followed
-abbrev pub goes_on_wrongly : Option Text → (drop follow : Bool) → Bool
-goes_on_wrongly None drop follow = false
-goes_on_wrongly (Some text) drop follow = is_none (number_of text) || (drop || follow)
+-- whether the text that says after which revision is no number, or the cut can't begin after one, as revisions are dropped
+abbrev pub goes_on_wrongly : Option Text → (drop : Bool) → Bool
+goes_on_wrongly None drop = false
+goes_on_wrongly (Some text) drop = is_none (number_of text) || drop
 
 -- whether the rows have no prefix and no file, or an empty prefix, or options that contradict each other or the side
 abbrev pub are_refused : Side → List Row → Bool
@@ -79,8 +78,7 @@ are_refused side rows = (is_empty (prefixes_in rows) && is_empty (targets_in row
     || (list_any is_empty (prefixes_in rows)
     || ((is_set (codes "quiet") rows && is_set (codes "verbose") rows)
     || (keeps_wrongly side (is_set (codes "keep-copies") rows) (is_set (codes "follow-copies") rows)
-    || goes_on_wrongly (first_of (codes "after") rows) (is_set (codes "drop-empty-revs") rows)
-    (is_set (codes "follow-copies") rows))))
+    || goes_on_wrongly (first_of (codes "after") rows) (is_set (codes "drop-empty-revs") rows))))
 
 -- what a side and its rows ask for
 abbrev pub cut_of_side : Side → List Row → Result CutMeaning Usage

@@ -229,7 +229,7 @@ fn obstacle_status(obstacle: Obstacle) -> u8
     ensures { result ≡ obstacle_status obstacle }
 {
     match obstacle {
-        Obstacle::ComesBack => 3,
+        Obstacle::CutsOtherwise | Obstacle::ComesBack => 3,
         _ => 1,
     }
 }

@@ -9,10 +9,11 @@ ghost use Rattle.dump_trees.specs.Looking.{Placed};
 ghost use Rattle.dump_cut.specs.NamedPaths.{has_named_paths};
 ghost use Rattle.dump_cut.specs.steps.ExcludedPaths.{paths_of};
 ghost use Rattle.dump_cut.specs.steps.Returned.{way_meant};
-ghost use Rattle.cut_cli.specs.Cuts.{AreNamed, BringsSomeBack, FollowsAsAsked, HasPartIf, IsAskedBy, IsTakenDump, LeavesIncluded, text_read};
+ghost use Rattle.cut_cli.specs.Cuts.{AreNamed, BringsSomeBack, FollowsAsAsked, BeginsAsBefore, HasPartIf, IsAskedBy, IsTakenDump, LeavesIncluded, text_read};
 ghost use Rattle.cut_cli.specs.Words.{cut_meaning};
 ghost use Rattle.cut_cli.specs.steps.Examined.{AreDeletesIfAny, IsExamined, IsExpandedToCut, IsFrontOf, IsPrepared, LacksPart, expansion_text};
 
+use crate::earlier::cuts_otherwise;
 use crate::expansion::{Expansion, front_to_cut, returns_of, with_additions};
 use crate::faults::{write_no_part, write_not_added, write_refused, write_unread};
 use crate::lines::{
@@ -44,6 +45,8 @@ pub enum Obstacle {
     Refused(Refused),
     /// There is no part of the dump after the revision that the call names.
     NoPart(NoPart),
+    /// The call follows copies, and cuts the revisions that it doesn't write otherwise than the call that did.
+    CutsOtherwise,
     /// Copies would bring excluded content back.
     ComesBack,
     /// The change at this place is a copy, after which a path would have to be deleted that no line of a dump can hold.
@@ -235,7 +238,7 @@ fn leave_included<E: Write>(
 }
 
 /// The paths that the call excludes.
-fn ask_paths<E: Write>(
+pub(crate) fn ask_paths<E: Write>(
     alloc: Global,
     dump: &[u8],
     index: &ChangeIndex<'_>,
@@ -378,6 +381,7 @@ fn examine_returns<E: Write>(
     requires named { IsTrue (list_all has_named_paths index.now) }
     requires taken { IsTakenDump dump.now index.now }
     requires asked { IsAskedBy call.now.side (cut_meaning call.now) dump.now index.now (paths_of asked.now.excluded) }
+    requires goes_on { BeginsAsBefore (cut_meaning call.now) dump.now index.now (paths_of asked.now.excluded) }
     requires back { BringsSomeBack index.now (paths_of asked.now.excluded) }
     ensures { IfOk result (IsExamined (cut_meaning call.now) dump.now) }
 {
@@ -404,6 +408,9 @@ fn examine_changes<E: Write>(
 {
     report_prefixes(alloc, dump, index, call, errors)?;
     let asked = ask_paths(alloc, dump, index, call, errors)?;
+    if cuts_otherwise(alloc, dump, index, &asked.excluded, call, errors)? {
+        return Ok(Err(Obstacle::CutsOtherwise));
+    }
     let returns = returns_of(alloc, index, &asked.excluded)?;
     if returns.is_empty() {
         return prepare(alloc, index, &asked.excluded, call, errors);

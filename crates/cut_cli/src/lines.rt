@@ -33,6 +33,13 @@ pub fn write_path<E: Write>(errors: &mut E, path: &[u8]) -> io::Result<()> {
     write_seen(errors, path)
 }
 
+/// Writes the line of a path in a list.
+fn write_path_line<E: Write>(errors: &mut E, path: &[u8]) -> io::Result<()> {
+    write!(errors, "  ")?;
+    write_path(errors, path)?;
+    writeln!(errors, "")
+}
+
 /// Writes a path below another one.
 fn write_joined<E: Write>(errors: &mut E, top: &[u8], rest: &[u8]) -> io::Result<()> {
     write_path(errors, top)?;
@@ -213,6 +220,29 @@ pub fn write_advice<E: Write>(errors: &mut E, call: &Call<'_>, additions: usize)
     writeln!(errors, "")
 }
 
+/// Says that copies after this revision change what is cut up to there, and lists these paths, where it differs.
+pub fn write_differences<E: Write>(
+    errors: &mut E,
+    call: &Call<'_>,
+    number: u64,
+    paths: &[&[u8]],
+) -> io::Result<()> {
+    write!(
+        errors,
+        "svndumpcut: nothing written: --follow-copies cuts what exists up to r{number} otherwise now, at "
+    )?;
+    write_count(errors, paths.len(), "path")?;
+    writeln!(errors, ": cut the whole dump anew")?;
+    if call.quiet {
+        return Ok(());
+    }
+    let most = shown(call);
+    for path in paths.iter().take(most) {
+        write_path_line(errors, path)?;
+    }
+    write_rest(errors, paths.len(), most)
+}
+
 /// Writes the line of a path to which a copy is followed: of one that is excluded, what is copied there; of one that is
 /// included, what is copied from there.
 fn write_addition<E: Write>(
@@ -344,9 +374,7 @@ pub fn write_siblings<E: Write>(errors: &mut E, paths: &[&[u8]]) -> io::Result<(
     write_grouped(errors, paths.len())?;
     writeln!(errors, "")?;
     for path in paths {
-        write!(errors, "  ")?;
-        write_path(errors, path)?;
-        writeln!(errors, "")?;
+        write_path_line(errors, path)?;
     }
     Ok(())
 }

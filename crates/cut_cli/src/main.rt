@@ -3,6 +3,7 @@
 
 mod command;
 mod drive;
+mod earlier;
 mod examine;
 mod expansion;
 mod faults;

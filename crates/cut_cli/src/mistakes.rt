@@ -29,8 +29,6 @@ pub enum Mistake<'a> {
     NoRevision(&'a str),
     /// The cut is to begin after a revision, and others are to be dropped.
     AfterAndDrop,
-    /// The cut is to begin after a revision, and copies are to be followed.
-    AfterAndFollow,
     /// An argument is not UTF-8.
     NotText,
 }
@@ -68,9 +66,6 @@ fn write_text<E: Write>(errors: &mut E, mistake: Mistake<'_>) -> io::Result<()> 
         }
         Mistake::AfterAndDrop => {
             write!(errors, "--after and --drop-empty-revs exclude each other")
-        }
-        Mistake::AfterAndFollow => {
-            write!(errors, "--after and --follow-copies exclude each other")
         }
         Mistake::NotText => write!(errors, "an argument is not UTF-8"),
     }

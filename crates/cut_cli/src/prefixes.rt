@@ -4,19 +4,9 @@ use crate::spot::first_revision;
 use crate::words::Call;
 use dump_changes::Memory;
 use dump_cut::canonical_prefix;
-use dump_index::{ChangeIndex, NodeChange, NodeMade, ends_in_slash};
+use dump_index::{ChangeIndex, ends_in_slash};
 use std::alloc::Global;
 use std::io::Write;
-
-/// Whether the change can make something exist at the path: it makes something there, or copies something to a directory
-/// above.
-fn can_make(change: &NodeChange<'_>, path: &[u8]) -> bool {
-    match change.made {
-        None => false,
-        Some(NodeMade::CopyOf(_)) => change.path.is_empty() || is_at_or_below(change.path, path),
-        Some(_) => change.path == path,
-    }
-}
 
 /// Whether the path is the top or below it.
 pub(crate) fn is_at_or_below(top: &[u8], path: &[u8]) -> bool {
@@ -24,19 +14,6 @@ pub(crate) fn is_at_or_below(top: &[u8], path: &[u8]) -> bool {
         Some(rest) => rest.is_empty() || rest[0] == b'/',
         None => false,
     }
-}
-
-/// Whether something exists at the path in some revision, or within one.
-fn exists_ever(alloc: Global, index: &ChangeIndex<'_>, path: &[u8]) -> Result<bool, Memory> {
-    if path.is_empty() || ends_in_slash(path) {
-        return Ok(true);
-    }
-    for (place, change) in index.changes().iter().enumerate() {
-        if can_make(change, path) && index.kind_at(alloc, path, place + 1)?.is_some() {
-            return Ok(true);
-        }
-    }
-    Ok(false)
 }
 
 /// The prefix without the slashes at its ends.
@@ -107,7 +84,7 @@ fn report_paths<E: Write>(
         if is_nested(paths, path) {
             nested.push(*path)?;
         }
-        if !exists_ever(alloc, index, path)? {
+        if !ends_in_slash(path) && !index.exists_ever(alloc, path)? {
             idle.push(*path)?;
         }
     }

@@ -30,7 +30,8 @@ each prefix, and the directories above; exclude keeps what no prefix matches.
   --                 every argument after this one is a prefix
 
 The exit status is 0 if the dump is cut, 1 after a fault or a failure, 2 if the
-arguments are wrong, and 3 if copies would bring excluded content back.
+arguments are wrong, and 3 if copies would bring excluded content back, or
+change the cut of earlier revisions.
 The manual page svndumpcut(1) has more.
 ";
 

@@ -148,14 +148,13 @@ fn after_of(text: Option<&str>) -> Option<u64>
     }
 }
 
-/// What is wrong with the text that says after which revision the cut is written, and these options.
-fn wrong_after<'a>(text: Option<&'a str>, drop: bool, follow: bool) -> Option<Mistake<'a>>
-    ensures { is_some result ≡ goes_on_wrongly (option_map (λ text. text.now) text.entry) drop follow }
+/// What is wrong with the text that says after which revision the cut is written, if revisions are dropped or not.
+fn wrong_after<'a>(text: Option<&'a str>, drop: bool) -> Option<Mistake<'a>>
+    ensures { is_some result ≡ goes_on_wrongly (option_map (λ text. text.now) text.entry) drop }
 {
     match text {
         Some(text) if number(text.as_bytes()).is_none() => Some(Mistake::NoRevision(text)),
         Some(_) if drop => Some(Mistake::AfterAndDrop),
-        Some(_) if follow => Some(Mistake::AfterAndFollow),
         _ => None,
     }
 }
@@ -181,13 +180,12 @@ fn mistake_in<'a>(
         return Some(Mistake::QuietAndVerbose);
     }
     let keep = is_set(matches, "keep-copies");
-    let follow = is_set(matches, "follow-copies");
-    let wrong = wrong_keeping(side, keep, follow);
+    let wrong = wrong_keeping(side, keep, is_set(matches, "follow-copies"));
     if wrong.is_some() {
         return wrong;
     }
     let drop = is_set(matches, "drop-empty-revs");
-    wrong_after(read_value(matches, "after"), drop, follow)
+    wrong_after(read_value(matches, "after"), drop)
 }
 
 /// What a side and the arguments after it ask for.

@@ -10,7 +10,7 @@ use Rattle.cut_cli.proofs.examine.examine_returns.Goals.{then-eq+in_ok-found+in_
 pub returns : goal.returns
 returns g c =
     comes_back (cut_meaning c.args.call.now) c.args.dump.now c.args.index.now (paths_of c.args.asked.now.excluded)
-    c.requires.taken c.requires.asked c.requires.back
+    c.requires.taken c.requires.asked c.requires.goes_on c.requires.back
     (λ adds. elim c.if-eq.branch [
       | then-eq+in_ok-found+in_default w ↦ rw w.in_default.is at w.in_ok-found.ensures
       | else-eq+else-call w ↦

@@ -1,0 +1,83 @@
+//! Whether a cut goes on as the cut of the revisions before began.
+ghost use Rattle.std.specs.Prelude.{IfOk, IsTrue, MatchBool, map};
+ghost use Rattle.std.specs.List.{list_all};
+ghost use Rattle.dump_trees.specs.Paths.{names_of};
+ghost use Rattle.dump_cut.specs.NamedPaths.{has_named_paths};
+ghost use Rattle.dump_cut.specs.steps.ExcludedPaths.{paths_of};
+ghost use Rattle.cut_cli.specs.Cuts.{CutsOtherwise, DiffersBefore, BeginsAsBefore};
+ghost use Rattle.cut_cli.specs.Words.{cut_meaning};
+
+use crate::examine::ask_paths;
+use crate::lines::write_differences;
+use crate::words::Call;
+use dump_changes::Memory;
+use dump_cut::{Excluded, cut_differences, first_part};
+use dump_index::ChangeIndex;
+use std::alloc::Global;
+use std::io::{self, Write};
+
+/// Where a cut that excludes these paths differs, up to this revision, from the cut of the dump up to there.
+fn differences_before(
+    alloc: Global,
+    dump: &[u8],
+    index: &ChangeIndex<'_>,
+    excluded: &Excluded,
+    call: &Call<'_>,
+    number: u64,
+) -> Result<Vec<Vec<u8>>, Memory>
+    requires { IsTrue (list_all has_named_paths index.now) }
+    ensures { IfOk result (λ found. DiffersBefore (cut_meaning call.now) dump.now index.now number (paths_of excluded.now)
+        (map (λ path. names_of path.items) found.items)) }
+{
+    let first = first_part(dump, number);
+    let index = index.up_to(alloc, number)?;
+    // what this excludes was reported when it was loaded
+    let asked = ask_paths(alloc, first, &index, call, &mut io::sink())?;
+    cut_differences(alloc, first, &index, excluded, &asked.excluded)
+}
+
+/// Reports where the cut differs up to a revision: the topmost of these paths.
+fn report_differences<E: Write>(
+    alloc: Global,
+    call: &Call<'_>,
+    number: u64,
+    found: &[Vec<u8>],
+    errors: &mut E,
+) -> Result<(), Memory> {
+    let mut paths: Vec<&[u8]> = Vec::new(alloc);
+    for path in found {
+        paths.push(path.as_slice())?;
+    }
+    let topmost = Excluded::of(alloc, &paths)?;
+    let _ = write_differences(errors, call, number, &topmost.paths(alloc)?);
+    Ok(())
+}
+
+/// Whether the call follows copies, and writes the part after a revision, up to which the cut of the dump differs from the cut of the
+/// dump up to there. It reports where.
+pub fn cuts_otherwise<E: Write>(
+    alloc: Global,
+    dump: &[u8],
+    index: &ChangeIndex<'_>,
+    excluded: &Excluded,
+    call: &Call<'_>,
+    errors: &mut E,
+) -> Result<bool, Memory>
+    requires { IsTrue (list_all has_named_paths index.now) }
+    ensures { IfOk result (λ found. MatchBool found
+        (CutsOtherwise (cut_meaning call.now) dump.now index.now (paths_of excluded.now))
+        (BeginsAsBefore (cut_meaning call.now) dump.now index.now (paths_of excluded.now))) }
+{
+    let Some(number) = call.after else {
+        return Ok(false);
+    };
+    if !call.follow {
+        return Ok(false);
+    }
+    let found = differences_before(alloc, dump, index, excluded, call, number)?;
+    if found.is_empty() {
+        return Ok(false);
+    }
+    report_differences(alloc, call, number, &found, errors)?;
+    Ok(true)
+}
