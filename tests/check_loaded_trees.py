@@ -21,8 +21,9 @@ names such a path.)
 
 cut: svndumpcut excludes and includes many sets of one to three paths of each dump, without --follow-copies and with it, some
 also with --dry-run and with --drop-empty-revs. Where copies bring excluded content back, --keep-copies is tried too. Some
-are also written in two parts with --after: the second one has to load after the first, and mergeinfo is not compared then,
-since svnadmin load changes it. Which paths are kept in the end, what copies bring back and what is deleted behind copies is
+are also written in two parts with --after: the first one has to be the cut of the dump up to there, and the second one has to
+load after it. Mergeinfo is not compared then, since svnadmin load changes it. With --follow-copies nothing may be written
+where the first part differs. Which paths are kept in the end, what copies bring back and what is deleted behind copies is
 computed here, from the original's trees and copies as docs/CUT.md says: the status and the lists have to be as computed.
 Nothing may be written but with status 0. What is written then is loaded into an empty repository, with svnadmin's checks of
 properties. It has to have each revision of the original with its number and its properties, and its tree with the kept paths
@@ -115,6 +116,12 @@ KEPT_COUNT = re.compile(rb"^copies bring excluded content back, in ([\d,]+) plac
 PARENTS_COUNT = re.compile(rb"^copies of parents of prefixes that are written as additions: ([\d,]+)$", re.MULTILINE)
 NEEDED_DELTA = re.compile(
     rb"^svndumpcut: r\d+: /.*: stored as a delta and needed in full: .* \(fault 32, record \d+, byte \d+\)$", re.MULTILINE
+)
+# that later copies change what is cut up to a revision
+DIFFERING = re.compile(
+    rb"^svndumpcut: nothing written: --follow-copies cuts what exists up to r(\d+) otherwise now, at ([\d,]+) paths?: "
+    rb"cut the whole dump anew\n((?:  /.*\n)+)\Z",
+    re.MULTILINE,
 )
 OWN_LIFE = re.compile(
     rb"^svndumpcut: warning: /(.*) is excluded in every revision, though what r(\d+) has there was not copied from excluded "
@@ -810,7 +817,7 @@ class Cut(Trial):
                 why = answer.returncode == 0 and self.wrong_dropped(built, meant)
                 self.words.append("--dry-run")
                 why = why or self.wrong_dry(built, answer)
-            if not why and self.place % 3 == 1 and answer.returncode == 0 and "--follow-copies" not in options:
+            if not why and self.place % 3 == 1 and answer.returncode == 0:
                 why = self.wrong_part(built, answer, meant)
             if why:
                 return self.fail(why)
@@ -989,7 +996,13 @@ class Cut(Trial):
             return None if is_right else f"with --after {number} the status is {it.returncode}: {it.stderr.decode()}"
         places = [place for place, _ in revisions] + [len(whole)]
         first, part = whole[: places[number + 1]], whole[: places[0]] + whole[places[number + 1] :]
+        given = [place for place, it in placed_records(self.dump) if b"Revision-number" in it.headers] + [len(self.dump)]
+        before = ran(built["cut"], *self.words, given=self.dump[: given[number + 1]])
         it = ran(built["cut"], *self.words, "--after", str(number), given=self.dump)
+        if it.returncode == 3 and "--follow-copies" in self.words:
+            return self.wrong_differing(it, number, self.dump[: given[number + 1]], before.stdout == first)
+        if before.returncode or before.stdout != first:
+            return f"the cut of the dump up to r{number} is not the first part of its cut: {before.stderr.decode()}"
         if it.returncode or it.stdout != part:
             return f"with --after {number} the status is {it.returncode}, and {len(part)} bytes are meant: {it.stderr.decode()}"
         said = CUT_COUNTS.search(it.stderr)
@@ -1003,6 +1016,20 @@ class Cut(Trial):
                 why = Meant(self.original, meant).wrong(History(loaded.path), in_parts=True)
         self.verdicts.append("cut and equal, in two parts")
         return why and f"with --after {number}: {why}"
+
+    def wrong_differing(self, it, number, first, is_same):
+        """The paths that are listed have to be in the dump up to a revision, up to which its cut has to be another one."""
+        said = DIFFERING.search(it.stderr)
+        paths = [line[3:] for line in said[3].splitlines()] if said else []
+        if it.stdout or not paths or (int(said[1]), int(said[2].replace(b",", b""))) != (number, len(paths)):
+            return f"with --after {number} the status is 3: {it.stderr.decode()}"
+        trees = self.original.trees[: number + 1]
+        are_there = [any(path in tree for tree in trees) for path in paths]
+        lines = [re.search(rb"^/" + re.escape(path) + rb"[/:]", first, re.MULTILINE) for path in paths]
+        if is_same and any(are_there) or not all(a or b for a, b in zip(are_there, lines)):
+            return f"up to r{number} the cuts do not differ at {paths}"
+        self.verdicts.append("not cut in two parts, since the first one differs")
+        return None
 
     def wrong_dry(self, built, answer):
         """A dry run has to answer the same, and to write nothing."""

@@ -36,6 +36,8 @@ CASES = [
     ("cut", "include_writes_additions_and_deletes", []),
     ("cut", "after_a_revision_between_additions", []),
     ("cut", "after_a_revision_before_a_delete", []),
+    ("cut", "after_a_revision_with_a_later_copy", []),
+    ("cut", "after_a_revision_with_mergeinfo_of_a_followed_path", []),
 ]
 # arguments, and how many threads are started by them: the workers, the cutter and the sequencer
 PLANS = [([], 6), (["--workers", "1"], 3), (["--workers=5", "--window=2"], 7), (["--workers", "64"], 66)]
