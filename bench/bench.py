@@ -47,7 +47,18 @@ CUTS = [
             "exclude --follow-copies trunk/dir7/file7",
             "exclude --follow-copies trunk/dir7",
             "include trunk/dir7 " + " ".join(f"tags/tag{number}/dir7" for number in range(1, 501)),
+            "include --after 99000 trunk/dir7",
+            "exclude --follow-copies --after 99999 trunk/dir7/file7",
+            # the copies of 500 directories with 200 files, and of two tags, are written as additions
+            "exclude --keep-copies trunk/dir7",
+            "include tags/tag1 tags/tag500",
         ],
+    ),
+    ("ten names in a directory", ["--revisions", "100000", "--nodes", "0", "--beside", "10"], ["include beside/name7"]),
+    (
+        "ten thousand names in a directory",
+        ["--revisions", "100000", "--nodes", "0", "--beside", "10000"],
+        ["include beside/name7"],
     ),
     (
         "a thousand renames, and fifty copies",

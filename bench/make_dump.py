@@ -2,7 +2,7 @@
 """Writes a dump of format version 2 to standard output. The same arguments give the same bytes.
 
     bench/make_dump.py [--revisions N] [--nodes N] [--text BYTES] [--copies SHARE] [--mergeinfo SHARE] [--seed N]
-        [--chain N] [--fan N] [--tagged N] [--tags N] [--renames N]
+        [--chain N] [--fan N] [--tagged N] [--tags N] [--beside N] [--renames N]
 
 Revision 1 adds the directories trunk and other, so that the dump loads. Each revision after revision 0 has --nodes nodes
 more, half of them under trunk and half under other. A node is a file with
@@ -11,7 +11,8 @@ earlier revision, or, for a share of --mergeinfo, a change of trunk's mergeinfo.
 After these come as many copies as --chain says, one a revision, each of what the one before it made; all but the last
 are under other, and that is trunk/last. And as many as --fan says, each of a directory of its own of other into trunk.
 With --tagged revision 1 also has so many files, in a hundred directories under trunk, and each later revision changes one of
-them, or, as often as --tags says, copies trunk to a tag. After all these come as many renames of a directory with a file as
+them, or, as often as --tags says, copies trunk to a tag. With --beside revision 1 also has a directory beside with so many
+files, and each later revision changes one of them. After all these come as many renames of a directory with a file as
 --renames says, one a revision, and then fifty copies of trunk.
 """
 import argparse
@@ -106,6 +107,11 @@ def first_files(arguments):
     for number in range(arguments.tagged):
         lines = [b"Node-path: " + tagged(number), b"Node-kind: file", b"Node-action: add"]
         yield record(lines, [], b"file %d\n" % number)
+    if arguments.beside:
+        yield directory(b"beside")
+    for number in range(arguments.beside):
+        lines = [b"Node-path: beside/name%d" % number, b"Node-kind: file", b"Node-action: add"]
+        yield record(lines, [], b"file %d\n" % number)
     if arguments.renames:
         yield directory(b"trunk/name0")
         yield record([b"Node-path: trunk/name0/file", b"Node-kind: file", b"Node-action: add"], [], b"file\n")
@@ -117,6 +123,12 @@ def tagged_node(number, arguments):
     if number % step == 0 and number // step <= arguments.tags:
         return copy(b"tags/tag%d" % (number // step), number - 1, b"trunk")
     lines = [b"Node-path: " + tagged(number * 7919 % arguments.tagged), b"Node-kind: file", b"Node-action: change"]
+    return record(lines, None, b"changed in %d\n" % number)
+
+
+def beside_node(number, arguments):
+    """A change of one of the files in one directory."""
+    lines = [b"Node-path: beside/name%d" % (number * 7919 % arguments.beside), b"Node-kind: file", b"Node-action: change"]
     return record(lines, None, b"changed in %d\n" % number)
 
 
@@ -142,6 +154,7 @@ def main():
     parser.add_argument("--fan", type=int, default=0)
     parser.add_argument("--tagged", type=int, default=0)
     parser.add_argument("--tags", type=int, default=0)
+    parser.add_argument("--beside", type=int, default=0)
     parser.add_argument("--renames", type=int, default=0)
     arguments = parser.parse_args()
     chance = random.Random(arguments.seed)
@@ -156,6 +169,8 @@ def main():
             out.writelines(first_files(arguments))
         if arguments.tagged and number > 1:
             out.write(tagged_node(number, arguments))
+        if arguments.beside and number > 1:
+            out.write(beside_node(number, arguments))
         for index in range(arguments.nodes):
             out.write(node(chance, number, index, arguments))
     out.writelines(copies(arguments.revisions + 1, arguments.chain, arguments.fan))
