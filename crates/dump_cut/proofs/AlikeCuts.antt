@@ -20,13 +20,14 @@ use Rattle.dump_trees.specs.Following.{ExistsOnce}
 use Rattle.dump_trees.specs.Paths.{NodePath, is_short, path_of}
 use Rattle.dump_trees.specs.Returns.{is_covered}
 use Rattle.dump_trees.specs.Siblings.{ExcludesPaths, has_node_names}
+use Rattle.dump_trees.specs.Trees.{Tree, root_alone}
 use Rattle.dump_trees.proofs.cuts.CoveredPaths.{all_has, contains_cases, contains_first, contains_later, contains_none, covered_by, covered_more, exists_above, filter_has}
 use Rattle.dump_trees.proofs.cuts.EverSiblings.{changed_paths_exist, copied_paths_exist}
 use Rattle.dump_trees.proofs.histories.StandingNames.{loaded_folders}
 use Rattle.dump_trees.proofs.paths.CanonicalLemmas.{short_are_canonical}
 use Rattle.dump_trees.proofs.paths.PathNames.{keeps_text}
 use Rattle.dump_trees.proofs.paths.SiblingLemmas.{excluded_match, short_names}
-use Rattle.dump_history.specs.DumpChanges.{MakeChanges, MakeRevisions, has_ordered_nodes}
+use Rattle.dump_history.specs.DumpChanges.{LoadsAs, MakeChanges, MakeRevisions, has_ordered_nodes}
 use Rattle.dump_history.specs.RecordChanges.{MakesChange, Patching, copied_from, copy_path, copy_revision, made_by_kind, makes}
 use Rattle.dump_history.proofs.again.NodeChanges.{change_is, change_path}
 use Rattle.dump_history.proofs.restricted.LoadsOnce.{whole_records_once}
@@ -34,7 +35,7 @@ use Rattle.dump_index.specs.ExistsEver.{exists_ever}
 use Rattle.dump_index.specs.Listed.{Listed, listed_of}
 use Rattle.dump_index.proofs.ExistsLemmas.{existing_is_found}
 use Rattle.dump_cut.specs.CutAlike.{covered_alone, is_alone, is_covered_by_one}
-use Rattle.dump_cut.specs.FilteredAlike.{AlikeCutsAreFilteredAlike, AlikeCutsCoverTheSame, FirstPartsGoOn}
+use Rattle.dump_cut.specs.FilteredAlike.{AlikeCutsAreFilteredAlike, AlikeCutsCoverTheSame, AreFilteredAlike, FirstPartsGoOn, HaveMadeCopies, HaveShortLines}
 use Rattle.dump_cut.specs.NamedLines.{NamesPath}
 use Rattle.dump_cut.proofs.AlikeLaw.{filters_alike}
 use Rattle.dump_cut.proofs.FirstLaw.{first_parts_are_filtered}
@@ -64,7 +65,7 @@ none_passes f xs x none there = cases (f x) refl
     cases true is = absurd (contains_none x (subst (λ l. Contains l x) none (filter_has f xs x there is)))
 
 -- tests that follow from each other are the same
-same_tests : (a b : Bool) → (a ≡ true → b ≡ true) → (b ≡ true → a ≡ true) → a ≡ b
+pub same_tests : (a b : Bool) → (a ≡ true → b ≡ true) → (b ≡ true → a ≡ true) → a ≡ b
 same_tests true b there back = sym (there refl)
 same_tests false true there back = back refl
 same_tests false false there back = refl
@@ -86,7 +87,7 @@ agree names listed paths others none =
     record { one = first.0; other = second.0; names = second.1 }
 
 -- something exists once above what exists once
-once_above : (revisions : List (List Change)) (path rest : NodePath) → ExistsOnce revisions (path ++ rest)
+pub once_above : (revisions : List (List Change)) (path rest : NodePath) → ExistsOnce revisions (path ++ rest)
     → ExistsOnce revisions path
 once_above revisions path rest once = record {
   front = once.front;
@@ -272,10 +273,26 @@ line_named dump records r ps p lines line has among properties there merges read
       names = refl;
     }
 
--- filters that exclude the paths of cuts that don't differ keep the same of the dump
-pub cuts_filter_alike : AlikeCutsAreFilteredAlike
-cuts_filter_alike patched settings others dump records changes revisions trees paths theirs has loads listed ordered all_do short
-    made excludes names exclude_too names_too empty renumber preserve skip_missing alike = record {
+-- these paths cover the same of the lines of mergeinfo in the records, as a load reads them
+abbrev pub CoverLinesAlike : List NodePath → List NodePath → List DumpRecord → Type 0
+CoverLinesAlike paths theirs records = (r : DumpRecord) (ps : List Property) (p : Property) (lines : List MergeLine)
+    (line : MergeLine) → Contains records r → HasPropertyList r ps → Contains ps p → is_mergeinfo p ≡ true
+    → IsMergeinfo (value_of p) lines → Contains lines line
+    → is_covered paths (canonical_path line.path) ≡ is_covered theirs (canonical_path line.path)
+
+-- filters that exclude paths which cover the same of what exists once, and of the lines of mergeinfo, keep the same of the dump
+pub covers_filter_alike : (patched : Patching) (settings others : Settings) (records : List DumpRecord)
+    (revisions : List (List Change)) (trees : List Tree) (paths theirs : List NodePath)
+    → LoadsAs patched root_alone records revisions trees → list_all (list_all does_something) revisions ≡ true
+    → HaveShortLines records → HaveMadeCopies records
+    → ExcludesPaths settings paths → list_all has_node_names paths ≡ true
+    → ExcludesPaths others theirs → list_all has_node_names theirs ≡ true
+    → settings.empty ≡ others.empty → settings.renumber ≡ others.renumber → settings.preserve ≡ others.preserve
+    → settings.skip_missing ≡ others.skip_missing
+    → ((path : NodePath) → ExistsOnce revisions path → is_covered paths path ≡ is_covered theirs path)
+    → CoverLinesAlike paths theirs records → AreFilteredAlike settings others records
+covers_filter_alike patched settings others records revisions trees paths theirs loads all_do short made excludes names
+    exclude_too names_too empty renumber preserve skip_missing once_same lines_same = record {
       empty = empty;
       renumber = renumber;
       preserve = preserve;
@@ -290,9 +307,6 @@ cuts_filter_alike patched settings others dump records changes revisions trees p
     same_kept : (text : List ℕ) → is_short text ≡ true → is_covered paths (path_of text) ≡ is_covered theirs (path_of text)
         → keeps_path settings text ≡ keeps_path others text
     same_kept = kept_alike settings others paths theirs excludes names exclude_too names_too
-
-    once_same : (path : NodePath) → ExistsOnce revisions path → is_covered paths path ≡ is_covered theirs path
-    once_same = cover_the_same dump changes revisions trees paths theirs listed ordered loads.loads alike
 
     plain_paths : (r : DumpRecord) (c : Change) → MakesChange patched r c
         → (is_short (node_path r) ≡ true) × (is_short (copy_path r) ≡ true)
@@ -333,10 +347,20 @@ cuts_filter_alike patched settings others dump records changes revisions trees p
         → Contains records r → HasPropertyList r ps → Contains ps p → is_mergeinfo p ≡ true → IsMergeinfo (value_of p) lines
         → Contains lines line → is_covered paths (path_of line.path) ≡ is_covered theirs (path_of line.path)
     named r ps p lines line there properties within merges reads in_lines =
-        let path = canonical_path line.path in
-        let its = agree alike.names (map listed_of changes) paths theirs alike.are in
         subst (λ (q : NodePath). is_covered paths q ≡ is_covered theirs q)
         (short_are_canonical line.path (short r ps p lines line there properties within merges reads in_lines))
-        (by_none (is_covered paths path) (is_covered theirs path)
-        (none_passes (is_covered_by_one paths theirs) alike.names path its.names
-        (alike.are_names.all path (line_named dump records r ps p lines line has there properties within merges reads in_lines))))
+        (lines_same r ps p lines line there properties within merges reads in_lines)
+
+-- filters that exclude the paths of cuts that don't differ keep the same of the dump
+pub cuts_filter_alike : AlikeCutsAreFilteredAlike
+cuts_filter_alike patched settings others dump records changes revisions trees paths theirs has loads listed ordered all_do short
+    made excludes names exclude_too names_too empty renumber preserve skip_missing alike =
+    covers_filter_alike patched settings others records revisions trees paths theirs loads all_do short made excludes names
+    exclude_too names_too empty renumber preserve skip_missing
+    (cover_the_same dump changes revisions trees paths theirs listed ordered loads.loads alike)
+    (λ r ps p lines line there properties within merges reads in_lines.
+    let path = canonical_path line.path in
+    let its = agree alike.names (map listed_of changes) paths theirs alike.are in
+    by_none (is_covered paths path) (is_covered theirs path)
+    (none_passes (is_covered_by_one paths theirs) alike.names path its.names
+    (alike.are_names.all path (line_named dump records r ps p lines line has there properties within merges reads in_lines))))

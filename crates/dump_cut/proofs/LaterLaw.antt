@@ -80,8 +80,7 @@ loaded_parts trees youngest number size at (changes ∷ front) rest all is =
 
 module _ (patched : Patching) (number : ℕ) (dump : List ℕ) (records : List DumpRecord) (revisions : List (List Change))
     (trees : List Tree) (has : HasRecords dump records Ending.Whole)
-    (loads : LoadsAs patched root_alone records revisions trees) (low : number < length trees)
-    (keeps : KeepsVersion number records) where
+    (loads : LoadsAs patched root_alone records revisions trees) (low : number < length trees) where
   -- the records before the first revision, those up to the revision, and those from the next one on
   abbrev heads : List DumpRecord
   heads = before_first is_revision_record records
@@ -109,8 +108,8 @@ module _ (patched : Patching) (number : ℕ) (dump : List ℕ) (records : List D
   begins : BeginsGroup later
   begins = begins_group (is_later_revision number) (later_revision number) records fit
 
-  versions : HaveVersions 0 (heads ++ later)
-  versions =
+  versions : KeepsVersion number records → HaveVersions 0 (heads ++ later)
+  versions keeps =
       let of_heads = versions_prefix 0 heads (from_first is_revision_record records)
       (subst (HaveVersions 0) (sym (both_parts is_revision_record records)) has.2) in
       let of_later = versions_rest 0 firsts later
@@ -202,7 +201,7 @@ module _ (patched : Patching) (number : ℕ) (dump : List ℕ) (records : List D
 
   -- the first part
 
-  loads_first : LoadsAs patched root_alone firsts (take number revisions) (take (suc number) trees)
+  pub loads_first : LoadsAs patched root_alone firsts (take number revisions) (take (suc number) trees)
   loads_first = record {
     makes = record {
       numbered = numbered.0;
@@ -249,7 +248,8 @@ module _ (patched : Patching) (number : ℕ) (dump : List ℕ) (records : List D
         (group_parts Has props have).1)
 
   -- the first record is a version record
-  module _ (r : DumpRecord) (rest : List DumpRecord) (is : records ≡ r ∷ rest) (lawful : is_lawful 0 r.headers ≡ true) where
+  module _ (keeps : KeepsVersion number records) (r : DumpRecord) (rest : List DumpRecord) (is : records ≡ r ∷ rest)
+      (lawful : is_lawful 0 r.headers ≡ true) where
     heads_are : heads ≡ r ∷ before_first is_revision_record rest
     heads_are = ap (before_first is_revision_record) is ∙ rw (first_no_revision r lawful) refl
 
@@ -261,7 +261,7 @@ module _ (patched : Patching) (number : ℕ) (dump : List ℕ) (records : List D
         let whole : heads ++ later ≡ r ∷ (more ++ later) = ap (λ (l : List DumpRecord). l ++ later) heads_are in
         let (others, has_them, same) =
         texts_are_dump part (front ++ at_later.after) r (more ++ later) lfs (subst AllFit whole fit_later) lawful
-        (subst (HaveVersions 0) whole versions)
+        (subst (HaveVersions 0) whole (versions keeps))
         (part_is
         ∙ (λ i. (cut_at is_revision_record dump records at_head).0 i
         ++ (cut_at (is_later_revision number) dump records at_later).1 i)
@@ -286,11 +286,12 @@ module _ (patched : Patching) (number : ℕ) (dump : List ℕ) (records : List D
           properties = λ props have. (first_properties props have, later_properties others same props have);
         }
 
-  parts_load : (rs : List DumpRecord) → records ≡ rs → IsCutInto 0 0 dump rs [] → 0 < length rs → (first part : List ℕ)
-      → first ≡ part_up_to number dump records → part ≡ head_part dump records ++ part_from number dump records
+  parts_load : KeepsVersion number records → (rs : List DumpRecord) → records ≡ rs → IsCutInto 0 0 dump rs []
+      → 0 < length rs → (first part : List ℕ) → first ≡ part_up_to number dump records
+      → part ≡ head_part dump records ++ part_from number dump records
       → LoadsInParts patched number records revisions trees first part
-  parts_load [] is cut_is some = absurd (omega (arith, some))
-  parts_load (r ∷ rest) is cut_is some = both_load r rest is cut_is.5.lawful
+  parts_load keeps [] is cut_is some = absurd (omega (arith, some))
+  parts_load keeps (r ∷ rest) is cut_is some = both_load keeps r rest is cut_is.5.lawful
 
 -- each dump that loads can be cut after each revision
 pub dumps_load_in_parts : DumpsLoadInParts

@@ -9,6 +9,7 @@ pub mod DirectoryLemmas
 pub mod ExcludedLemmas
 pub mod FateLemmas
 pub mod FirstLaw
+pub mod FirstSiblings
 pub mod FirstTrimLaw
 pub mod FollowedLemmas
 pub mod FoundDeletes

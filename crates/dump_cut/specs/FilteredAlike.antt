@@ -1,5 +1,5 @@
 -- Filters that exclude different paths, and write the same of a dump.
-use Rattle.std.specs.Prelude.{◌≡◌, ℕ, false, List, map, Some, Contains, IsTrue}
+use Rattle.std.specs.Prelude.{◌≡◌, ℕ, ◌<◌, false, List, length, map, take, Some, Contains, IsTrue}
 use Rattle.std.specs.List.{list_all}
 use Rattle.dump_text.specs.PropertyList.{Property}
 use Rattle.dump_records.specs.DumpText.{Ending, HasRecords}
@@ -13,7 +13,7 @@ use Rattle.dump_filter.specs.WholeText.{IsCleanText}
 use Rattle.dump_trees.specs.Changes.{Change}
 use Rattle.dump_trees.specs.EverSiblings.{does_something}
 use Rattle.dump_trees.specs.Following.{ExistsOnce}
-use Rattle.dump_trees.specs.Looking.{placed_from}
+use Rattle.dump_trees.specs.Looking.{end_of, placed_from}
 use Rattle.dump_trees.specs.Paths.{NodePath, is_short}
 use Rattle.dump_trees.specs.Returns.{is_covered}
 use Rattle.dump_trees.specs.Revisions.{loaded_over}
@@ -26,7 +26,9 @@ use Rattle.dump_index.specs.InOrder.{are_in_order}
 use Rattle.dump_index.specs.Listed.{listed_of}
 use Rattle.dump_index.specs.declared.change.NodeChange.{NodeChange}
 use Rattle.dump_cut.specs.CutAlike.{AreCutAlike}
+use Rattle.dump_cut.specs.FoundSiblings.{AreFoundSiblings}
 use Rattle.dump_cut.specs.LaterParts.{IsFirstPart}
+use Rattle.dump_cut.specs.NamedLines.{CoverMergeinfo}
 
 -- both filters keep the same of these nodes, and of the kept nodes they find the same sources of copies excluded, and keep the
 -- same lines of mergeinfo. They have the same other options
@@ -88,3 +90,30 @@ AlikeCutsAreFilteredAlike = (patched : Patching) (settings others : Settings) (d
     → settings.empty ≡ others.empty → settings.renumber ≡ others.renumber → settings.preserve ≡ others.preserve
     → settings.skip_missing ≡ others.skip_missing
     → AreCutAlike dump (map listed_of changes) paths their_paths → AreFilteredAlike settings others records
+
+-- the siblings of the same included paths, as they are found in a dump and in the changes of its first revisions, exclude the same of
+-- what exists after some change of these
+abbrev pub FirstSiblingsCoverTheSame : Type 0
+FirstSiblingsCoverTheSame = (changes : List NodeChange) (revisions : List (List Change)) (number : ℕ)
+    (included siblings first_siblings : List NodePath) →
+    AreListed changes (placed_from 1 revisions) → AreFoundSiblings (map listed_of changes) included siblings
+    → AreFoundSiblings (take (end_of (placed_from 1 revisions) number) (map listed_of changes)) included first_siblings
+    → (path : NodePath) → ExistsOnce (take number revisions) path
+    → is_covered siblings path ≡ is_covered first_siblings path
+
+-- so filters that exclude them keep the same of the first part of a dump that loads, if each of its changes does something, and
+-- mergeinfo and the sources of copies are as svnadmin writes them
+abbrev pub FirstSiblingsFilterAlike : Type 0
+FirstSiblingsFilterAlike = (patched : Patching) (settings others : Settings) (number : ℕ) (dump first : List ℕ)
+    (records firsts : List DumpRecord) (changes : List NodeChange) (revisions : List (List Change)) (trees : List Tree)
+    (included siblings first_siblings : List NodePath) →
+    HasRecords dump records Ending.Whole → LoadsAs patched root_alone records revisions trees → number < length trees
+    → IsFirstPart number dump first → HasRecords first firsts Ending.Whole → AreListed changes (placed_from 1 revisions)
+    → IsTrue (list_all (list_all does_something) (take number revisions)) → HaveShortLines firsts → HaveMadeCopies firsts
+    → AreFoundSiblings (map listed_of changes) included siblings → CoverMergeinfo included siblings dump
+    → AreFoundSiblings (take (end_of (placed_from 1 revisions) number) (map listed_of changes)) included first_siblings
+    → CoverMergeinfo included first_siblings first
+    → ExcludesPaths settings siblings → ExcludesPaths others first_siblings
+    → settings.empty ≡ others.empty → settings.renumber ≡ others.renumber → settings.preserve ≡ others.preserve
+    → settings.skip_missing ≡ others.skip_missing
+    → AreFilteredAlike settings others firsts

@@ -1,5 +1,5 @@
 //! Laws of what a cut finds, each the contract of a function that does nothing.
-ghost use Rattle.dump_cut.specs.FilteredAlike.{AlikeCutsAreFilteredAlike, AlikeCutsCoverTheSame, FiltersWriteAlike, FirstPartsGoOn};
+ghost use Rattle.dump_cut.specs.FilteredAlike.{AlikeCutsAreFilteredAlike, AlikeCutsCoverTheSame, FiltersWriteAlike, FirstPartsGoOn, FirstSiblingsCoverTheSame, FirstSiblingsFilterAlike};
 ghost use Rattle.dump_cut.specs.FirstParts.{FirstPartsAreFiltered, FirstPartsAreTrimmed};
 ghost use Rattle.dump_cut.specs.FollowedCopies.{FollowedIsLeast};
 ghost use Rattle.dump_cut.specs.FoundSiblings.{FoundSiblingsAreAll};
@@ -69,4 +69,11 @@ pub fn filters_write_alike()
 pub fn alike_cuts_filter_alike()
     ensures covered { AlikeCutsCoverTheSame }
     ensures filtered { AlikeCutsAreFilteredAlike }
+{}
+
+/// The siblings of included paths that are found in a dump exclude the same of its first part as those that are found in that
+/// part. So without following copies, a later revision changes nothing of what is included of the earlier ones.
+pub fn first_siblings_stay()
+    ensures covered { FirstSiblingsCoverTheSame }
+    ensures filtered { FirstSiblingsFilterAlike }
 {}
