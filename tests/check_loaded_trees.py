@@ -23,7 +23,7 @@ cut: svndumpcut excludes and includes many sets of one to three paths of each du
 also with --dry-run and with --drop-empty-revs. Where copies bring excluded content back, --keep-copies is tried too. Some
 are also written in two parts with --after: the first one has to be the cut of the dump up to there, and the second one has to
 load after it. Mergeinfo is not compared then, since svnadmin load changes it. With --follow-copies nothing may be written
-where the first part differs. Which paths are kept in the end, what copies bring back and what is deleted behind copies is
+where the first part differs. Which paths are kept in the end, what copies bring back and what is deleted after copies is
 computed here, from the original's trees and copies as docs/CUT.md says: the status and the lists have to be as computed.
 Nothing may be written but with status 0. What is written then is loaded into an empty repository, with svnadmin's checks of
 properties. It has to have each revision of the original with its number and its properties, and its tree with the kept paths
@@ -119,8 +119,8 @@ NEEDED_DELTA = re.compile(
 )
 # that later copies change what is cut up to a revision
 DIFFERING = re.compile(
-    rb"^svndumpcut: nothing written: --follow-copies cuts what exists up to r(\d+) otherwise now, at ([\d,]+) paths?: "
-    rb"cut the whole dump anew\n((?:  /.*\n)+)\Z",
+    rb"^svndumpcut: nothing written: --follow-copies now cuts what exists up to r(\d+) differently, at ([\d,]+) paths?: "
+    rb"cut the whole dump again\n((?:  /.*\n)+)\Z",
     re.MULTILINE,
 )
 OWN_LIFE = re.compile(

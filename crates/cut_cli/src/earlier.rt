@@ -1,10 +1,10 @@
-//! Whether a cut goes on as the cut of the revisions before began.
+//! Whether the same call cuts the revisions before a part as the cut of the whole dump does.
 ghost use Rattle.std.specs.Prelude.{IfOk, IsTrue, MatchBool, map};
 ghost use Rattle.std.specs.List.{list_all};
 ghost use Rattle.dump_trees.specs.Paths.{names_of};
 ghost use Rattle.dump_cut.specs.NamedPaths.{has_named_paths};
 ghost use Rattle.dump_cut.specs.steps.ExcludedPaths.{paths_of};
-ghost use Rattle.cut_cli.specs.Cuts.{CutsOtherwise, DiffersBefore, BeginsAsBefore};
+ghost use Rattle.cut_cli.specs.Cuts.{BeginsAsBefore, CutsOtherwise, DiffersBefore};
 ghost use Rattle.cut_cli.specs.Words.{cut_meaning};
 
 use crate::examine::ask_paths;

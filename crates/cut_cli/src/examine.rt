@@ -9,7 +9,7 @@ ghost use Rattle.dump_trees.specs.Looking.{Placed};
 ghost use Rattle.dump_cut.specs.NamedPaths.{has_named_paths};
 ghost use Rattle.dump_cut.specs.steps.ExcludedPaths.{paths_of};
 ghost use Rattle.dump_cut.specs.steps.Returned.{way_meant};
-ghost use Rattle.cut_cli.specs.Cuts.{AreNamed, BringsSomeBack, FollowsAsAsked, BeginsAsBefore, HasPartIf, IsAskedBy, IsTakenDump, LeavesIncluded, text_read};
+ghost use Rattle.cut_cli.specs.Cuts.{AreNamed, BeginsAsBefore, BringsSomeBack, FollowsAsAsked, HasPartIf, IsAskedBy, IsTakenDump, LeavesIncluded, text_read};
 ghost use Rattle.cut_cli.specs.Words.{cut_meaning};
 ghost use Rattle.cut_cli.specs.steps.Examined.{AreDeletesIfAny, IsExamined, IsExpandedToCut, IsFrontOf, IsPrepared, LacksPart, expansion_text};
 
@@ -45,7 +45,7 @@ pub enum Obstacle {
     Refused(Refused),
     /// There is no part of the dump after the revision that the call names.
     NoPart(NoPart),
-    /// The call follows copies, and cuts the revisions that it doesn't write otherwise than the call that did.
+    /// The call follows copies, and cuts the revisions before its part differently than a call for these alone.
     CutsOtherwise,
     /// Copies would bring excluded content back.
     ComesBack,

@@ -229,10 +229,10 @@ pub fn write_differences<E: Write>(
 ) -> io::Result<()> {
     write!(
         errors,
-        "svndumpcut: nothing written: --follow-copies cuts what exists up to r{number} otherwise now, at "
+        "svndumpcut: nothing written: --follow-copies now cuts what exists up to r{number} differently, at "
     )?;
     write_count(errors, paths.len(), "path")?;
-    writeln!(errors, ": cut the whole dump anew")?;
+    writeln!(errors, ": cut the whole dump again")?;
     if call.quiet {
         return Ok(());
     }

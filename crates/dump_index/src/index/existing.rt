@@ -11,7 +11,7 @@ use std::alloc::Global;
 impl<'a> ChangeIndex<'a> {
     /// Whether something exists at the path after some of the changes, at the end of a revision or within one.
     ///
-    /// It looks at the path before and behind each change that touches it, the latest first, and ends once it finds
+    /// It looks at the path before and after each change that touches it, the latest first, and ends once it finds
     /// something.
     pub fn exists_ever(&self, alloc: Global, path: &[u8]) -> Result<bool, Memory>
         requires { ends_in_slash path.now ≡ false }
