@@ -27,6 +27,7 @@ use Rattle.dump_trees.proofs.histories.StandingNames.{loaded_folders}
 use Rattle.dump_trees.proofs.paths.CanonicalLemmas.{short_are_canonical}
 use Rattle.dump_trees.proofs.paths.PathNames.{keeps_text}
 use Rattle.dump_trees.proofs.paths.SiblingLemmas.{excluded_match, short_names}
+use Rattle.dump_trees.proofs.quiet.QuietLemmas.{same_answer}
 use Rattle.dump_history.specs.DumpChanges.{LoadsAs, MakeChanges, MakeRevisions, has_ordered_nodes}
 use Rattle.dump_history.specs.RecordChanges.{MakesChange, Patching, copied_from, copy_path, copy_revision, made_by_kind, makes}
 use Rattle.dump_history.proofs.again.NodeChanges.{change_is, change_path}
@@ -63,12 +64,6 @@ none_passes f xs x none there = cases (f x) refl
     cases : (b : Bool) → f x ≡ b → b ≡ false
     cases false is = refl
     cases true is = absurd (contains_none x (subst (λ l. Contains l x) none (filter_has f xs x there is)))
-
--- tests that follow from each other are the same
-pub same_tests : (a b : Bool) → (a ≡ true → b ≡ true) → (b ≡ true → a ≡ true) → a ≡ b
-same_tests true b there back = sym (there refl)
-same_tests false true there back = back refl
-same_tests false false there back = refl
 
 -- neither excludes a path alone at which something exists, or that is named
 record Agree (dump_names : List NodePath) (listed : List Listed) (paths others : List NodePath) : Type 0 where
@@ -129,22 +124,22 @@ cover_the_same dump changes revisions trees paths others listed ordered loads al
     let ever : (p : NodePath) → ExistsOnce revisions p → exists_ever (map listed_of changes) p ≡ true =
     λ p. (existing_is_found changes revisions trees p ordered listed loads).0 in
     let its = agree alike.names (map listed_of changes) paths others alike.are in
-    same_tests (is_covered paths path) (is_covered others path)
+    same_answer (is_covered paths path) (is_covered others path)
     (covered_too (map listed_of changes) revisions paths others ever its.one path once)
     (covered_too (map listed_of changes) revisions others paths ever its.other path once)
 
 -- nodes and the changes that they make
 
--- what stands beside an item of a list
-beside : {A B : Type 0} (R : A → B → Type 0) (xs : List A) (ys : List B) → AllZip R xs ys → (x : A) → Contains xs x
+-- what an item of a list is paired with
+paired : {A B : Type 0} (R : A → B → Type 0) (xs : List A) (ys : List B) → AllZip R xs ys → (x : A) → Contains xs x
     → (y : B) × Contains ys y × R x y
-beside R [] ys all x there = absurd (contains_none x there)
-beside R (first ∷ xs) [] all x there = absurd all
-beside R (first ∷ xs) (y ∷ ys) all x there =
+paired R [] ys all x there = absurd (contains_none x there)
+paired R (first ∷ xs) [] all x there = absurd all
+paired R (first ∷ xs) (y ∷ ys) all x there =
     elim (contains_cases first xs x there) [
       | inl same ↦ (y, contains_first y ys, subst (λ z. R z y) same all.0)
       | inr later ↦
-          let (other, among, is) = beside R xs ys all.1 x later in (other, contains_later y ys other among, is)
+          let (other, among, is) = paired R xs ys all.1 x later in (other, contains_later y ys other among, is)
     ]
 
 -- a group of these records has the node
@@ -216,8 +211,8 @@ node_makes patched records revisions makes r there node =
     elim (in_group records false makes.ordered r there node) [
       | inl (bad, none) ↦ absurd (let worse : false ≡ true = bad in cc)
       | inr (g, among, within) ↦
-          let (changes, is_there, zipped) = beside (MakeChanges patched) (groups records) ([] ∷ revisions) makes.changes g among in
-          let (change, in_it, made) = beside (MakesChange patched) g.nodes changes zipped r within in
+          let (changes, is_there, zipped) = paired (MakeChanges patched) (groups records) ([] ∷ revisions) makes.changes g among in
+          let (change, in_it, made) = paired (MakesChange patched) g.nodes changes zipped r within in
           elim (contains_cases [] revisions changes is_there) [
             | inl none ↦ absurd (contains_none change (subst (λ cs. Contains cs change) (sym none) in_it))
             | inr later ↦ record { changes = changes; change = change; among = later; there = in_it; made = made }

@@ -1,9 +1,10 @@
 -- Siblings that are found in a dump and in its first part.
-use Rattle.std.proofs.Common.{◌≡◌, ℕ, zero, suc, ◌+◌, ◌≤◌, Bool, true, false, cond, not, nat_le, List, [], ◌∷◌, ◌++◌, length, map, take, drop, refl, sym, ap, ap₂, ◌∙◌, subst, inl, inr, arith, append_assoc}
+use Rattle.std.proofs.Common.{◌≡◌, ℕ, zero, suc, ◌+◌, ◌≤◌, Bool, true, false, cond, nat_le, List, [], ◌∷◌, ◌++◌, length, map, take, drop, refl, sym, ap, ap₂, ◌∙◌, subst, inl, inr, arith, append_assoc}
 use Rattle.std.specs.Prelude.{Contains}
 use Rattle.std.specs.List.{AllZip, list_all}
-use Rattle.std.proofs.lemmas.Bool.{and_from, and_parts, le-leb, leb-true, lt-leb, not_from_false, or_cases}
+use Rattle.std.proofs.lemmas.Bool.{and_from, le-leb, or_cases}
 use Rattle.std.proofs.lemmas.List.{length-append, take-append-drop, take-map}
+use Rattle.std.proofs.lemmas.List.Elements.{Contains-append_left}
 use Rattle.std.proofs.lemmas.List.Sums.{sum_by-append}
 use Rattle.std.proofs.Math.Seq.{take-append_seam}
 use Rattle.dump_records.specs.DumpText.{Ending}
@@ -18,9 +19,11 @@ use Rattle.dump_trees.specs.Returns.{is_covered}
 use Rattle.dump_trees.specs.Siblings.{is_in_cut, is_sibling}
 use Rattle.dump_trees.specs.Trees.{root_alone}
 use Rattle.dump_trees.proofs.cuts.CheckedLoads.{AreFrom, all_from, of_one, placed_append}
-use Rattle.dump_trees.proofs.cuts.CoveredPaths.{all_has, contains_cases, contains_first, contains_later, contains_none, covered_by, covered_from}
-use Rattle.dump_trees.proofs.expansions.LookLemmas.{count_none, count_whole}
+use Rattle.dump_trees.proofs.cuts.CoveredPaths.{all_has, covered_by, covered_from}
+use Rattle.dump_trees.proofs.expansions.LookLemmas.{count_whole}
+use Rattle.dump_trees.proofs.expansions.BackLemmas.{none_up_to}
 use Rattle.dump_trees.proofs.paths.SiblingLemmas.{cut_above, sibling_names}
+use Rattle.dump_trees.proofs.quiet.QuietLemmas.{same_answer}
 use Rattle.dump_history.specs.DumpChanges.{LoadsAs}
 use Rattle.dump_history.proofs.restricted.LoadsOnce.{whole_records_once}
 use Rattle.dump_index.specs.IndexLaws.{AreListed, IsListed}
@@ -30,24 +33,12 @@ use Rattle.dump_cut.specs.FilteredAlike.{FirstSiblingsCoverTheSame, FirstSibling
 use Rattle.dump_cut.specs.FoundSiblings.{AreFoundSiblings}
 use Rattle.dump_cut.specs.LaterParts.{is_later_revision}
 use Rattle.dump_cut.specs.NamedLines.{is_left_by}
-use Rattle.dump_cut.proofs.AlikeCuts.{covers_filter_alike, once_above, same_tests}
+use Rattle.dump_cut.proofs.AlikeCuts.{covers_filter_alike, once_above}
 use Rattle.dump_cut.proofs.FoundSiblings.{found_siblings_are_all, sibling_outside}
 use Rattle.dump_cut.proofs.LaterLaw.{loads_first}
 use Rattle.dump_cut.proofs.LaterRecords.{before_first, both_parts, first_is_dump, from_first}
 
 -- the changes of the first revisions
-
--- none of these stands in a revision up to this number
-none_up_to : (bound : ℕ) (placed : List Placed) → AreFrom (suc bound) placed → end_of placed bound ≡ 0
-none_up_to bound placed are = count_none (λ (p : Placed). nat_le p.revision bound) placed (none placed are)
-  where
-    none : (ps : List Placed) → AreFrom (suc bound) ps → list_all (λ (p : Placed). not (nat_le p.revision bound)) ps ≡ true
-    none [] is = refl
-    none (p ∷ ps) is =
-        let parts = and_parts (nat_le (suc bound) p.revision) (list_all (λ (q : Placed). nat_le (suc bound) q.revision) ps) is in
-        let high = leb-true (suc bound) p.revision parts.0 in
-        and_from (not (nat_le p.revision bound)) (list_all (λ (q : Placed). not (nat_le q.revision bound)) ps)
-        (not_from_false _ (lt-leb p.revision bound (omega arith))) (none ps parts.1)
 
 -- all of one revision stand in one up to a number that isn't lower
 one_up_to : (bound number : ℕ) (changes : List Change) → number ≤ bound
@@ -61,7 +52,7 @@ one_up_to bound number (c ∷ changes) low =
 end_is : (n start bound : ℕ) (revisions : List (List Change)) → start + n ≡ suc bound
     → end_of (placed_from start revisions) bound ≡ length (placed_from start (take n revisions))
 end_is zero start bound revisions same =
-    none_up_to bound (placed_from start revisions)
+    none_up_to bound (suc bound) (placed_from start revisions) (omega arith)
     (subst (λ m. AreFrom m (placed_from start revisions)) (let here : start ≡ suc bound = omega (arith, same) in here)
     (all_from start revisions))
 end_is (suc n) start bound [] same = refl
@@ -144,22 +135,13 @@ covered_in included revisions siblings others each all path once is =
 -- siblings that are found in the whole and in the first part cover the same of that
 pub first_siblings_cover_the_same : FirstSiblingsCoverTheSame
 first_siblings_cover_the_same changes revisions number included siblings first_siblings listed found first_found path once =
-    same_tests (is_covered siblings path) (is_covered first_siblings path)
+    same_answer (is_covered siblings path) (is_covered first_siblings path)
     (covered_in included (take number revisions) siblings first_siblings found.each
     (first_are_all changes revisions number included first_siblings listed first_found) path once)
     (covered_in included revisions first_siblings siblings first_found.each
     (found_siblings_are_all changes included siblings revisions listed found) path (once_in_all number revisions path once))
 
 -- filters that exclude them
-
--- what is in the first list is in both
-contains_front : {A : Type 0} (xs ys : List A) (x : A) → Contains xs x → Contains (xs ++ ys) x
-contains_front [] ys x there = absurd (contains_none x there)
-contains_front (first ∷ xs) ys x there =
-    elim (contains_cases first xs x there) [
-      | inl same ↦ subst (Contains (first ∷ xs ++ ys)) same (contains_first first (xs ++ ys))
-      | inr later ↦ contains_later first (xs ++ ys) x (contains_front xs ys x later)
-    ]
 
 -- what siblings cover isn't in the cut: they aren't, and nothing below them is
 covered_outside : (included siblings : List NodePath) (path : NodePath) → list_all (is_sibling included) siblings ≡ true
@@ -202,7 +184,7 @@ first_siblings_filter_alike patched settings others number dump first records fi
     let first_left =
     first_cover firsts Ending.Whole r has_firsts there ps properties p within merges lines line reads in_lines in
     let path = canonical_path line.path in
-    same_tests (is_covered siblings path) (is_covered first_siblings path)
+    same_answer (is_covered siblings path) (is_covered first_siblings path)
     (left_alike included siblings first_siblings path found.each first_left)
     (left_alike included first_siblings siblings path first_found.each left))
   where
@@ -214,5 +196,5 @@ first_siblings_filter_alike patched settings others number dump first records fi
     among : (r : DumpRecord) → Contains firsts r → Contains records r
     among r there =
         subst (λ (rs : List DumpRecord). Contains rs r) (both_parts (is_later_revision number) records)
-        (contains_front (before_first (is_later_revision number) records) (from_first (is_later_revision number) records) r
+        (Contains-append_left (before_first (is_later_revision number) records) (from_first (is_later_revision number) records) r
         (subst (λ (rs : List DumpRecord). Contains rs r) (sym same) there))

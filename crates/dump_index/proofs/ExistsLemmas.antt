@@ -1,5 +1,5 @@
 -- Whether something exists at a path at some time: where no change touches the path, what exists there stays.
-use Rattle.std.proofs.Common.{◌≡◌, ◌⊎◌, ℕ, zero, suc, ◌+◌, ◌<◌, ◌≤◌, Bool, true, false, ◌||◌, cond, List, [], ◌∷◌, ◌++◌, length, map, Option, Some, None, is_some, option_map, option_and_then, refl, sym, ap, ◌∙◌, arith, inl, inr, append-nil, append_assoc}
+use Rattle.std.proofs.Common.{◌≡◌, ◌⊎◌, ℕ, zero, suc, ◌+◌, ◌<◌, ◌≤◌, Bool, true, false, ◌||◌, cond, List, [], ◌∷◌, ◌++◌, length, map, Option, Some, None, is_some, option_map, refl, sym, ap, ◌∙◌, arith, inl, inr, append-nil, append_assoc}
 use Rattle.std.specs.Prelude.{slice_get}
 use Rattle.std.proofs.lemmas.Bool.{cases_lt, or_cases, or_left, or_right}
 use Rattle.std.proofs.lemmas.List.{length-map}
@@ -11,6 +11,7 @@ use Rattle.dump_trees.specs.Revisions.{loaded_over}
 use Rattle.dump_trees.specs.Looking.{Placed, placed_from, touches_path, holds_there, latest, left_there, look}
 use Rattle.dump_trees.specs.LoadCheck.{kind_of_node}
 use Rattle.dump_trees.specs.Following.{ExistsOnce}
+use Rattle.dump_trees.proofs.cuts.FollowLemmas.{map_some, then_some}
 use Rattle.dump_trees.proofs.expansions.BackLemmas.{LooksBack}
 use Rattle.dump_trees.proofs.histories.FrontLemmas.{begun_trees}
 use Rattle.dump_trees.proofs.histories.KeptNumbers.{length_push}
@@ -63,7 +64,7 @@ module _ (listed : List Listed) (path : NodePath) where
         ∙ ap (λ b. cond b (left_there (look root_alone (all_placed listed)) (all_placed listed) count path
         (slice_get (all_placed listed) count)) (look root_alone (all_placed listed) count path)) isnt)
 
-    -- so where nothing exists, nothing does behind the latest change that touches the path
+    -- so where nothing exists, nothing does after the latest change that touches the path
     pub none_since : (count place : ℕ) → latest (touches_path path) (all_placed listed) count ≡ Some place
         → exists_at count ≡ false → exists_within listed count path ≡ exists_within listed place path
     none_since zero place last none = absurd (let bad : None ≡ Some place = last in cc)
@@ -97,7 +98,7 @@ module _ (listed : List Listed) (path : NodePath) where
         cases further true is last = absurd (let bad : Some count ≡ None = last in cc)
         cases further false isnt last = further last (sym (stays count isnt) ∙ none)
 
--- the latest of so many changes stands before their end
+-- the latest of so many changes is before their end
 pub touching_low : (path : NodePath) (placed : List Placed) (count place : ℕ)
     → latest (touches_path path) placed count ≡ Some place → place < count
 touching_low path placed zero place is = absurd (let bad : None ≡ Some place = is in cc)
@@ -155,7 +156,7 @@ module _ (changes : List NodeChange) (front : List (List Change)) (done more : L
       kind_some (kind_look (map listed_of changes) (length (placed_from 1 first)) path) (tree path)
       (index_tells_kinds changes (placed_from 1 revisions) all first behind trees tree path split late loads at)
 
--- revisions, parted behind so many of their changes
+-- revisions, parted after so many of their changes
 
 record PartedAt (number : ℕ) (revisions : List (List Change)) (n : ℕ) : Type 0 where
   front : List (List Change)
@@ -198,7 +199,7 @@ part_in number changes revisions n fits =
       size = ap (λ (ps : List Placed). length ps) (append-nil (of_one number done)) ∙ (one_size number done ∙ size);
     }
 
--- behind the first revision
+-- after the first revision
 part_behind : (number : ℕ) (changes : List Change) (revisions : List (List Change)) (n others : ℕ)
     → n ≡ length changes + others → PartedAt (suc number) revisions others → PartedAt number (changes ∷ revisions) n
 part_behind number changes revisions n others same at = record {
@@ -234,15 +235,6 @@ record LoadsTo (first : Tree) (revisions : List (List Change)) : Type 0 where
   loads : loaded_over first revisions ≡ Some trees
   last : slice_get trees (length revisions) ≡ Some tree
 
-then_some : {A B : Type 0} (f : A → Option B) (o : Option A) (y : B) → option_and_then f o ≡ Some y
-    → (x : A) × (o ≡ Some x)
-then_some f None y is = absurd (let bad : None ≡ Some y = is in cc)
-then_some f (Some x) y is = (x, refl)
-
-map_some : {A B : Type 0} (f : A → B) (o : Option A) (y : B) → option_map f o ≡ Some y → (x : A) × (o ≡ Some x)
-map_some f None y is = absurd (let bad : None ≡ Some y = is in cc)
-map_some f (Some x) y is = (x, refl)
-
 -- some of the changes of the last one
 load_cut : (first : Tree) (front : List (List Change)) (done more : List Change) (one two : List Tree) (last : Tree)
     → loaded_over first front ≡ Some one → loaded_over first (front ++ (done ++ more) ∷ []) ≡ Some two
@@ -251,7 +243,7 @@ load_cut first front done more one two last loads all ends =
     let (after, leads) =
     map_some (λ t. one ++ t ∷ []) (steps (slice_get one) last (done ++ more)) two
     (sym (loaded_push first front one last (done ++ more) loads ends) ∙ all) in
-    let (tree, before) =
+    let (tree, before, made) =
     then_some (λ t. steps (slice_get one) t more) (steps (slice_get one) last done) after
     (sym (steps_then (slice_get one) last done more) ∙ leads) in
     let grown = pushed first front one last done tree loads ends before in

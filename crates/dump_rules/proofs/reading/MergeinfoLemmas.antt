@@ -6,7 +6,7 @@ use Rattle.dump_rules.proofs.reading.RangeListLemmas.{AllLack, split_joined, par
 -- colons
 
 -- the last colon of a line is the one behind its path, where the list behind it has none
-colon_end_is : (path list : List ℕ) → has_byte 58 list ≡ false
+pub colon_end_is : (path list : List ℕ) → has_byte 58 list ≡ false
     → colon_end ((path ++ 58 ∷ []) ++ list) ≡ length path + 1
 colon_end_is path list none =
     let front = length-append path (58 ∷ []) in

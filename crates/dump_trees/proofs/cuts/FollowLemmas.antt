@@ -352,12 +352,12 @@ pub record MadeIn (trees : List Tree) (revisions : List (List Change)) (c : Chan
   pub leads : steps (slice_get earlier) last done ≡ Some before
   pub makes : step (slice_get earlier) before c ≡ Some after
 
-then_some : {A B : Type 0} (f : A → Option B) (o : Option A) (y : B) → option_and_then f o ≡ Some y
+pub then_some : {A B : Type 0} (f : A → Option B) (o : Option A) (y : B) → option_and_then f o ≡ Some y
     → (x : A) × (o ≡ Some x) × (f x ≡ Some y)
 then_some f None y is = absurd (let bad : None ≡ Some y = is in cc)
 then_some f (Some x) y is = (x, refl, is)
 
-map_some : {A B : Type 0} (f : A → B) (o : Option A) (y : B) → option_map f o ≡ Some y → (x : A) × (o ≡ Some x)
+pub map_some : {A B : Type 0} (f : A → B) (o : Option A) (y : B) → option_map f o ≡ Some y → (x : A) × (o ≡ Some x)
 map_some f None y is = absurd (let bad : None ≡ Some y = is in cc)
 map_some f (Some x) y is = (x, refl)
 

@@ -62,7 +62,7 @@ all_rise number (changes ∷ revisions) =
     (all_rise (suc number) revisions)
 
 -- none of them stands in a revision up to this number
-none_up_to : (number bound : ℕ) (placed : List Placed) → number < bound → AreFrom bound placed
+pub none_up_to : (number bound : ℕ) (placed : List Placed) → number < bound → AreFrom bound placed
     → end_of placed number ≡ 0
 none_up_to number bound placed low are =
     count_none (λ (p : Placed). nat_le p.revision number) placed (none placed are)
