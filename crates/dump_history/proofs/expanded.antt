@@ -6,6 +6,4 @@ pub mod TextLemmas
 pub mod ExpandedLaw
 pub mod SourceLemmas
 pub mod SteadLemmas
-pub mod PartLemmas
-pub mod GrowingLemmas
 pub mod ReplacingLemmas

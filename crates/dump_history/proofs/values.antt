@@ -19,12 +19,11 @@ pub mod ExpansionLaw
 pub mod ExpansionValues
 pub mod WorkedCut
 pub mod CutLaw
-pub mod KeptTextLaw
 pub mod WorkedTrim
 pub mod WorkedRenumbered
-pub mod NeededValues
+pub mod KeptChangeValues
 pub mod MergedValues
-pub mod MergedLines
 pub mod CutDumpValues
+pub mod CopyOverValues
 pub mod FindingValues
 pub mod SurveyValues

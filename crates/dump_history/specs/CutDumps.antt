@@ -1,28 +1,23 @@
 -- Dumps of which a part is taken: from the bytes of a dump through its expanded form to what is filtered of it, by
 -- excluded prefixes. What is written loads into a new repository, since above kept paths nothing has to be made.
-use Rattle.std.specs.Prelude.{◌≡◌, ℕ, Bool, true, not, ◌&&◌, ◌||◌, List, [], ◌∷◌, length, filter, Option, Some, slice_get, Contains, IsTrue}
-use Rattle.std.specs.List.{All, AllZip, list_all}
+use Rattle.std.specs.Prelude.{◌≡◌, ℕ, Bool, true, not, ◌&&◌, ◌||◌, List, [], ◌∷◌, length, Option, Some, slice_get, IsTrue}
+use Rattle.std.specs.List.{AllZip, list_all}
 use Rattle.dump_text.specs.PropertyList.{Property}
 use Rattle.dump_records.specs.DumpText.{Ending, HasRecords}
 use Rattle.dump_records.specs.RecordText.{DumpRecord}
 use Rattle.dump_rules.specs.declared.options.Side.TheVariants.{Exclude}
 use Rattle.dump_rules.specs.declared.options.Empty.TheVariants.{Pad}
 use Rattle.dump_rules.specs.Settings.{Settings}
-use Rattle.dump_rules.specs.Renumbering.{KeptRevisions, image}
-use Rattle.dump_rules.specs.Mergeinfo.{MergeLine, IsMergeinfo, mergeinfo_text}
-use Rattle.dump_rules.specs.Rewriting.{IsNewLine, nonempty_lines}
-use Rattle.dump_digest.specs.RecordParts.{is_mergeinfo, value_of}
+use Rattle.dump_rules.specs.Renumbering.{image}
 use Rattle.dump_filter.specs.FilterLaws.{LengthsFit}
 use Rattle.dump_filter.specs.Groups.{is_pad, kept_revisions}
 use Rattle.dump_filter.specs.NewContent.{IsNewProperty}
 use Rattle.dump_filter.specs.WholeText.{IsCleanText}
-use Rattle.dump_trees.specs.Paths.{NodePath, path_of, is_short, keeps}
-use Rattle.dump_trees.specs.Trees.{Node, Tree, root_alone}
+use Rattle.dump_trees.specs.Paths.{keeps}
+use Rattle.dump_trees.specs.Trees.{Tree, root_alone}
 use Rattle.dump_trees.specs.Changes.{Change}
 use Rattle.dump_trees.specs.Restriction.{is_lost, IsRestricted}
-use Rattle.dump_trees.specs.Siblings.{is_in_cut, AreSiblings, ExcludesPaths, CoverNamed, HasNames}
-use Rattle.dump_trees.specs.Cuts.{IsCut}
-use Rattle.dump_trees.specs.ComingBack.{IsMadeByKept, NothingComesBack}
+use Rattle.dump_trees.specs.Siblings.{HasNames}
 use Rattle.dump_trees.specs.Expansions.{AllRevisionsExpand}
 use Rattle.dump_history.specs.RecordChanges.{Patching}
 use Rattle.dump_history.specs.DumpChanges.{MakeRevisions, HaveRevisionProperties, LoadsAs}
@@ -62,10 +57,6 @@ TreeRelation = Tree → Tree → Type 0
 -- at a kept path is what was there, with the properties that the filter writes, and elsewhere only what is given
 abbrev pub TreeRestricts : Settings → List DumpRecord → TreeRelation
 TreeRestricts settings records = IsRestricted settings (IsNewProperty settings (kept_revisions settings records))
-
--- the same of the included paths, what is below them and the directories above
-abbrev pub TreeIsCut : Settings → List NodePath → List DumpRecord → TreeRelation
-TreeIsCut settings included records = IsCut included (IsNewProperty settings (kept_revisions settings records))
 
 -- the tree at the image of each number has this relation to the tree there
 abbrev pub ImagesRelate : TreeRelation → (ℕ → Option ℕ) → List Tree → List Tree → Type 0
@@ -110,54 +101,11 @@ ExcludedDumpLoadsNumbered = (patched : Patching) (settings : Settings) (dump fil
     → settings.side ≡ Exclude → settings.empty ≡ Pad → settings.preserve ≡ true
     → LoadsNumbered patched (TreeRestricts settings again) records trees filtered
 
--- what is filtered by the siblings of included paths in the dump's trees has the cuts of these trees
-abbrev pub CutDumpLoads : Type 0
-CutDumpLoads = (patched : Patching) (settings : Settings) (included siblings : List NodePath) (dump filtered : List ℕ)
-    (records again : List DumpRecord) (revisions : List (List Change)) (trees : List Tree) →
-    FiltersExpansion patched settings dump records revisions trees again filtered
-    → ExcludesPaths settings siblings → AreSiblings included trees siblings → IsTrue (leaves_no_gap settings)
-    → LoadsNew patched settings (TreeIsCut settings included again) again trees filtered
-
--- and so under its own numbers
-abbrev pub CutDumpLoadsNumbered : Type 0
-CutDumpLoadsNumbered = (patched : Patching) (settings : Settings) (included siblings : List NodePath)
-    (dump filtered : List ℕ) (records again : List DumpRecord) (revisions : List (List Change)) (trees : List Tree) →
-    FiltersExpansion patched settings dump records revisions trees again filtered
-    → ExcludesPaths settings siblings → AreSiblings included trees siblings
-    → settings.empty ≡ Pad → settings.preserve ≡ true
-    → LoadsNumbered patched (TreeIsCut settings included again) records trees filtered
-
 -- the names in the paths of a dump that loads are names of nodes, so they are in its trees
 abbrev pub LoadedDumpsHaveNames : Type 0
 LoadedDumpsHaveNames = (patched : Patching) (records : List DumpRecord) (revisions : List (List Change))
     (trees : List Tree) (number : ℕ) (tree : Tree) →
     LoadsAs patched root_alone records revisions trees → slice_get trees number ≡ Some tree → HasNames tree
-
--- kept changes of the dump by themselves have made the text of each file
-abbrev pub TextsAreKept : Settings → List (List Change) → Tree → Type 0
-TextsAreKept settings revisions tree = (path : NodePath) (props : List Property) (text : List ℕ) →
-    tree path ≡ Some (Node.File props text) → IsMadeByKept settings revisions text
-
--- so it is in the trees of what is written, if nothing comes back
-abbrev pub WrittenTextsAreKept : Type 0
-WrittenTextsAreKept = (patched : Patching) (settings : Settings) (dump filtered : List ℕ)
-    (records again : List DumpRecord) (revisions : List (List Change)) (trees : List Tree) (number : ℕ)
-    (tree other : Tree) →
-    FiltersExpansion patched settings dump records revisions trees again filtered
-    → settings.side ≡ Exclude → NothingComesBack settings trees revisions
-    → slice_get trees number ≡ Some tree → TreeRestricts settings again tree other
-    → TextsAreKept settings revisions other
-
--- and so in the cuts
-abbrev pub CutTextsAreKept : Type 0
-CutTextsAreKept = (patched : Patching) (settings : Settings) (included siblings : List NodePath)
-    (dump filtered : List ℕ) (records again : List DumpRecord) (revisions : List (List Change)) (trees : List Tree)
-    (number : ℕ) (tree other : Tree) →
-    FiltersExpansion patched settings dump records revisions trees again filtered
-    → ExcludesPaths settings siblings → AreSiblings included trees siblings
-    → NothingComesBack settings trees revisions
-    → slice_get trees number ≡ Some tree → TreeIsCut settings included again tree other
-    → TextsAreKept settings revisions other
 
 -- whether the change's path is kept, and so is its source, if it makes a copy
 abbrev pub tells_kept_paths : Settings → Change → Bool
@@ -176,16 +124,3 @@ FilteredDumpsTellKeptPaths = (patched : Patching) (settings : Settings) (dump te
     (records : List DumpRecord) (revisions : List (List Change)) →
     IsCleanText settings dump records text → LengthsFit settings records → KeepsNamedNumbers settings records
     → MakeRevisions patched records revisions → TellsKeptPaths patched settings text
-
--- mergeinfo whose sources are named: what the filter writes of it, if the siblings are excluded, has the lines of those
--- sources that are in the cut, and no others
-abbrev pub CutMergeinfoStays : Type 0
-CutMergeinfoStays = (settings : Settings) (included named siblings : List NodePath) (kept : KeptRevisions)
-    (old new : Property) (lines : List MergeLine) →
-    ExcludesPaths settings siblings → CoverNamed included named siblings
-    → IsNewProperty settings kept old new → IsTrue (is_mergeinfo old) → IsMergeinfo (value_of old) lines
-    → All (λ (line : MergeLine). IsTrue (is_short line.path) × Contains named (path_of line.path)) lines
-    → (new_lines : List MergeLine)
-    × AllZip (IsNewLine settings kept)
-    (filter (λ (line : MergeLine). is_in_cut included (path_of line.path)) lines) new_lines
-    × (new.value ≡ Some (mergeinfo_text (nonempty_lines new_lines)))

@@ -1,7 +1,7 @@
 -- The law of a partial dump, which begins above revision 0, as svnadmin dump -r writes it. A load into a new repository
 -- gives its revisions the numbers 1, 2 and so on, and lowers the numbers of its copies by as much (svnadmin load of
 -- Subversion 1.14, load-fs-vtable.c).
-use Rattle.std.specs.Prelude.{◌≡◌, ℕ, suc, ◌-◌, Bool, not, ◌&&◌, ◌==◌, List, [], ◌∷◌, ◌++◌, length, map, Some, IsSome, IsTrue, MatchBool}
+use Rattle.std.specs.Prelude.{◌≡◌, ℕ, suc, ◌-◌, Bool, not, ◌&&◌, ◌==◌, List, [], ◌∷◌, length, map, Some, IsSome, IsTrue, MatchBool}
 use Rattle.std.specs.List.{AllZip}
 use Rattle.dump_text.specs.PropertyList.{Property}
 use Rattle.dump_records.specs.DumpText.{Ending, HasRecords}

@@ -16,18 +16,16 @@ use Rattle.dump_trees.specs.Paths.{NodePath, keeps}
 use Rattle.dump_trees.specs.Trees.{Tree, root_alone}
 use Rattle.dump_trees.specs.Changes.{Change, History, step, steps}
 use Rattle.dump_trees.specs.ExpansionCases.{deletions}
-use Rattle.dump_trees.specs.Siblings.{AreSiblings, ExcludesPaths}
 use Rattle.dump_trees.specs.Branches.{Branch}
 use Rattle.dump_trees.specs.WritingOut.{IsCutAlike}
 use Rattle.dump_trees.specs.Revisions.{EmptyRule, keeps_revision}
-use Rattle.dump_trees.specs.Expansions.{Expands, AllRevisionsExpand}
+use Rattle.dump_trees.specs.Expansions.{Expands}
 use Rattle.dump_trees.specs.Trimming.{IsTrimmed}
 use Rattle.dump_history.specs.RecordChanges.{Patching}
 use Rattle.dump_history.specs.DumpChanges.{MakeRevisions, HaveRevisionProperties, LoadsAs}
 use Rattle.dump_history.specs.WrittenNodes.{WrittenNode, node_record, can_be_written, written_change}
-use Rattle.dump_history.specs.ExpandedDumps.{Stead}
-use Rattle.dump_history.specs.ExpandedText.{AreRecordTexts, IsExpandedText, made_in_stead}
-use Rattle.dump_history.specs.CutDumps.{TreeRestricts, TreeIsCut, LoadsNew, LoadsNumbered}
+use Rattle.dump_history.specs.ExpandedText.{AreRecordTexts}
+use Rattle.dump_history.specs.CutDumps.{TreeRestricts, LoadsNew, LoadsNumbered}
 
 -- what is written after
 
@@ -134,68 +132,15 @@ TrimmedDumpLoads = (patched : Patching) (settings : Settings) (dump : List ℕ) 
     → settings.side ≡ Exclude → settings.empty ≡ Pad → settings.preserve ≡ true → settings.renumber ≡ false
     → LoadsNumbered patched (TreeRestricts settings records) records trees text
 
--- if the siblings of included paths are excluded, it has the cuts
-abbrev pub TrimmedCutDumpLoads : Type 0
-TrimmedCutDumpLoads = (patched : Patching) (settings : Settings) (included siblings : List NodePath) (dump : List ℕ)
-    (records : List DumpRecord) (revisions : List (List Change)) (trees : List Tree) (text : List ℕ) →
-    FiltersTrimmed patched settings dump records revisions trees text
-    → ExcludesPaths settings siblings → AreSiblings included trees siblings
-    → settings.empty ≡ Pad → settings.preserve ≡ true → settings.renumber ≡ false
-    → LoadsNumbered patched (TreeIsCut settings included records) records trees text
+-- under options that keep everything
 
--- expanded and trimmed
-
--- each path is kept by the options that keep everything
-abbrev pub KeepsEachPath : Type 0
-KeepsEachPath = (path : NodePath) → IsTrue (keeps keep_all path)
-
--- so under them each change is an expansion of itself, and each branch may be copied: what is asked of an expansion is
--- that it does the same
+-- each change is an expansion of itself, and each branch may be copied: what is asked of an expansion is that it does the
+-- same
 abbrev pub EachChangeStays : Type 0
 EachChangeStays = (history : History) (before : Tree) (c : Change) → Expands keep_all history before c (c ∷ [])
 
 abbrev pub EachBranchIsCutAlike : Type 0
 EachBranchIsCutAlike = (path source : NodePath) (branch : Branch) → IsCutAlike keep_all path source branch
-
--- a dump that loads, an expanded form of it, and a text that is what the filter writes of that, trimmed. Of the
--- expansions nothing is asked but that they do the same: they are expansions under options that keep everything. So
--- what is written out and what is trimmed may be in one dump
-pub record FiltersTrimmedExpansion (patched : Patching) (settings : Settings) (dump : List ℕ) (records : List DumpRecord)
-    (revisions : List (List Change)) (trees : List Tree) (again : List DumpRecord) (text : List ℕ) : Type 0 where
-  pub has : HasRecords dump records Ending.Whole
-  pub loads : LoadsAs patched root_alone records revisions trees
-  pub steads : List Stead
-  pub expansion : List ℕ
-  pub expanded : IsExpandedText records steads expansion
-  pub same : AllRevisionsExpand keep_all (root_alone ∷ []) root_alone revisions (made_in_stead records steads revisions)
-  pub filtered : List ℕ
-  pub clean : IsCleanText settings expansion again filtered
-  pub fit : LengthsFit settings again
-  pub left : List DumpRecord
-  pub has_left : HasRecords filtered left Ending.Whole
-  pub behind : List (List WrittenNode)
-  pub trimmed : IsTrimmedText left behind text
-  pub trims : AreAllTrimming settings (root_alone ∷ []) root_alone (made_in_stead records steads revisions)
-      (drop 1 (part_groups left behind))
-
--- then the text loads into a new repository, and has the dump's trees, restricted, each under its own number and with
--- its properties
-abbrev pub TrimmedExpansionLoads : Type 0
-TrimmedExpansionLoads = (patched : Patching) (settings : Settings) (dump : List ℕ) (records again : List DumpRecord)
-    (revisions : List (List Change)) (trees : List Tree) (text : List ℕ) →
-    FiltersTrimmedExpansion patched settings dump records revisions trees again text
-    → settings.side ≡ Exclude → settings.empty ≡ Pad → settings.preserve ≡ true → settings.renumber ≡ false
-    → LoadsNumbered patched (TreeRestricts settings again) records trees text
-
--- or their cuts, if the siblings of included paths are excluded
-abbrev pub TrimmedCutExpansionLoads : Type 0
-TrimmedCutExpansionLoads = (patched : Patching) (settings : Settings) (included siblings : List NodePath)
-    (dump : List ℕ) (records again : List DumpRecord) (revisions : List (List Change)) (trees : List Tree)
-    (text : List ℕ) →
-    FiltersTrimmedExpansion patched settings dump records revisions trees again text
-    → ExcludesPaths settings siblings → AreSiblings included trees siblings
-    → settings.empty ≡ Pad → settings.preserve ≡ true → settings.renumber ≡ false
-    → LoadsNumbered patched (TreeIsCut settings included again) records trees text
 
 -- renumbered
 
@@ -237,49 +182,3 @@ TrimmedDumpLoadsRenumbered = (patched : Patching) (settings : Settings) (dump : 
     FiltersRenumbered patched settings dump records revisions trees text
     → settings.side ≡ Exclude → IsTrue settings.renumber
     → LoadsNew patched settings (TreeRestricts settings records) records trees text
-
--- or their cuts, if the siblings of included paths are excluded
-abbrev pub TrimmedCutDumpLoadsRenumbered : Type 0
-TrimmedCutDumpLoadsRenumbered = (patched : Patching) (settings : Settings) (included siblings : List NodePath)
-    (dump : List ℕ) (records : List DumpRecord) (revisions : List (List Change)) (trees : List Tree)
-    (text : List ℕ) →
-    FiltersRenumbered patched settings dump records revisions trees text
-    → ExcludesPaths settings siblings → AreSiblings included trees siblings → IsTrue settings.renumber
-    → LoadsNew patched settings (TreeIsCut settings included records) records trees text
-
--- the same of an expanded form, of which nothing is asked but that it does the same
-pub record FiltersRenumberedExpansion (patched : Patching) (settings : Settings) (dump : List ℕ)
-    (records : List DumpRecord) (revisions : List (List Change)) (trees : List Tree) (again : List DumpRecord)
-    (text : List ℕ) : Type 0 where
-  pub has : HasRecords dump records Ending.Whole
-  pub loads : LoadsAs patched root_alone records revisions trees
-  pub steads : List Stead
-  pub expansion : List ℕ
-  pub expanded : IsExpandedText records steads expansion
-  pub same : AllRevisionsExpand keep_all (root_alone ∷ []) root_alone revisions (made_in_stead records steads revisions)
-  pub filtered : List ℕ
-  pub clean : IsCleanText settings expansion again filtered
-  pub fit : LengthsFit settings again
-  pub left : List DumpRecord
-  pub has_left : HasRecords filtered left Ending.Whole
-  pub behind : List (List WrittenNode)
-  pub trimmed : IsTrimmedText left behind text
-  pub trims : AreFilteredTrimming settings (root_alone ∷ []) root_alone (made_in_stead records steads revisions)
-      (drop 1 (part_groups left behind))
-
--- then the text has the dump's trees, restricted, at the images of the numbers
-abbrev pub TrimmedExpansionLoadsRenumbered : Type 0
-TrimmedExpansionLoadsRenumbered = (patched : Patching) (settings : Settings) (dump : List ℕ)
-    (records again : List DumpRecord) (revisions : List (List Change)) (trees : List Tree) (text : List ℕ) →
-    FiltersRenumberedExpansion patched settings dump records revisions trees again text
-    → settings.side ≡ Exclude → IsTrue settings.renumber
-    → LoadsNew patched settings (TreeRestricts settings again) again trees text
-
--- or their cuts, if the siblings of included paths are excluded
-abbrev pub TrimmedCutExpansionLoadsRenumbered : Type 0
-TrimmedCutExpansionLoadsRenumbered = (patched : Patching) (settings : Settings) (included siblings : List NodePath)
-    (dump : List ℕ) (records again : List DumpRecord) (revisions : List (List Change)) (trees : List Tree)
-    (text : List ℕ) →
-    FiltersRenumberedExpansion patched settings dump records revisions trees again text
-    → ExcludesPaths settings siblings → AreSiblings included trees siblings → IsTrue settings.renumber
-    → LoadsNew patched settings (TreeIsCut settings included again) again trees text

@@ -1,17 +1,13 @@
 //! Laws of dumps and the repositories that they make, each the contract of a function that does nothing.
-ghost use Rattle.dump_history.specs.CutDumpLines.{CutDumpLoadsNumberedWithLines, CutDumpLoadsWithLines, CutTreesHaveCutLines, LoadedLinesAreNamed};
-ghost use Rattle.dump_history.specs.CutDumps.{CutDumpLoads, CutDumpLoadsNumbered, CutMergeinfoStays, CutTextsAreKept, ExcludedDumpLoads, ExcludedDumpLoadsNumbered, FilteredDumpsTellKeptPaths, LoadedDumpsHaveNames, NumbersAreKept, WrittenTextsAreKept};
+ghost use Rattle.dump_history.specs.CutDumps.{ExcludedDumpLoads, ExcludedDumpLoadsNumbered, FilteredDumpsTellKeptPaths, LoadedDumpsHaveNames, NumbersAreKept};
 ghost use Rattle.dump_history.specs.DumpLaws.{DumpLoadsOnce, DumpLoadsTheSameBehindOthers, FilteredDumpRestricts, FilteredDumpRestrictsBehindFolders, NoGapIsNeeded, PlainRevisionsStay, FilteredDumpFrontRestricts, QuietDumpRestricts, QuietDumpRestrictsBehindFolders, QuietDumpFrontRestricts};
 ghost use Rattle.dump_history.specs.ExpandedDumps.{ExpandedDumpLoads, FilteredExpansionRestricts, FilteredExpansionRestrictsBehindFolders, NoSourceIsMissed};
-ghost use Rattle.dump_history.specs.ExpandedParts.{ExpandedPartLoads, FilteredExpandedPartRestricts, FirstPartExpansionsAreParts, NoSourceIsMissedInPart, PartExpansionsAreParts};
 ghost use Rattle.dump_history.specs.ExpandedText.{ExpansionsAreDumps, FilteredTextsRestrict, NoSourceIsMissedInText};
-ghost use Rattle.dump_history.specs.GrowingExpansions.{ExpandedChangesGrow, ExpandedRevisionsGrow, ExpandedTextsBegin, ExpandedTextsGrow, ExpansionsBegin, ExpansionsGrow, PlacesAreLoaded, SteadGroupsGrow};
 ghost use Rattle.dump_history.specs.KeptChanges.{FilteredChangesAreKept, RenumberedChangesAreKept, TrimmedChangesAreKept};
-ghost use Rattle.dump_history.specs.NeededSteads.{ExpandedChangesAreKept, KeptRevisionsStay, TakenPartsStayCopies, TakenRecordsStay, WrittenChangesAreKept};
 ghost use Rattle.dump_history.specs.PartLaws.{FilteredPartRestricts, NoGapIsNeededInPart, QuietPartRestricts};
-ghost use Rattle.dump_history.specs.Replacing.{CopyReplacingLeads, KeptCopyReplaces, LeftCopyReplaces, LeftStayingCopyReplaces, ReplacingExpands, ReplacingLeads, StayingCopyReplaces};
+ghost use Rattle.dump_history.specs.Replacing.{KeptCopyReplaces};
 ghost use Rattle.dump_history.specs.SurveyLaws.{AlarmsAreExact, DumpFindingsAreOnce, FindingsAreOnce, ObstaclesAreExact, SurveyedDumpRestricts, SurveyedDumpFrontRestricts};
-ghost use Rattle.dump_history.specs.TrimmedDumps.{EachBranchIsCutAlike, EachChangeStays, KeepsEachPath, TrimmedCutDumpLoads, TrimmedCutDumpLoadsRenumbered, TrimmedCutExpansionLoads, TrimmedCutExpansionLoadsRenumbered, TrimmedDumpLoads, TrimmedDumpLoadsRenumbered, TrimmedExpansionLoads, TrimmedExpansionLoadsRenumbered, TrimmedTextsAreDumps};
+ghost use Rattle.dump_history.specs.TrimmedDumps.{EachBranchIsCutAlike, EachChangeStays, TrimmedDumpLoads, TrimmedDumpLoadsRenumbered, TrimmedTextsAreDumps};
 ghost use Rattle.dump_history.specs.WrittenNodes.{WrittenNodesAreRecords, WrittenNodesMakeChanges};
 
 /// What the filter writes of a dump without a fault, loaded over the parent directories, has the trees that the whole
@@ -98,104 +94,41 @@ pub fn each_expanded_dump_restricts()
     ensures sources { NoSourceIsMissed }
 {}
 
-/// The same holds of a partial dump, which begins above revision 0.
-pub fn each_expanded_part_restricts()
-    ensures loads { ExpandedPartLoads }
-    ensures filtered { FilteredExpandedPartRestricts }
-    ensures sources { NoSourceIsMissedInPart }
-    ensures text { PartExpansionsAreParts }
-    ensures first { FirstPartExpansionsAreParts }
-{}
-
-/// An expanded form can be written record by record: its text, what is in place of the nodes of each revision, and the
-/// expansions of their changes grow.
-pub fn each_expansion_grows()
-    ensures begin { ExpandedTextsBegin }
-    ensures text { ExpandedTextsGrow }
-    ensures groups { SteadGroupsGrow }
-    ensures revisions { ExpandedRevisionsGrow }
-    ensures changes { ExpandedChangesGrow }
-    ensures empty { ExpansionsBegin }
-    ensures expansions { ExpansionsGrow }
-    ensures places { PlacesAreLoaded }
-{}
-
-/// One change that replaces may be made in place of a deletion and a change after it; so what is written out over
-/// something begins with one. And it may be made in place of a copy over something, which stays but for this.
-pub fn replacing_is_deleting_first()
-    ensures leads { ReplacingLeads }
-    ensures expands { ReplacingExpands }
-    ensures kept { KeptCopyReplaces }
-    ensures left { LeftCopyReplaces }
-    ensures copies { CopyReplacingLeads }
-    ensures stays { StayingCopyReplaces }
-    ensures left_stays { LeftStayingCopyReplaces }
+/// What is written out in place of a copy to a kept path, made over something, may begin with a change that replaces this.
+pub fn written_copies_replace()
+    ensures { KeptCopyReplaces }
 {}
 
 /// What is filtered of a dump's expanded form by excluded prefixes loads into a new repository, if revisions are
-/// renumbered or none is dropped; the dump only has to load. If the siblings of included paths are excluded, it has the
-/// cuts of the dump's trees; and if they exclude each named path outside the cut, its mergeinfo has the lines of the
-/// sources in the cut.
-pub fn each_cut_dump_loads()
+/// renumbered or none is dropped, and has the restricted trees; the dump only has to load.
+pub fn each_excluded_dump_loads()
     ensures numbers { NumbersAreKept }
     ensures names { LoadedDumpsHaveNames }
     ensures excluded { ExcludedDumpLoads }
     ensures excluded_numbered { ExcludedDumpLoadsNumbered }
-    ensures cut { CutDumpLoads }
-    ensures cut_numbered { CutDumpLoadsNumbered }
-    ensures mergeinfo { CutMergeinfoStays }
 {}
 
-/// If the siblings cover the paths that the lines of mergeinfo name too, and these are canonical, each such line in the
-/// trees stays exactly if its path is in the cut.
-pub fn cut_dumps_have_cut_lines()
-    ensures named { LoadedLinesAreNamed }
-    ensures trees { CutTreesHaveCutLines }
-    ensures cut { CutDumpLoadsWithLines }
-    ensures cut_numbered { CutDumpLoadsNumberedWithLines }
-{}
-
-/// If nothing comes back, kept changes alone have made each text in what is filtered so; and whatever comes back, its
-/// nodes and their copy sources are at kept paths alone.
-pub fn texts_in_cut_dumps_are_kept()
-    ensures excluded { WrittenTextsAreKept }
-    ensures cut { CutTextsAreKept }
-    ensures paths { FilteredDumpsTellKeptPaths }
-{}
-
-/// If no more is written in place of a dump's records than is needed, each one whose change the cut takes stays as it
-/// was, each part of a copy that it takes stays a copy, and the same revisions are kept. If nothing comes back either,
-/// all that the changes do which are written comes of kept changes of the dump: each property, each text and each copy,
-/// also if revisions don't show it.
-pub fn needed_expansions_keep_records()
-    ensures stay { TakenRecordsStay }
-    ensures revisions { KeptRevisionsStay }
-    ensures parts { TakenPartsStayCopies }
-    ensures expanded { ExpandedChangesAreKept }
-    ensures written { WrittenChangesAreKept }
+/// The nodes in what the filter writes of a dump, and their copy sources, are at kept paths alone, whether or not the dump is
+/// separated.
+pub fn cut_dumps_have_kept_paths()
+    ensures { FilteredDumpsTellKeptPaths }
 {}
 
 /// What the filter writes by excluded prefixes, with the deletions after its copies of what they take to paths that
 /// aren't kept, is a dump that loads into a new repository, and has the restricted trees, each under its own number, or
-/// at the images if revisions are renumbered; so has what it writes of an expanded form of which nothing is asked but
-/// that it does the same. If the siblings of included paths are excluded, it has the cuts.
+/// at the images if revisions are renumbered. By options that keep everything each change is an expansion of itself, and
+/// each branch may be copied.
 pub fn each_trimmed_dump_loads()
     ensures dump { TrimmedTextsAreDumps }
-    ensures keeps { KeepsEachPath }
     ensures stays { EachChangeStays }
     ensures alike { EachBranchIsCutAlike }
     ensures excluded { TrimmedDumpLoads }
-    ensures cut { TrimmedCutDumpLoads }
-    ensures expanded { TrimmedExpansionLoads }
-    ensures expanded_cut { TrimmedCutExpansionLoads }
     ensures renumbered { TrimmedDumpLoadsRenumbered }
-    ensures renumbered_cut { TrimmedCutDumpLoadsRenumbered }
-    ensures renumbered_expanded { TrimmedExpansionLoadsRenumbered }
-    ensures renumbered_expanded_cut { TrimmedCutExpansionLoadsRenumbered }
 {}
 
-/// What the filter writes of a dump comes of its kept changes, where it leaves no gap in the numbers: each property, but for
-/// mergeinfo, each text, and each copy, but for its number. So does what it writes with the deletions behind its copies.
+/// What the filter writes of a dump comes of its kept changes, if it leaves no gap in the numbers: each property, but for
+/// mergeinfo, each text, and each copy, but for its number. So does what it writes with deletions after its copies. If
+/// prefixes are excluded, a copy in it is over what its own revision changed only if the dump has such a copy.
 pub fn filtered_changes_come_of_kept_ones()
     ensures filtered { FilteredChangesAreKept }
     ensures trimmed { TrimmedChangesAreKept }

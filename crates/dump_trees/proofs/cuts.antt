@@ -8,8 +8,6 @@ pub mod PlainLooks
 pub mod ParentLemmas
 pub mod DeleteLemmas
 pub mod PlacedCopies
-pub mod EverPaths
 pub mod EverSiblings
 pub mod NamedSiblings
-pub mod SetProperties
 pub mod RestLemmas

@@ -2,11 +2,9 @@
 pub mod LeadLemmas
 pub mod BranchLemmas
 pub mod WritingLemmas
-pub mod QuietParts
 pub mod ExpandLemmas
 pub mod DeletionLemmas
 pub mod CaseLemmas
-pub mod TopLemmas
 pub mod StandingLemmas
 pub mod LookLemmas
 pub mod NameLemmas
@@ -14,10 +12,7 @@ pub mod BackLemmas
 pub mod FiniteLemmas
 pub mod FiniteSteps
 pub mod EveryLemmas
-pub mod FilterLemmas
 pub mod ComingLemmas
-pub mod WrittenLemmas
-pub mod SetLemmas
 pub mod FoundSiblings
 pub mod BackFound
 pub mod StayingLemmas

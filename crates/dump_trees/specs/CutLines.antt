@@ -1,16 +1,11 @@
 -- Lines of mergeinfo by the cut: those stay whose paths are in it, whether something exists there or not.
-use Rattle.std.specs.Prelude.{◌≡◌, ℕ, Bool, List, [], ◌∷◌, ◌++◌, Some, filter, slice_get, Contains, IsTrue, if◌then◌else◌}
-use Rattle.std.specs.List.{All, list_all}
+use Rattle.std.specs.Prelude.{◌≡◌, Bool, List, [], ◌∷◌, ◌++◌, Contains, IsTrue, if◌then◌else◌}
+use Rattle.std.specs.List.{list_all}
 use Rattle.dump_rules.specs.Mergeinfo.{MergeLine}
-use Rattle.dump_rules.specs.Rewriting.{staying_lines}
 use Rattle.dump_rules.specs.Settings.{Settings, keeps_path}
-use Rattle.dump_text.specs.PropertyList.{Property}
 use Rattle.dump_trees.specs.Paths.{NodePath, is_short}
-use Rattle.dump_trees.specs.Trees.{Node, Tree, root_alone}
 use Rattle.dump_trees.specs.Changes.{Change}
 use Rattle.dump_trees.specs.Siblings.{is_in_cut, is_sibling, has_node_names, ExcludesPaths, CoverNamed}
-use Rattle.dump_trees.specs.Revisions.{loaded_over}
-use Rattle.dump_trees.specs.ComingBack.{properties_of, SetsProperty}
 use Rattle.dump_trees.specs.CanonicalPaths.{canonical_path}
 use Rattle.dump_trees.specs.Following.{ExistsOnce}
 use Rattle.dump_trees.specs.FollowedParents.{AreEverSiblings}
@@ -30,12 +25,6 @@ abbrev pub NamedLineStays : Type 0
 NamedLineStays = (settings : Settings) (included named siblings : List NodePath) (line : MergeLine) →
     ExcludesPaths settings siblings → CoverNamed included named siblings → IsNamedLine named line
     → keeps_path settings line.path ≡ has_line_in_cut included line
-
--- and of many lines just those in the cut stay
-abbrev pub LinesStayByCut : Type 0
-LinesStayByCut = (settings : Settings) (included named siblings : List NodePath) (lines : List MergeLine) →
-    ExcludesPaths settings siblings → CoverNamed included named siblings → All (IsNamedLine named) lines
-    → staying_lines settings lines ≡ filter (has_line_in_cut included) lines
 
 -- covering named paths
 
@@ -68,24 +57,3 @@ SiblingsOfAllSuffice = (included named : List NodePath) (revisions : List (List 
     IsTrue (list_all has_node_names named)
     → ((path : NodePath) → ExistsOnce revisions path → Contains named path)
     → AreEverSiblings included revisions (siblings_of included named)
-
--- trees
-
--- what is said of each property in the tree
-abbrev pub EachProperty : (Property → Type 0) → Tree → Type 0
-EachProperty Says tree = (path : NodePath) (node : Node) (p : Property) →
-    tree path ≡ Some node → Contains (properties_of node) p → Says p
-
--- one of the changes of these revisions sets the property
-pub record IsSetOnce (revisions : List (List Change)) (p : Property) : Type 0 where
-  pub changes : List Change
-  pub change : Change
-  pub among : Contains revisions changes
-  pub there : Contains changes change
-  pub sets : SetsProperty p change
-
--- so it is of each property in each tree of a history that loads
-abbrev pub PropertiesAreSet : Type 0
-PropertiesAreSet = (revisions : List (List Change)) (trees : List Tree) (number : ℕ) (tree : Tree) →
-    loaded_over root_alone revisions ≡ Some trees → slice_get trees number ≡ Some tree
-    → EachProperty (IsSetOnce revisions) tree

@@ -1,16 +1,14 @@
--- Siblings of every tree, of those within revisions too: how they are found without building trees, and that then each
--- node that is kept has a path in the cut.
+-- Siblings of every tree, of those within revisions too: how they are found without building trees.
 use Rattle.std.specs.Prelude.{◌≡◌, ℕ, ◌≤◌, Bool, ◌||◌, List, [], ◌∷◌, ◌++◌, length, Some, is_some, bytes_eq, Contains, IsTrue}
 use Rattle.std.specs.List.{list_all, list_any}
-use Rattle.dump_rules.specs.Settings.{Settings}
-use Rattle.dump_trees.specs.Paths.{NodePath, keeps}
+use Rattle.dump_trees.specs.Paths.{NodePath}
 use Rattle.dump_trees.specs.Trees.{Tree, root_alone}
 use Rattle.dump_trees.specs.Changes.{Made, Change}
 use Rattle.dump_trees.specs.Revisions.{loaded_over}
 use Rattle.dump_trees.specs.Looking.{placed_from, look}
 use Rattle.dump_trees.specs.Listing.{names_look}
 use Rattle.dump_trees.specs.LoadCheck.{sets_props}
-use Rattle.dump_trees.specs.Siblings.{is_above_included, is_in_cut, is_sibling, have_node_names, AreSiblings, ExcludesPaths}
+use Rattle.dump_trees.specs.Siblings.{is_above_included, is_sibling}
 use Rattle.dump_trees.specs.Following.{ExistsOnce}
 use Rattle.dump_trees.specs.FollowedParents.{AreEverSiblings}
 
@@ -32,13 +30,7 @@ EverSiblingsAreFound = (included siblings : List NodePath) (revisions : List (Li
     → IsTrue (is_sibling included (path ++ name ∷ [])) → Contains siblings (path ++ name ∷ []))
     → AreEverSiblings included revisions siblings
 
--- they are the siblings of the trees of revisions as well
-abbrev pub EverSiblingsAreSiblings : Type 0
-EverSiblingsAreSiblings = (included siblings : List NodePath) (revisions : List (List Change)) (trees : List Tree) →
-    loaded_over root_alone revisions ≡ Some trees → IsTrue (list_all (is_sibling included) siblings)
-    → AreEverSiblings included revisions siblings → AreSiblings included trees siblings
-
--- what is kept
+-- what changes touch
 
 -- whether a change does something. One that doesn't is loaded where nothing exists too
 abbrev pub does_something : Change → Bool
@@ -56,15 +48,3 @@ CopiedPathsExist = (revisions : List (List Change)) (trees : List Tree) (changes
     (number : ℕ) (source : NodePath) →
     loaded_over root_alone revisions ≡ Some trees → Contains revisions changes → Contains changes c
     → c.made ≡ Some (Made.Copied number source) → ExistsOnce revisions source
-
--- where the siblings of every tree are excluded, a node that does something is kept exactly where its path is in the cut,
--- and a copy's source is kept exactly where it is in the cut
-abbrev pub KeptNodesLieInCut : Type 0
-KeptNodesLieInCut = (settings : Settings) (included siblings : List NodePath) (revisions : List (List Change))
-    (trees : List Tree) (changes : List Change) (c : Change) →
-    loaded_over root_alone revisions ≡ Some trees → IsTrue (have_node_names revisions)
-    → ExcludesPaths settings siblings → AreEverSiblings included revisions siblings
-    → Contains revisions changes → Contains changes c
-    → (IsTrue (does_something c) → keeps settings c.path ≡ is_in_cut included c.path)
-    × ((number : ℕ) (source : NodePath) → c.made ≡ Some (Made.Copied number source)
-    → keeps settings source ≡ is_in_cut included source)

@@ -1,15 +1,15 @@
--- The expansions of each kind of change: of one that is separated already, of a copy that the cut doesn't separate, and
--- of a change at a path that isn't kept, above kept ones.
+-- The expansions of three kinds of changes: of one that is separated already, of a copy at a kept path that the cut
+-- doesn't separate, and, where prefixes are excluded, of a change at a path that isn't kept.
 use Rattle.std.specs.Prelude.{◌≡◌, ℕ, Bool, true, ◌&&◌, List, [], ◌∷◌, ◌++◌, map, Option, Some, None, option_map, is_some, is_none, if◌then◌else◌, IsTrue, IsFalse}
-use Rattle.std.specs.List.{list_all, list_any}
+use Rattle.std.specs.List.{list_all}
 use Rattle.dump_rules.specs.declared.options.Side.TheVariants.{Exclude}
 use Rattle.dump_rules.specs.Settings.{Settings}
 use Rattle.dump_trees.specs.Paths.{NodePath, keeps, below}
 use Rattle.dump_trees.specs.Trees.{Tree, HasFolders}
-use Rattle.dump_trees.specs.Changes.{Made, is_copied, PropertyChange, TextChange, Change, History, new_props, new_text, step}
+use Rattle.dump_trees.specs.Changes.{Made, PropertyChange, TextChange, Change, History, new_props, new_text, step}
 use Rattle.dump_trees.specs.Separation.{Separates}
 use Rattle.dump_trees.specs.Branches.{Branch, is_distinct, HasBranch}
-use Rattle.dump_trees.specs.WritingOut.{IsCutAlike, IsLeftOut, WritesOut}
+use Rattle.dump_trees.specs.WritingOut.{WritesOut}
 use Rattle.dump_trees.specs.Expansions.{Expands}
 
 -- the branch, whose root has the properties that a change sets
@@ -46,15 +46,6 @@ abbrev pub none_is_below : List NodePath → Bool
 none_is_below [] = true
 none_is_below (path ∷ paths) = list_all (λ other. is_none (below path other)) paths && none_is_below paths
 
--- these are kept paths, given from the top on: something stands at each, none of them is one before it or lies below
--- one, and each kept path below the top at which something stands is one of them or lies below one
-pub record CoverKept (settings : Settings) (before : Tree) (top : NodePath) (rests : List NodePath) : Type 0 where
-  pub kept : IsTrue (list_all (λ rest. keeps settings (top ++ rest)) rests)
-  pub stand : IsTrue (list_all (λ rest. is_some (before (top ++ rest))) rests)
-  pub apart : IsTrue (none_is_below rests)
-  pub all : (rest : NodePath) → IsTrue (keeps settings (top ++ rest)) → IsTrue (is_some (before (top ++ rest)))
-      → IsTrue (list_any (λ other. is_some (below other rest)) rests)
-
 -- a change that is separated is an expansion of itself
 abbrev pub SeparatedExpands : Type 0
 SeparatedExpands = (settings : Settings) (history : History) (before : Tree) (c : Change) →
@@ -72,43 +63,7 @@ KeptCopyExpands = (settings : Settings) (history : History) (before old : Tree) 
     → WritesOut settings history c.path made changes
     → Expands settings history before c (cleared before c.path ++ changes)
 
--- a copy at a path that isn't kept: before that the kept paths below it are deleted
-abbrev pub LeftCopyExpands : Type 0
-LeftCopyExpands = (settings : Settings) (history : History) (before old : Tree) (c : Change) (number : ℕ)
-    (source : NodePath) (branch made : Branch) (changes : List Change) (rests : List NodePath) →
-    HasFolders before → IsFalse (keeps settings c.path) → CoverKept settings before c.path rests
-    → c.made ≡ Some (Made.Copied number source) → history number ≡ Some old → HasBranch old source branch
-    → IsTrue (is_distinct branch) → branch_made c branch ≡ Some made
-    → WritesOut settings history c.path made changes
-    → Expands settings history before c (deletions c.path rests ++ (cleared before c.path ++ changes))
-
--- a copy at a kept path that the cut takes whole: it stays, with the properties and the text that it sets itself
-abbrev pub KeptCopyStays : Type 0
-KeptCopyStays = (settings : Settings) (history : History) (before old : Tree) (c : Change) (number : ℕ)
-    (source : NodePath) (branch : Branch) →
-    c.made ≡ Some (Made.Copied number source) → history number ≡ Some old → HasBranch old source branch
-    → IsCutAlike settings c.path source branch
-    → Expands settings history before c (c ∷ [])
-
--- a copy at a path that isn't kept, by which nothing comes to a kept path: before it the kept paths below are deleted,
--- and it stays, with what it sets itself
-abbrev pub LeftCopyStays : Type 0
-LeftCopyStays = (settings : Settings) (history : History) (before old : Tree) (c : Change) (number : ℕ)
-    (source : NodePath) (branch : Branch) (rests : List NodePath) →
-    IsFalse (keeps settings c.path) → CoverKept settings before c.path rests
-    → c.made ≡ Some (Made.Copied number source) → history number ≡ Some old → HasBranch old source branch
-    → IsLeftOut settings c.path branch
-    → Expands settings history before c (deletions c.path rests ++ c ∷ [])
-
 -- where prefixes are excluded, each change at a path that isn't kept stays
 abbrev pub ExcludedChangeStays : Type 0
 ExcludedChangeStays = (settings : Settings) (history : History) (before : Tree) (c : Change) →
     settings.side ≡ Exclude → IsFalse (keeps settings c.path) → Expands settings history before c (c ∷ [])
-
--- a change at a path that isn't kept, which deletes and copies nothing: the kept paths below it are deleted, and then it
--- is made as it is
-abbrev pub LeftDeletionExpands : Type 0
-LeftDeletionExpands = (settings : Settings) (history : History) (before : Tree) (c : Change) (rests : List NodePath) →
-    IsFalse (keeps settings c.path) → CoverKept settings before c.path rests
-    → IsTrue c.deletes → IsFalse (is_copied c.made)
-    → Expands settings history before c (deletions c.path rests ++ c ∷ [])

@@ -1,6 +1,6 @@
 -- Following copies: the least set of paths that has the given ones, what is below them, and what copies bring of it
 -- elsewhere; or, of what is included, the sources.
-use Rattle.std.specs.Prelude.{◌≡◌, ℕ, ◌+◌, ◌≤◌, Bool, not, ◌&&◌, ◌||◌, List, [], ◌∷◌, ◌++◌, length, filter, Some, is_some, slice_get, count_by, Contains, IsTrue, IsFalse}
+use Rattle.std.specs.Prelude.{◌≡◌, ℕ, ◌+◌, ◌≤◌, not, ◌&&◌, ◌||◌, List, [], ◌∷◌, ◌++◌, length, filter, Some, is_some, slice_get, count_by, Contains, IsTrue, IsFalse}
 use Rattle.std.specs.List.{list_all}
 use Rattle.dump_rules.specs.Settings.{Settings}
 use Rattle.dump_trees.specs.Paths.{NodePath}
@@ -128,22 +128,6 @@ GrownPathsCover = (tops more : List NodePath) (added : NodePath) → IsGrown top
     × (IsFalse (is_covered tops added) → IsTrue (lie_apart tops) → IsTrue (lie_apart more))
     × (IsTrue (list_all has_node_names tops) → IsTrue (has_node_names added) → IsTrue (list_all has_node_names more))
 
--- what is reached is closed, and in each closed set that has the given paths
-abbrev pub ReachedIsLeast : Type 0
-ReachedIsLeast = (way : Way) (trees : List Tree) (revisions : List (List Change)) (tops : List NodePath) →
-    IsClosed way trees revisions (IsInClosure way trees revisions tops)
-    × ((has : NodePath → Bool) → IsClosed way trees revisions (λ path. IsTrue (has path))
-    → IsTrue (list_all has tops)
-    → (path : NodePath) → IsInClosure way trees revisions tops path → IsTrue (has path))
-
--- all additions are reached, and so is what is covered by the last paths; and what was covered stays so
-abbrev pub AdditionsAreReached : Type 0
-AdditionsAreReached = (way : Way) (trees : List Tree) (revisions : List (List Change))
-    (tops additions last : List NodePath) → AreFollowed way trees revisions tops additions last
-    → ((path : NodePath) → Covers tops path → Covers last path)
-    × ((added : NodePath) → Contains additions added → IsInClosure way trees revisions tops added)
-    × ((path : NodePath) → Covers last path → IsInClosure way trees revisions tops path)
-
 -- something exists at the path after some of the changes of these revisions: those of the first ones, the last of which
 -- may be cut short
 pub record ExistsOnce (revisions : List (List Change)) (path : NodePath) : Type 0 where
@@ -157,13 +141,6 @@ pub record ExistsOnce (revisions : List (List Change)) (path : NodePath) : Type 
   pub loads : loaded_over root_alone (front ++ changes ∷ []) ≡ Some trees
   pub last : slice_get trees (length (front ++ changes ∷ [])) ≡ Some tree
   pub exists : IsTrue (is_some (tree path))
-
--- something exists once at each addition, and its path has names, where those of the changes have
-abbrev pub AdditionsExist : Type 0
-AdditionsExist = (way : Way) (trees : List Tree) (revisions : List (List Change)) (tops : List NodePath)
-    (added : NodePath) →
-    loaded_over root_alone revisions ≡ Some trees → IsFollowed way trees revisions tops added
-    → ExistsOnce revisions added × (IsTrue (have_node_names revisions) → IsTrue (has_node_names added))
 
 -- how many of these paths aren't covered
 abbrev pub left_uncovered : List NodePath → List NodePath → ℕ
@@ -186,11 +163,6 @@ FollowingIsLeast = (way : Way) (trees : List Tree) (revisions : List (List Chang
     → IsClosed way trees revisions (Covers last)
     × ((path : NodePath) → Covers last path → IsInClosure way trees revisions tops path)
     × ((path : NodePath) → IsInClosure way trees revisions tops path → Covers last path)
-
--- and a pass adds nothing once it is closed
-abbrev pub ClosedAddsNothing : Type 0
-ClosedAddsNothing = (way : Way) (trees : List Tree) (revisions : List (List Change)) (tops : List NodePath) →
-    IsClosed way trees revisions (Covers tops) → AddsNothing way trees revisions tops
 
 -- where what is excluded is followed to its copies, nothing comes back
 abbrev pub FollowedBringNothingBack : Type 0
@@ -235,14 +207,6 @@ FollowedIsTold = (way : Way) (tops : List NodePath) (told : ToldKinds) (revision
     TellsKinds told root_alone (placed_from 1 revisions)
     → loaded_over root_alone revisions ≡ Some trees → slice_get trees number ≡ Some old
     → followed_told way tops told (placed_from 1 revisions) number path source ≡ followed way tops old path source
-
--- each history that loads has a bound: there are no more additions, whatever is given
-abbrev pub FollowingIsBounded : Type 0
-FollowingIsBounded = (revisions : List (List Change)) (trees : List Tree) →
-    loaded_over root_alone revisions ≡ Some trees
-    → (ever : List NodePath) × ((path : NodePath) → ExistsOnce revisions path → Contains ever path)
-    × ((way : Way) (tops additions last : List NodePath) → AreFollowed way trees revisions tops additions last
-    → length additions ≤ length ever)
 
 -- each copy of a history that loads is one of which the returns are found
 abbrev pub EachCopyIsOver : Type 0

@@ -1,13 +1,11 @@
--- Which names can stand in a folder after the first changes of a dump, and which branch stands at a path, found without
--- building trees.
-use Rattle.std.specs.Prelude.{◌≡◌, ℕ, zero, suc, List, [], ◌∷◌, ◌++◌, length, Option, Some, None, is_some, slice_get, nat_le, bytes_eq, IsTrue, ⊤}
-use Rattle.std.specs.List.{list_all, list_any}
+-- Which names can stand in a folder after the first changes of a dump, found without building trees.
+use Rattle.std.specs.Prelude.{◌≡◌, ℕ, zero, suc, List, [], ◌∷◌, ◌++◌, Option, Some, None, is_some, slice_get, bytes_eq, IsTrue}
+use Rattle.std.specs.List.{list_any}
 use Rattle.dump_trees.specs.Paths.{NodePath, below}
-use Rattle.dump_trees.specs.Trees.{Node, Tree, root_alone}
+use Rattle.dump_trees.specs.Trees.{Tree, root_alone}
 use Rattle.dump_trees.specs.Changes.{Made, Change}
 use Rattle.dump_trees.specs.Revisions.{loaded_over}
-use Rattle.dump_trees.specs.Branches.{Branch, Branches, has_name, HasBranch}
-use Rattle.dump_trees.specs.Looking.{Placed, placed_from, end_of, touches_path, latest, Origin, origin_of, look}
+use Rattle.dump_trees.specs.Looking.{Placed, placed_from, end_of, touches_path, latest, Origin, origin_of}
 
 -- the name, where the rest of a path is one alone, and something is made there
 abbrev pub name_made : Option NodePath → Option Made → List (List ℕ)
@@ -64,23 +62,6 @@ names_within (suc more) placed count path =
 abbrev pub names_look : List Placed → ℕ → NodePath → List (List ℕ)
 names_look placed count path = names_within count placed count path
 
-abbrev mutual
-  -- a branch whose nodes are found after so many of the changes, and which leaves out no name that can stand there
-  pub IsLooked : List Placed → ℕ → NodePath → Branch → Type 0
-  IsLooked placed count path (Branch.Folder props inside) =
-      (look root_alone placed count path ≡ Some (Node.Folder props))
-      × AreLooked placed count path inside
-      × ((name : List ℕ) → IsTrue (list_any (λ other. bytes_eq other name) (names_look placed count path))
-      → IsTrue (is_some (look root_alone placed count (path ++ name ∷ []))) → IsTrue (has_name name inside))
-  IsLooked placed count path (Branch.File props text) =
-      look root_alone placed count path ≡ Some (Node.File props text)
-
-  -- branches each of which is found in the folder at the path
-  pub AreLooked : List Placed → ℕ → NodePath → Branches → Type 0
-  AreLooked placed count path Branches.NoMore = ⊤
-  AreLooked placed count path (Branches.Named name branch others) =
-      IsLooked placed count (path ++ name ∷ []) branch × AreLooked placed count path others
-
 -- in the tree of each revision each name in a folder is among those that can stand there
 abbrev pub NamesAreLooked : Type 0
 NamesAreLooked = (revisions : List (List Change)) (trees : List Tree) (number : ℕ) (tree : Tree) (path : NodePath)
@@ -89,21 +70,3 @@ NamesAreLooked = (revisions : List (List Change)) (trees : List Tree) (number : 
     → IsTrue (is_some (tree (path ++ name ∷ [])))
     → IsTrue (list_any (λ other. bytes_eq other name)
     (names_look (placed_from 1 revisions) (end_of (placed_from 1 revisions) number) path))
-
--- a branch that is found at the end of a revision stands in its tree
-abbrev pub LookedBranchStands : Type 0
-LookedBranchStands = (revisions : List (List Change)) (trees : List Tree) (number : ℕ) (tree : Tree) (path : NodePath)
-    (branch : Branch) →
-    loaded_over root_alone revisions ≡ Some trees → slice_get trees number ≡ Some tree
-    → IsLooked (placed_from 1 revisions) (end_of (placed_from 1 revisions) number) path branch
-    → HasBranch tree path branch
-
--- so does one that is found in the midst of a revision: behind the changes of the first revisions, the last of which
--- may be cut short, whatever changes stand behind
-abbrev pub LookedBranchStandsThen : Type 0
-LookedBranchStandsThen = (front : List (List Change)) (behind : List Placed) (trees : List Tree) (tree : Tree)
-    (path : NodePath) (branch : Branch) →
-    loaded_over root_alone front ≡ Some trees → slice_get trees (length front) ≡ Some tree
-    → IsTrue (list_all (λ (p : Placed). nat_le (length front) p.revision) behind)
-    → IsLooked (placed_from 1 front ++ behind) (length (placed_from 1 front)) path branch
-    → HasBranch tree path branch

@@ -2,7 +2,6 @@
 -- So it is told without trees whether a dump loads, and where it is refused first.
 use Rattle.std.specs.Prelude.{◌≡◌, ℕ, zero, suc, Bool, true, false, not, ◌&&◌, ◌||◌, List, [], ◌∷◌, ◌++◌, length, Option, Some, None, option_map, option_and_then, is_some, is_none, slice_get, nat_lt, nat_le, if◌then◌else◌, IsTrue, IsFalse}
 use Rattle.std.specs.List.{AllZip, list_all}
-use Rattle.dump_text.specs.PropertyList.{Property}
 use Rattle.dump_trees.specs.Paths.{NodePath, parent_of}
 use Rattle.dump_trees.specs.Trees.{Node, Tree}
 use Rattle.dump_trees.specs.Changes.{Made, PropertyChange, TextChange, Change, History, step}
@@ -129,12 +128,6 @@ StepIsAllowed = (history : History) (tree : Tree) (c : Change) →
     is_some (step history tree c)
     ≡ (kinds_allow c (kinds_before history tree c) && delta_applies c.text (node_set history tree c))
 
--- so a test that asks each edit of properties for something to edit, also one without entries, allows no more
-abbrev pub StricterPropsAllow : Type 0
-StricterPropsAllow = (c : Change) (entries : List Property) (kinds : Kinds) →
-    IsTrue (kinds_allow (record c { props = Some (PropertyChange.Replaced entries) }) kinds)
-    → IsTrue (kinds_allow c kinds)
-
 -- a whole dump
 
 -- a way to tell what exists at a path after so many of the changes
@@ -191,28 +184,13 @@ all_apply first placed zero = true
 all_apply first placed (suc count) =
     all_apply first placed count && applies_there first placed count (slice_get placed count)
 
--- the first revisions of a dump, the last of which may be cut short, load exactly where each of their changes is allowed,
--- and each delta applies, whatever changes stand behind
-abbrev pub LoadIsAllowed : Type 0
-LoadIsAllowed = (told : ToldKinds) (first : Tree) (front : List (List Change)) (behind : List Placed) →
-    TellsKinds told first (placed_from 1 front ++ behind)
-    → IsTrue (list_all (λ (p : Placed). nat_le (length front) p.revision) behind)
-    → is_some (loaded_over first front)
-    ≡ (all_allowed told (placed_from 1 front ++ behind) (length (placed_from 1 front))
-    && all_apply first (placed_from 1 front ++ behind) (length (placed_from 1 front)))
-
--- so does the whole dump
+-- a dump loads exactly where each of its changes is allowed, and each delta applies
 abbrev pub DumpIsAllowed : Type 0
 DumpIsAllowed = (told : ToldKinds) (first : Tree) (revisions : List (List Change)) →
     TellsKinds told first (placed_from 1 revisions)
     → is_some (loaded_over first revisions)
     ≡ (all_allowed told (placed_from 1 revisions) (length (placed_from 1 revisions))
     && all_apply first (placed_from 1 revisions) (length (placed_from 1 revisions)))
-
--- what is found by looking back tells what exists
-abbrev pub LooksTellKinds : Type 0
-LooksTellKinds = (first : Tree) (placed : List Placed) →
-    TellsKinds (λ count path. option_map kind_of_node (look first placed count path)) first placed
 
 -- whether a text comes as a delta
 abbrev pub patches_text : Option TextChange → Bool
@@ -238,33 +216,14 @@ pub record HasSameKinds (p plain : Placed) : Type 0 where
   pub text : is_some plain.change.text ≡ is_some p.change.text
   pub whole : IsTrue (not (patches_text plain.change.text))
 
--- so what is found by looking back over such changes tells what exists too: properties and texts needn't be known
+-- what is found by looking back over such changes tells what exists: properties and texts needn't be known
 abbrev pub PlainLooksTellKinds : Type 0
 PlainLooksTellKinds = (first : Tree) (placed plain : List Placed) →
     AllZip HasSameKinds placed plain
     → TellsKinds (λ count path. option_map kind_of_node (look first plain count path)) first placed
 
--- without deltas each applies
-abbrev pub WholeTextsApply : Type 0
-WholeTextsApply = (first : Tree) (placed : List Placed) (count : ℕ) →
-    IsTrue (nat_le count (length placed))
-    → IsTrue (list_all (λ (p : Placed). not (patches_text p.change.text)) placed)
-    → IsTrue (all_apply first placed count)
-
--- the first change that isn't allowed, where the deltas before it apply: the changes before it load, and with it they
--- don't
-abbrev pub FirstRefusalIsFound : Type 0
-FirstRefusalIsFound = (told : ToldKinds) (first : Tree) (front : List (List Change)) (changes : List Change) (c : Change)
-    (more : List Change) (rest : List (List Change)) (placed : List Placed) (place : ℕ) →
-    placed ≡ placed_from 1 (front ++ (changes ++ c ∷ more) ∷ rest)
-    → place ≡ length (placed_from 1 (front ++ changes ∷ []))
-    → TellsKinds told first placed
-    → IsTrue (all_allowed told placed place) → IsTrue (all_apply first placed place)
-    → IsFalse (allowed_there told placed place (slice_get placed place))
-    → IsTrue (is_some (loaded_over first (front ++ changes ∷ [])))
-    × (loaded_over first (front ++ (changes ++ c ∷ []) ∷ []) ≡ None)
-
--- so it is of a place: some of the changes of its revision stand before it, and some behind; the dump isn't loaded
+-- a change is refused at this place: some of the changes of its revision stand before it, and some behind. The changes
+-- before it load, and with it they don't; nor does the dump
 pub record IsRefusedAt (first : Tree) (revisions : List (List Change)) (place : ℕ) (c : Change) : Type 0 where
   pub front : List (List Change)
   pub changes : List Change
@@ -276,6 +235,7 @@ pub record IsRefusedAt (first : Tree) (revisions : List (List Change)) (place : 
   pub refused : loaded_over first (front ++ (changes ++ c ∷ []) ∷ []) ≡ None
   pub none : loaded_over first revisions ≡ None
 
+-- so it is of the first change that isn't allowed, where the deltas before it apply
 abbrev pub FirstRefusalIsThere : Type 0
 FirstRefusalIsThere = (told : ToldKinds) (first : Tree) (revisions : List (List Change)) (placed : List Placed)
     (place : ℕ) (p : Placed) →

@@ -1,13 +1,13 @@
 -- Returns: the topmost rests of a copy's path at which something comes back. They are told by the excluded paths, and by
 -- what exists at the source.
-use Rattle.std.specs.Prelude.{◌≡◌, ℕ, Bool, true, not, ◌&&◌, List, [], ◌∷◌, ◌++◌, filter, Option, Some, None, is_some, Contains, if◌then◌else◌, IsTrue, IsFalse}
+use Rattle.std.specs.Prelude.{◌≡◌, ℕ, Bool, true, not, ◌&&◌, List, [], ◌∷◌, ◌++◌, filter, Option, Some, None, is_some, Contains, if◌then◌else◌, IsTrue}
 use Rattle.std.specs.List.{list_all, list_any}
 use Rattle.dump_rules.specs.Settings.{Settings}
-use Rattle.dump_trees.specs.Paths.{NodePath, keeps, below}
+use Rattle.dump_trees.specs.Paths.{NodePath, below}
 use Rattle.dump_trees.specs.Trees.{Tree, HasFolders}
 use Rattle.dump_trees.specs.Changes.{Made, Change, History}
 use Rattle.dump_trees.specs.Siblings.{is_within, has_node_names, HasNames, ExcludesPaths}
-use Rattle.dump_trees.specs.ComingBack.{ComesBack, alone_if}
+use Rattle.dump_trees.specs.ComingBack.{ComesBack}
 
 -- paths that cover others
 
@@ -20,12 +20,6 @@ abbrev pub lie_apart : List NodePath → Bool
 lie_apart [] = true
 lie_apart (path ∷ paths) =
     list_all (λ other. not (is_within path other) && not (is_within other path)) paths && lie_apart paths
-
--- where these paths are excluded, a path is kept exactly where they don't cover it
-abbrev pub KeptIsUncovered : Type 0
-KeptIsUncovered = (settings : Settings) (excluded : List NodePath) (path : NodePath) →
-    ExcludesPaths settings excluded → IsTrue (list_all has_node_names excluded) → IsTrue (has_node_names path)
-    → keeps settings path ≡ not (is_covered excluded path)
 
 -- the rest, if it has a name
 abbrev pub named_rest : Option NodePath → List NodePath
@@ -51,23 +45,6 @@ returns excluded old path source =
     filter (λ rest. is_some (old (source ++ rest)) && not (is_covered excluded (path ++ rest)))
     (rests_covered source excluded)
 
--- so there are none at a path that is excluded; the whole returns where the source is excluded alone; and else it is each
--- excluded path strictly below the source
-abbrev pub ReturnsByCases : Type 0
-ReturnsByCases = (excluded : List NodePath) (old : Tree) (path source : NodePath) →
-    (IsTrue (is_covered excluded path) → returns excluded old path source ≡ [])
-    × (IsFalse (is_covered excluded path) → IsTrue (is_covered excluded source)
-    → returns excluded old path source ≡ alone_if (is_some (old source)))
-    × (IsFalse (is_covered excluded source) → returns excluded old path source
-    ≡ filter (λ rest. is_some (old (source ++ rest)) && not (is_covered excluded (path ++ rest)))
-    (rests_below source excluded))
-
--- something comes back at this rest, and at none above it
-pub record IsReturn (settings : Settings) (history : History) (c : Change) (rest : NodePath) : Type 0 where
-  pub back : ComesBack settings history c
-  pub at : back.rest ≡ rest
-  pub topmost : (other : ComesBack settings history c) → IsTrue (is_within other.rest rest) → other.rest ≡ rest
-
 -- a copy of what these paths exclude: its source stands in this tree, as trees of a repository are
 pub record IsCopyOver (settings : Settings) (excluded : List NodePath) (history : History) (old : Tree) (c : Change)
     (source : NodePath) : Type 0 where
@@ -79,13 +56,6 @@ pub record IsCopyOver (settings : Settings) (excluded : List NodePath) (history 
   pub folders : HasFolders old
   pub named : HasNames old
   pub path : IsTrue (has_node_names c.path)
-
--- where no excluded path is at or below another one, the returns are just these rests
-abbrev pub ReturnsAreFound : Type 0
-ReturnsAreFound = (settings : Settings) (excluded : List NodePath) (history : History) (old : Tree) (c : Change)
-    (source : NodePath) → IsCopyOver settings excluded history old c source → IsTrue (lie_apart excluded)
-    → ((rest : NodePath) → Contains (returns excluded old c.path source) rest → IsReturn settings history c rest)
-    × ((rest : NodePath) → IsReturn settings history c rest → Contains (returns excluded old c.path source) rest)
 
 -- what comes back is at a return or below one; so nothing does exactly where there is none
 abbrev pub ReturnsTellAll : Type 0

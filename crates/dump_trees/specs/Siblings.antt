@@ -1,12 +1,9 @@
 -- Siblings: what is excluded so that the included paths are left, and the directories above them. They stand in those
 -- directories, beside what leads to an included path.
-use Rattle.std.specs.Prelude.{◌≡◌, ℕ, Bool, true, false, not, ◌&&◌, ◌||◌, List, [], ◌∷◌, map, filter, Option, Some, None, is_some, slice_get, bytes_eq, Contains, IsTrue, IsFalse}
-use Rattle.std.specs.List.{All, list_all, list_any}
-use Rattle.dump_rules.specs.declared.options.Side.TheVariants.{Include, Exclude}
-use Rattle.dump_rules.specs.Prefix.{bare_prefix}
+use Rattle.std.specs.Prelude.{◌≡◌, ℕ, Bool, true, false, not, ◌&&◌, ◌||◌, List, [], ◌∷◌, map, Option, Some, None, is_some, slice_get, bytes_eq, Contains, IsTrue, IsFalse}
+use Rattle.std.specs.List.{list_all, list_any}
+use Rattle.dump_rules.specs.declared.options.Side.TheVariants.{Exclude}
 use Rattle.dump_rules.specs.Settings.{Settings, keeps_path}
-use Rattle.dump_rules.specs.Mergeinfo.{MergeLine}
-use Rattle.dump_rules.specs.Rewriting.{staying_lines}
 use Rattle.dump_trees.specs.Paths.{NodePath, path_text, path_of, is_name, is_short, keeps, below, parent_of}
 use Rattle.dump_trees.specs.Trees.{Tree, HasFolders, root_alone}
 use Rattle.dump_trees.specs.Changes.{Change}
@@ -108,13 +105,6 @@ NamedTextsLeaveCut = (settings : Settings) (included named siblings : List NodeP
     → Contains named (path_of text) → IsTrue (is_short text)
     → keeps_path settings text ≡ is_in_cut included (path_of text)
 
--- and of the lines of mergeinfo whose sources are named, those in the cut stay, and no others
-abbrev pub NamedLinesLeaveCut : Type 0
-NamedLinesLeaveCut = (settings : Settings) (included named siblings : List NodePath) (lines : List MergeLine) →
-    ExcludesPaths settings siblings → CoverNamed included named siblings
-    → All (λ (line : MergeLine). IsTrue (is_short line.path) × Contains named (path_of line.path)) lines
-    → staying_lines settings lines ≡ filter (λ (line : MergeLine). is_in_cut included (path_of line.path)) lines
-
 -- the trees of a repository
 
 -- each node but the root stands in folders alone, in each tree that is loaded
@@ -131,21 +121,3 @@ LoadedTreesHaveNames = (revisions : List (List Change)) (trees : List Tree) (num
 -- a path in short form has names of nodes
 abbrev pub ShortPathsHaveNames : Type 0
 ShortPathsHaveNames = (text : List ℕ) → IsTrue (is_short text) → IsTrue (has_node_names (path_of text))
-
--- prefixes
-
--- the paths that prefixes name: those of the prefixes in short form, where slashes at both ends don't count
-abbrev pub named_paths : List (List ℕ) → List NodePath
-named_paths prefixes = map path_of (filter is_short (map bare_prefix prefixes))
-
--- where prefixes are included, a path with names of nodes is kept exactly where it is one that a prefix names, or lies
--- below one. So a prefix that isn't in short form keeps nothing
-abbrev pub PrefixesNamePaths : Type 0
-PrefixesNamePaths = (settings : Settings) (path : NodePath) →
-    settings.side ≡ Include → IsTrue (has_node_names path)
-    → keeps settings path ≡ list_any (λ top. is_within top path) (named_paths settings.prefixes)
-
--- the text of a path with names of nodes names just this path
-abbrev pub TextsNamePaths : Type 0
-TextsNamePaths = (paths : List NodePath) → IsTrue (list_all has_node_names paths)
-    → named_paths (map path_text paths) ≡ paths

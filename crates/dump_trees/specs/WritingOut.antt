@@ -3,10 +3,9 @@ use Rattle.std.specs.Prelude.{◌≡◌, ℕ, false, List, [], ◌∷◌, ◌++�
 use Rattle.dump_text.specs.PropertyList.{Property}
 use Rattle.dump_rules.specs.Settings.{Settings}
 use Rattle.dump_trees.specs.Paths.{NodePath, keeps}
-use Rattle.dump_trees.specs.Trees.{Node, Tree, HasFolders, grafted}
-use Rattle.dump_trees.specs.Changes.{Made, PropertyChange, TextChange, Change, History, has_folder, edited_with}
-use Rattle.dump_trees.specs.Leading.{Leads}
-use Rattle.dump_trees.specs.Branches.{Branch, Branches, tree_of, is_distinct, HasBranch}
+use Rattle.dump_trees.specs.Trees.{Node, Tree}
+use Rattle.dump_trees.specs.Changes.{Made, PropertyChange, TextChange, Change, History, edited_with}
+use Rattle.dump_trees.specs.Branches.{Branch, Branches, tree_of, HasBranch}
 
 -- a change that copies, and sets nothing of its own
 abbrev pub copy_of : ℕ → NodePath → NodePath → Change
@@ -81,12 +80,3 @@ abbrev mutual
       (first : List Change) × (rest : List Change) × (changes ≡ first ++ rest)
       × WritesOut settings history (path ++ name ∷ []) branch first
       × WritesInside settings history path others rest
-
--- where nothing stands at the path, and its parent is a folder, the changes make just this branch there, and the cut
--- separates each of them
-abbrev pub WritingLeads : Type 0
-WritingLeads = (settings : Settings) (history : History) (before : Tree) (path : NodePath) (branch : Branch)
-    (changes : List Change) →
-    HasFolders before → before path ≡ None → IsTrue (has_folder before path) → IsTrue (is_distinct branch)
-    → WritesOut settings history path branch changes
-    → Leads settings history before changes (grafted path (tree_of branch) before)

@@ -200,13 +200,6 @@ module _ (patched : Patching) (settings : Settings) (kept : KeptRevisions) (r s 
       by_length true = rw replaces refl
       by_length false = refl
 
-  -- a node that isn't copied again makes what its kind says
-  by_kind_again : (m : Bool) → is_copy s ≡ false
-      → (if m then if is_copy s then Some (copied_from s) else made_by_kind s else None)
-      ≡ (if m then made_by_kind s else None)
-  by_kind_again true none = rw none refl
-  by_kind_again false none = refl
-
   new_made : IsMadeAgain (made_of r) (made_of s)
   new_made = by_makes (makes r) refl
     where

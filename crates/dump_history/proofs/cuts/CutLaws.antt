@@ -1,21 +1,17 @@
 -- The laws of what is filtered by excluded prefixes.
-use Rattle.dump_history.proofs.Prelude.{◌≡◌, ◌<◌, true, length, map, sym, ap, ◌∙◌, subst, slice_get, AllZip, or_right, Pad, Property, DumpRecord, Settings, KeptRevisions, image, Group, groups, group_number, kept_revisions, IsNewProperty, Tree, root_alone, Change, loaded_over, Patching, MakeChanges, HaveRevisionProperties, LoadsAs, KeepsProperties}
+use Rattle.dump_history.proofs.Prelude.{◌≡◌, ◌<◌, true, length, map, sym, ap, ◌∙◌, subst, slice_get, AllZip, or_right, Pad, Property, DumpRecord, Settings, KeptRevisions, image, Group, groups, group_number, kept_revisions, Tree, root_alone, Change, loaded_over, Patching, MakeChanges, HaveRevisionProperties, LoadsAs, KeepsProperties}
 use Rattle.std.proofs.Common.{ℕ, List, [], ◌∷◌, Some}
 use Rattle.std.proofs.lemmas.Option.{slice_get_within}
 use Rattle.std.proofs.lemmas.List.{length-map}
 use Rattle.dump_rules.specs.declared.options.Side.TheVariants.{Exclude}
 use Rattle.dump_filter.specs.Groups.{is_pad}
-use Rattle.dump_trees.specs.Paths.{NodePath}
-use Rattle.dump_trees.specs.Siblings.{AreSiblings, ExcludesPaths}
-use Rattle.dump_trees.proofs.changes.CutLemmas.{gives_root, restricted_is_cut}
-use Rattle.dump_trees.proofs.histories.StandingNames.{loaded_folders}
+use Rattle.dump_trees.proofs.changes.CutLemmas.{gives_root}
 use Rattle.dump_history.specs.ExpandedText.{made_in_stead}
-use Rattle.dump_history.specs.CutDumps.{leaves_no_gap, FiltersExpansion, TreeRelation, TreeRestricts, TreeIsCut, LoadsNew, LoadsNumbered, ExcludedDumpLoads, ExcludedDumpLoadsNumbered, CutDumpLoads, CutDumpLoadsNumbered}
+use Rattle.dump_history.specs.CutDumps.{leaves_no_gap, FiltersExpansion, TreeRelation, TreeRestricts, LoadsNew, LoadsNumbered, ExcludedDumpLoads, ExcludedDumpLoadsNumbered}
 use Rattle.dump_history.proofs.again.DumpAgain.{numbered_from, kept_revisions_are}
 use Rattle.dump_history.proofs.restricted.FrontSize.{trees_count}
 use Rattle.dump_history.proofs.expanded.ExpandedLaw.{expanded_dump_loads}
 use Rattle.dump_history.proofs.expanded.SteadLemmas.{with_records, filtered_texts_restrict}
-use Rattle.dump_history.proofs.cuts.NameLemmas.{loaded_dumps_have_names}
 use Rattle.dump_history.proofs.cuts.OwnNumbers.{numbers_are_kept, own_images, filter_same, zip_from_gets, zip_length, same_properties}
 
 module _ (patched : Patching) (settings : Settings) (dump filtered : List ℕ) (records again : List DumpRecord)
@@ -26,7 +22,7 @@ module _ (patched : Patching) (settings : Settings) (dump filtered : List ℕ) (
   expanded = made_in_stead records f.steads revisions
 
   -- the expanded form loads to the same trees, with the same properties
-  pub expansion_loads : LoadsAs patched root_alone again (made_in_stead records f.steads revisions) trees
+  expansion_loads : LoadsAs patched root_alone again (made_in_stead records f.steads revisions) trees
       × ((props : List (List Property)) → HaveRevisionProperties records props → HaveRevisionProperties again props)
   expansion_loads =
       let (loads, apart, numbers, properties) =
@@ -58,31 +54,6 @@ module _ (patched : Patching) (settings : Settings) (dump filtered : List ℕ) (
         },
         size,
         images,
-        properties,
-      )
-
-  -- and so has the cuts, where the siblings are excluded
-  pub cut_loads : (included siblings : List NodePath) → ExcludesPaths settings siblings
-      → AreSiblings included trees siblings → leaves_no_gap settings ≡ true
-      → LoadsNew patched settings (TreeIsCut settings included again) again trees filtered
-  cut_loads included siblings excludes all no_gap =
-      let (text, written, others, has, loads, size, images, properties) = excluded_loads excludes.side no_gap in (
-        text,
-        written,
-        others,
-        has,
-        loads,
-        size,
-        λ number tree at.
-            let (new, other, image_is, stands, restricted) = images number tree at in (
-              new,
-              other,
-              image_is,
-              stands,
-              restricted_is_cut (IsNewProperty settings (kept_revisions settings again)) settings included siblings
-                  trees number tree other excludes all at (loaded_folders revisions trees number tree f.loads.loads at)
-                  (loaded_dumps_have_names patched records revisions trees number tree f.loads at) restricted,
-            ),
         properties,
       )
 
@@ -145,16 +116,3 @@ excluded_dump_loads_numbered patched settings dump filtered records again revisi
     numbered_loads patched settings dump filtered records again revisions trees f pad preserve
     (TreeRestricts settings again)
     (excluded_loads patched settings dump filtered records again revisions trees f side (no_gap_by_pad settings pad))
-
--- what is filtered by the siblings
-pub cut_dump_loads : CutDumpLoads
-cut_dump_loads patched settings included siblings dump filtered records again revisions trees f excludes all no_gap =
-    cut_loads patched settings dump filtered records again revisions trees f included siblings excludes all no_gap
-
-pub cut_dump_loads_numbered : CutDumpLoadsNumbered
-cut_dump_loads_numbered patched settings included siblings dump filtered records again revisions trees f excludes all
-    pad preserve =
-    numbered_loads patched settings dump filtered records again revisions trees f pad preserve
-    (TreeIsCut settings included again)
-    (cut_loads patched settings dump filtered records again revisions trees f included siblings excludes all
-    (no_gap_by_pad settings pad))

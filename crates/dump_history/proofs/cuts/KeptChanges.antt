@@ -1,5 +1,5 @@
 -- What is written of a dump, where no record is replaced, comes of its kept changes.
-use Rattle.dump_history.proofs.Prelude.{◌≡◌, true, refl, sym, ap, ◌∙◌, subst, inl, append-nil, or_left, or_right, drop, slice_get, MatchBool-at_false, Contains, Property, DumpRecord, Settings, KeptRevisions, kept_revisions, IsNewProperty, keeps, NodePath, Tree, root_alone, Made, Change, NewProperty, NewNumber, EmptyRule, AreNewRevisions, keeps_revision, IsWrittenNumber, Patching}
+use Rattle.dump_history.proofs.Prelude.{◌≡◌, true, refl, sym, ap, subst, inl, append-nil, or_left, or_right, drop, slice_get, MatchBool-at_false, Contains, Property, DumpRecord, Settings, KeptRevisions, kept_revisions, IsNewProperty, keeps, NodePath, Tree, root_alone, Made, Change, NewProperty, NewNumber, EmptyRule, AreNewRevisions, keeps_revision, IsWrittenNumber, Patching}
 use Rattle.std.proofs.Common.{ℕ, Bool, false, List, [], ◌∷◌, ◌++◌, Option, Some, None, map, option_and_then}
 use Rattle.std.specs.List.{All}
 use Rattle.std.proofs.lemmas.Bool.{MatchBool-at_true}
@@ -15,15 +15,92 @@ use Rattle.dump_trees.specs.Revisions.{loaded}
 use Rattle.dump_trees.specs.Trimming.{IsSameNumber}
 use Rattle.dump_history.specs.CutDumps.{leaves_no_gap}
 use Rattle.dump_history.specs.DumpChanges.{MakeRevisions}
-use Rattle.dump_history.specs.KeptChanges.{ChangesComeOfKept, FilteredChangesAreKept, RenumberedChangesAreKept, TrimmedChangesAreKept}
-use Rattle.dump_history.specs.NeededSteads.{ComesOfKept, CopiesPart, IsSameProperty}
+use Rattle.dump_history.specs.KeptChanges.{CopiesPart, ComesOfKept, ChangesComeOfKept, FilteredChangesAreKept, RenumberedChangesAreKept, TrimmedChangesAreKept}
 use Rattle.dump_history.specs.TrimmedDumps.{AreAllTrimming, AreFilteredTrimming, AreTrimming, IsTrimmedText, changes_behind, part_groups, revisions_with, stays_empty}
 use Rattle.dump_history.specs.WrittenNodes.{WrittenNode, written_change}
 use Rattle.dump_history.proofs.restricted.FilteredLaw.{is_left, same_kept}
 use Rattle.dump_history.proofs.restricted.LoadsOnce.{whole_records_once}
-use Rattle.dump_history.proofs.cuts.NeededLaw.{revisions_written}
+use Rattle.dump_history.proofs.cuts.CopiesOver.{Delete, IsDeletion, over_without, written_over}
+use Rattle.dump_history.proofs.cuts.WrittenChanges.{IsSameProperty, revisions_written}
 use Rattle.dump_history.proofs.cuts.OwnNumbers.{numbers_are_kept}
 use Rattle.dump_history.proofs.cuts.TrimmedTexts.{trimmed_texts_are_dumps}
+
+deletions_delete : (top : NodePath) (rests : List NodePath) → All IsDeletion (deletions top rests)
+deletions_delete top [] = All-nil IsDeletion
+deletions_delete top (rest ∷ rests) =
+    All-cons IsDeletion (deletion_of (top ++ rest)) (deletions top rests) (top ++ rest, refl) (deletions_delete top rests)
+
+-- the nodes behind changes delete
+module _ (settings : Settings) where
+  trimming_deletes : (history : History) (before after : Tree) (changes : List Change) (behind : List (List WrittenNode))
+      → AreTrimming settings history before changes behind → steps history before changes ≡ Some after
+      → All Delete behind
+  trimming_deletes history before after [] behind none at = All-same Delete behind [] none (All-nil Delete)
+  trimming_deletes history before after (c ∷ changes) behind trims at =
+      sides (λ t more trimming rest. trimming_deletes history t after changes more trimming rest)
+      (step history before c) refl at (keeps settings c.path) refl
+    where
+      Later : Type 0
+      Later = (t : Tree) (more : List (List WrittenNode)) → AreTrimming settings history t changes more
+          → steps history t changes ≡ Some after → All Delete more
+
+      sides : Later → (o : Option Tree) → step history before c ≡ o
+          → option_and_then (λ t. steps history t changes) o ≡ Some after
+          → (b : Bool) → keeps settings c.path ≡ b → All Delete behind
+      sides later None is bad b kept = absurd (let worse : None ≡ Some after = bad in cc)
+      sides later (Some t) is rest true kept =
+          let (nodes, more, rests, listed, deleted, trimmed, further) = MatchBool-at_true _ _ kept trims in
+          All-same Delete behind (nodes ∷ more) listed
+          (All-cons Delete nodes more
+          (All-same IsDeletion (map written_change nodes) (deletions c.path rests) deleted (deletions_delete c.path rests))
+          (later t more (further t is) rest))
+      sides later (Some t) is rest false left = later t behind (MatchBool-at_false _ _ left trims t is) rest
+
+  all_trimming_deletes : (older : List Tree) (youngest : Tree) (these : List (List Change)) (trees : List Tree)
+      (groups : List (List (List WrittenNode))) → AreAllTrimming settings older youngest these groups
+      → loaded older youngest these ≡ Some trees → All (All Delete) groups
+  all_trimming_deletes older youngest [] trees groups none at =
+      All-same (All Delete) groups [] none (All-nil (All Delete))
+  all_trimming_deletes older youngest (changes ∷ these) trees groups (first, rest, listed, trims, further) at =
+      sides (λ t more trimming loads. all_trimming_deletes (older ++ t ∷ []) t these trees more trimming loads)
+      (steps (slice_get older) youngest changes) refl at
+    where
+      Later : Type 0
+      Later = (t : Tree) (more : List (List (List WrittenNode))) → AreAllTrimming settings (older ++ t ∷ []) t these more
+          → loaded (older ++ t ∷ []) t these ≡ Some trees → All (All Delete) more
+
+      sides : Later → (o : Option Tree) → steps (slice_get older) youngest changes ≡ o
+          → option_and_then (λ t. loaded (older ++ t ∷ []) t these) o ≡ Some trees → All (All Delete) groups
+      sides later None is bad = absurd (let worse : None ≡ Some trees = bad in cc)
+      sides later (Some t) is loads =
+          All-same (All Delete) groups (first ∷ rest) listed
+          (All-cons (All Delete) first rest (trimming_deletes (slice_get older) youngest t changes first trims is)
+          (later t rest (further t is) loads))
+
+  filtered_trimming_deletes : (older : List Tree) (youngest : Tree) (these : List (List Change)) (trees : List Tree)
+      (groups : List (List (List WrittenNode))) → AreFilteredTrimming settings older youngest these groups
+      → loaded older youngest these ≡ Some trees → All (All Delete) groups
+  filtered_trimming_deletes older youngest [] trees groups none at =
+      All-same (All Delete) groups [] none (All-nil (All Delete))
+  filtered_trimming_deletes older youngest (changes ∷ these) trees groups trims at =
+      sides (λ t more trimming loads. filtered_trimming_deletes (older ++ t ∷ []) t these trees more trimming loads)
+      (steps (slice_get older) youngest changes) refl at (keeps_revision settings (stays_empty settings) changes) refl
+    where
+      Later : Type 0
+      Later = (t : Tree) (more : List (List (List WrittenNode)))
+          → AreFilteredTrimming settings (older ++ t ∷ []) t these more
+          → loaded (older ++ t ∷ []) t these ≡ Some trees → All (All Delete) more
+
+      sides : Later → (o : Option Tree) → steps (slice_get older) youngest changes ≡ o
+          → option_and_then (λ t. loaded (older ++ t ∷ []) t these) o ≡ Some trees
+          → (b : Bool) → keeps_revision settings (stays_empty settings) changes ≡ b → All (All Delete) groups
+      sides later None is bad b kept = absurd (let worse : None ≡ Some trees = bad in cc)
+      sides later (Some t) is loads true kept =
+          let (first, rest, listed, trimming, further) = MatchBool-at_true _ _ kept trims in
+          All-same (All Delete) groups (first ∷ rest) listed
+          (All-cons (All Delete) first rest (trimming_deletes (slice_get older) youngest t changes first trimming is)
+          (later t rest (further t is) loads))
+      sides later (Some t) is loads false left = later t groups (MatchBool-at_false _ _ left trims t is) loads
 
 -- a kept change comes of itself
 module _ (settings : Settings) (revisions : List (List Change)) where
@@ -66,93 +143,18 @@ module _ (settings : Settings) (revisions : List (List Change)) where
       copies = λ number source is. absurd (let bad : None ≡ Some (Made.Copied number source) = is in cc);
     }
 
-    deletions_come : (top : NodePath) (rests : List NodePath) → All Comes (deletions top rests)
-    deletions_come top [] = All-nil Comes
-    deletions_come top (rest ∷ rests) =
-        All-cons Comes (deletion_of (top ++ rest)) (deletions top rests) (deletion_comes (top ++ rest)) (deletions_come top rests)
+    deletion_is : (d : Change) → IsDeletion d → Comes d
+    deletion_is d (path, is) = subst Comes (sym is) (deletion_comes path)
 
-    -- so do the changes of nodes that delete
-    abbrev Delete : List WrittenNode → Type 0
-    Delete nodes = All Comes (map written_change nodes)
-
-    trimming_deletes : (history : History) (before after : Tree) (changes : List Change) (behind : List (List WrittenNode))
-        → AreTrimming settings history before changes behind → steps history before changes ≡ Some after
-        → All Delete behind
-    trimming_deletes history before after [] behind none at = All-same Delete behind [] none (All-nil Delete)
-    trimming_deletes history before after (c ∷ changes) behind trims at =
-        sides (λ t more trimming rest. trimming_deletes history t after changes more trimming rest)
-        (step history before c) refl at (keeps settings c.path) refl
-      where
-        Later : Type 0
-        Later = (t : Tree) (more : List (List WrittenNode)) → AreTrimming settings history t changes more
-            → steps history t changes ≡ Some after → All Delete more
-
-        sides : Later → (o : Option Tree) → step history before c ≡ o
-            → option_and_then (λ t. steps history t changes) o ≡ Some after
-            → (b : Bool) → keeps settings c.path ≡ b → All Delete behind
-        sides later None is bad b kept = absurd (let worse : None ≡ Some after = bad in cc)
-        sides later (Some t) is rest true kept =
-            let (nodes, more, rests, listed, deleted, trimmed, further) = MatchBool-at_true _ _ kept trims in
-            All-same Delete behind (nodes ∷ more) listed
-            (All-cons Delete nodes more
-            (All-same Comes (map written_change nodes) (deletions c.path rests) deleted (deletions_come c.path rests))
-            (later t more (further t is) rest))
-        sides later (Some t) is rest false left = later t behind (MatchBool-at_false _ _ left trims t is) rest
-
-    all_trimming_deletes : (older : List Tree) (youngest : Tree) (these : List (List Change)) (trees : List Tree)
-        (groups : List (List (List WrittenNode))) → AreAllTrimming settings older youngest these groups
-        → loaded older youngest these ≡ Some trees → All (All Delete) groups
-    all_trimming_deletes older youngest [] trees groups none at =
-        All-same (All Delete) groups [] none (All-nil (All Delete))
-    all_trimming_deletes older youngest (changes ∷ these) trees groups (first, rest, listed, trims, further) at =
-        sides (λ t more trimming loads. all_trimming_deletes (older ++ t ∷ []) t these trees more trimming loads)
-        (steps (slice_get older) youngest changes) refl at
-      where
-        Later : Type 0
-        Later = (t : Tree) (more : List (List (List WrittenNode))) → AreAllTrimming settings (older ++ t ∷ []) t these more
-            → loaded (older ++ t ∷ []) t these ≡ Some trees → All (All Delete) more
-
-        sides : Later → (o : Option Tree) → steps (slice_get older) youngest changes ≡ o
-            → option_and_then (λ t. loaded (older ++ t ∷ []) t these) o ≡ Some trees → All (All Delete) groups
-        sides later None is bad = absurd (let worse : None ≡ Some trees = bad in cc)
-        sides later (Some t) is loads =
-            All-same (All Delete) groups (first ∷ rest) listed
-            (All-cons (All Delete) first rest (trimming_deletes (slice_get older) youngest t changes first trims is)
-            (later t rest (further t is) loads))
-
-    filtered_trimming_deletes : (older : List Tree) (youngest : Tree) (these : List (List Change)) (trees : List Tree)
-        (groups : List (List (List WrittenNode))) → AreFilteredTrimming settings older youngest these groups
-        → loaded older youngest these ≡ Some trees → All (All Delete) groups
-    filtered_trimming_deletes older youngest [] trees groups none at =
-        All-same (All Delete) groups [] none (All-nil (All Delete))
-    filtered_trimming_deletes older youngest (changes ∷ these) trees groups trims at =
-        sides (λ t more trimming loads. filtered_trimming_deletes (older ++ t ∷ []) t these trees more trimming loads)
-        (steps (slice_get older) youngest changes) refl at (keeps_revision settings (stays_empty settings) changes) refl
-      where
-        Later : Type 0
-        Later = (t : Tree) (more : List (List (List WrittenNode)))
-            → AreFilteredTrimming settings (older ++ t ∷ []) t these more
-            → loaded (older ++ t ∷ []) t these ≡ Some trees → All (All Delete) more
-
-        sides : Later → (o : Option Tree) → steps (slice_get older) youngest changes ≡ o
-            → option_and_then (λ t. loaded (older ++ t ∷ []) t these) o ≡ Some trees
-            → (b : Bool) → keeps_revision settings (stays_empty settings) changes ≡ b → All (All Delete) groups
-        sides later None is bad b kept = absurd (let worse : None ≡ Some trees = bad in cc)
-        sides later (Some t) is loads true kept =
-            let (first, rest, listed, trimming, further) = MatchBool-at_true _ _ kept trims in
-            All-same (All Delete) groups (first ∷ rest) listed
-            (All-cons (All Delete) first rest (trimming_deletes (slice_get older) youngest t changes first trimming is)
-            (later t rest (further t is) loads))
-        sides later (Some t) is loads false left = later t groups (MatchBool-at_false _ _ left trims t is) loads
-
-    -- and so do those behind which they stand with them
+    -- so do changes with deletions behind them
     behind_come : (behind : List (List WrittenNode)) (changes : List Change) → All Delete behind → All Comes changes
         → All Comes (changes_behind behind changes)
     behind_come [] changes deletes come = All-nil Comes
     behind_come (nodes ∷ behind) [] deletes come = All-nil Comes
     behind_come (nodes ∷ behind) (c ∷ changes) deletes come =
         All-cons Comes c (map written_change nodes ++ changes_behind behind changes) (All-head Comes c changes come)
-        (All-append Comes (map written_change nodes) (changes_behind behind changes) (All-head Delete nodes behind deletes)
+        (All-append Comes (map written_change nodes) (changes_behind behind changes)
+        (All-weaker IsDeletion Comes deletion_is (map written_change nodes) (All-head Delete nodes behind deletes))
         (behind_come behind changes (All-tail Delete nodes behind deletes) (All-tail Comes c changes come)))
 
     revisions_come : (groups : List (List (List WrittenNode))) (written : List (List Change)) → All (All Delete) groups
@@ -197,13 +199,13 @@ module _ (patched : Patching) (settings : Settings) (dump filtered : List ℕ) (
           changes = left.makes_again.changes;
         },
         written_come _ _ left.written (same_kept patched settings dump filtered records revisions clean fit named makes) left.new,
+        λ side path over. written_over settings IsNew _ _ side path revisions left.written left.new over,
       )
 
   -- with nodes behind its records that delete
   pub trimmed_come : (again : List DumpRecord) (behind : List (List WrittenNode)) (text : List ℕ)
       → HasRecords filtered again Ending.Whole → IsTrimmedText again behind text
-      → All (All (Delete settings revisions IsNew (IsWrittenNumber settings (kept_revisions settings records))))
-      (drop 1 (part_groups again behind))
+      → All (All Delete) (drop 1 (part_groups again behind))
       → ChangesComeOfKept patched settings records revisions text
   trimmed_come again behind text has trimmed deletes =
       let (named, numbering) = numbers_are_kept settings records no_gap in
@@ -222,10 +224,13 @@ module _ (patched : Patching) (settings : Settings) (dump filtered : List ℕ) (
         makes_parts,
         revisions_come settings revisions IsNew (IsWrittenNumber settings (kept_revisions settings records))
             (drop 1 (part_groups left.again behind)) left.written
-            (subst (λ l. All (All (Delete settings revisions IsNew (IsWrittenNumber settings (kept_revisions settings records))))
-            (drop 1 (part_groups l behind))) (sym same) deletes)
+            (subst (λ l. All (All Delete) (drop 1 (part_groups l behind))) (sym same) deletes)
             (written_come _ _ left.written
             (same_kept patched settings dump filtered records revisions clean fit named makes) left.new),
+        λ side path over.
+            written_over settings IsNew _ _ side path revisions left.written left.new
+            (over_without path (drop 1 (part_groups left.again behind)) left.written
+            (subst (λ l. All (All Delete) (drop 1 (part_groups l behind))) (sym same) deletes) over),
       )
 
 pub filtered_changes_are_kept : FilteredChangesAreKept
@@ -236,14 +241,12 @@ pub trimmed_changes_are_kept : TrimmedChangesAreKept
 trimmed_changes_are_kept patched settings dump records revisions trees text f pad stays =
     trimmed_come patched settings dump f.filtered records revisions f.clean f.fit f.loads.makes
     (or_right settings.renumber (is_pad settings.empty) (ap is_pad pad)) f.again f.behind text f.has_again f.trimmed
-    (all_trimming_deletes settings revisions (IsNewProperty settings (kept_revisions settings records))
-    (IsWrittenNumber settings (kept_revisions settings records)) (root_alone ∷ []) root_alone revisions trees
+    (all_trimming_deletes settings (root_alone ∷ []) root_alone revisions trees
     (drop 1 (part_groups f.again f.behind)) f.trims f.loads.loads)
 
 pub renumbered_changes_are_kept : RenumberedChangesAreKept
 renumbered_changes_are_kept patched settings dump records revisions trees text f renumber =
     trimmed_come patched settings dump f.filtered records revisions f.clean f.fit f.loads.makes
     (or_left settings.renumber (is_pad settings.empty) renumber) f.again f.behind text f.has_again f.trimmed
-    (filtered_trimming_deletes settings revisions (IsNewProperty settings (kept_revisions settings records))
-    (IsWrittenNumber settings (kept_revisions settings records)) (root_alone ∷ []) root_alone revisions trees
+    (filtered_trimming_deletes settings (root_alone ∷ []) root_alone revisions trees
     (drop 1 (part_groups f.again f.behind)) f.trims f.loads.loads)

@@ -1,27 +1,20 @@
 -- The law of trimmed dumps that are renumbered.
-use Rattle.dump_history.proofs.Prelude.{◌≡◌, Bool, true, ◌++◌, drop, refl, sym, ap, ◌∙◌, subst, or_left, MatchBool, MatchBool-at_false, slice_get, AllZip, Property, DumpRecord, Settings, KeptRevisions, HasPropertyList, Group, groups, keeps, keeps_group, keeps_revision, kept_revisions, image, Tree, root_alone, Change, NewProperty, NewNumber, IsWrittenNumber, AreNewChanges, AreNewRevisions, kept_of, IsNewProperty, Patching, KeepsProperties}
-use Rattle.std.proofs.Common.{ℕ, false, List, [], ◌∷◌, length}
+use Rattle.dump_history.proofs.Prelude.{◌≡◌, Bool, true, ◌++◌, drop, refl, sym, ap, ◌∙◌, subst, or_left, MatchBool, MatchBool-at_false, slice_get, AllZip, Property, Settings, KeptRevisions, HasPropertyList, Group, groups, keeps, keeps_group, keeps_revision, kept_revisions, image, Tree, root_alone, Change, NewProperty, NewNumber, IsWrittenNumber, AreNewChanges, AreNewRevisions, kept_of, IsNewProperty, KeepsProperties}
+use Rattle.std.proofs.Common.{false, List, [], ◌∷◌, length}
 use Rattle.std.specs.Prelude.{filter}
 use Rattle.std.proofs.lemmas.Bool.{MatchBool-at_true}
 use Rattle.dump_filter.specs.Groups.{is_pad, is_padded}
 use Rattle.dump_filter.specs.NewContent.{revision_properties}
-use Rattle.dump_filter.specs.FilterLaws.{keep_all}
 use Rattle.dump_trees.specs.Changes.{History}
 use Rattle.dump_trees.specs.HistoryLaws.{ImagesRestrict}
 use Rattle.dump_trees.specs.Trimming.{AreTrimmedChanges, AreTrimmedFiltered}
-use Rattle.dump_trees.proofs.changes.CutLemmas.{restricted_is_cut}
-use Rattle.dump_trees.proofs.histories.StandingNames.{loaded_folders}
 use Rattle.dump_trees.proofs.expansions.TrimmedNumbers.{trimmed_filtered}
 use Rattle.dump_history.specs.WrittenNodes.{WrittenNode}
-use Rattle.dump_history.specs.ExpandedText.{made_in_stead}
-use Rattle.dump_history.specs.TrimmedDumps.{part_groups, changes_behind, revisions_with, IsTrimmedText, AreTrimming, stays_empty, AreFilteredTrimming, FiltersRenumbered, TrimmedDumpLoadsRenumbered, TrimmedCutDumpLoadsRenumbered, FiltersRenumberedExpansion, TrimmedExpansionLoadsRenumbered, TrimmedCutExpansionLoadsRenumbered}
+use Rattle.dump_history.specs.TrimmedDumps.{part_groups, changes_behind, revisions_with, IsTrimmedText, AreTrimming, stays_empty, AreFilteredTrimming, TrimmedDumpLoadsRenumbered}
 use Rattle.dump_history.proofs.again.NodeChanges.{entries_kept}
-use Rattle.dump_history.proofs.expanded.ExpandedLaw.{expanded_dump_loads}
-use Rattle.dump_history.proofs.expanded.SteadLemmas.{with_records}
 use Rattle.dump_history.proofs.restricted.FilteredLaw.{same_kept, is_left}
 use Rattle.dump_history.proofs.restricted.LoadsOnce.{whole_records_once}
 use Rattle.dump_history.proofs.cuts.OwnNumbers.{numbers_are_kept}
-use Rattle.dump_history.proofs.cuts.NameLemmas.{loaded_dumps_have_names}
 use Rattle.dump_history.proofs.cuts.TrimmedTexts.{trimmed_texts_are_dumps}
 
 at_true : (A B : Type 0) (b : Bool) → b ≡ true → A → MatchBool b A B
@@ -171,59 +164,3 @@ trimmed_dump_loads_renumbered patched settings dump records revisions trees text
           (image k) trees others) (sym kept_is) images,
       lists.back (groups parts) (properties lists.lists lists.have),
     )
-
-pub trimmed_cut_dump_loads_renumbered : TrimmedCutDumpLoadsRenumbered
-trimmed_cut_dump_loads_renumbered patched settings included siblings dump records revisions trees text f excludes all
-    renumber =
-    let (parts, changes, others, has, loads, size, images, properties) =
-    trimmed_dump_loads_renumbered patched settings dump records revisions trees text f excludes.side renumber in (
-      parts,
-      changes,
-      others,
-      has,
-      loads,
-      size,
-      λ number tree at.
-          let (new, other, image_is, stands, restricted) = images number tree at in (
-            new,
-            other,
-            image_is,
-            stands,
-            restricted_is_cut (IsNewProperty settings (kept_revisions settings records)) settings included siblings trees
-                number tree other excludes all at (loaded_folders revisions trees number tree f.loads.loads at)
-                (loaded_dumps_have_names patched records revisions trees number tree f.loads at) restricted,
-          ),
-      properties,
-    )
-
--- the expanded form loads to the same trees, so it is filtered and trimmed as any dump
-filters_renumbered : (patched : Patching) (settings : Settings) (dump : List ℕ) (records : List DumpRecord)
-    (revisions : List (List Change)) (trees : List Tree) (again : List DumpRecord) (text : List ℕ)
-    → (f : FiltersRenumberedExpansion patched settings dump records revisions trees again text)
-    → FiltersRenumbered patched settings f.expansion again (made_in_stead records f.steads revisions) trees text
-filters_renumbered patched settings dump records revisions trees again text f = record {
-  loads = (expanded_dump_loads patched keep_all dump records f.steads again revisions
-      (made_in_stead records f.steads revisions) trees f.has f.loads
-      (with_records patched keep_all dump f.expansion records again f.steads revisions f.has f.loads.makes f.expanded f.same
-      f.clean.whole)).0;
-  filtered = f.filtered;
-  clean = f.clean;
-  fit = f.fit;
-  again = f.left;
-  has_again = f.has_left;
-  behind = f.behind;
-  trimmed = f.trimmed;
-  trims = f.trims;
-}
-
-pub trimmed_expansion_loads_renumbered : TrimmedExpansionLoadsRenumbered
-trimmed_expansion_loads_renumbered patched settings dump records again revisions trees text f side renumber =
-    trimmed_dump_loads_renumbered patched settings f.expansion again (made_in_stead records f.steads revisions) trees text
-    (filters_renumbered patched settings dump records revisions trees again text f) side renumber
-
-pub trimmed_cut_expansion_loads_renumbered : TrimmedCutExpansionLoadsRenumbered
-trimmed_cut_expansion_loads_renumbered patched settings included siblings dump records again revisions trees text f excludes
-    all renumber =
-    trimmed_cut_dump_loads_renumbered patched settings included siblings f.expansion again
-    (made_in_stead records f.steads revisions) trees text
-    (filters_renumbered patched settings dump records revisions trees again text f) excludes all renumber

@@ -1,6 +1,6 @@
 -- The law of dumps whose copies are trimmed.
-use Rattle.dump_history.proofs.Prelude.{◌≡◌, ◌==◌, Bool, true, ◌++◌, drop, refl, sym, ap, ◌∙◌, subst, or_right, MatchBool, MatchBool-at_false, slice_get, list_any, AllZip, Property, DumpRecord, Settings, KeptRevisions, kept_revisions, groups, keeps, keeps_revision, Tree, root_alone, Change, Made, NewProperty, IsNewMade, IsNewChange, IsWrittenNumber, EmptyRule, AreNewChanges, AreNewRevisions, kept_of, IsNewProperty, Patching, LoadsAs, KeepsProperties, HaveRevisionProperties}
-use Rattle.std.proofs.Common.{ℕ, zero, suc, false, List, [], ◌∷◌, Option, Some, None, length, is_some, not, ◌&&◌}
+use Rattle.dump_history.proofs.Prelude.{◌≡◌, ◌==◌, Bool, true, ◌++◌, drop, refl, sym, ap, ◌∙◌, subst, or_right, MatchBool, MatchBool-at_false, slice_get, list_any, AllZip, Settings, KeptRevisions, kept_revisions, groups, keeps, keeps_revision, Tree, root_alone, Change, Made, NewProperty, IsNewMade, IsNewChange, IsWrittenNumber, EmptyRule, AreNewChanges, AreNewRevisions, kept_of, IsNewProperty, KeepsProperties}
+use Rattle.std.proofs.Common.{false, List, [], ◌∷◌, Option, Some, None, length, is_some, not, ◌&&◌}
 use Rattle.std.proofs.lemmas.Bool.{MatchBool-at_true}
 use Rattle.dump_filter.specs.Groups.{is_pad, keeps_empty}
 use Rattle.dump_trees.specs.Changes.{History}
@@ -8,23 +8,17 @@ use Rattle.dump_trees.specs.Trimming.{AreTrimmedChanges, IsSameNumber, AreTrimme
 use Rattle.dump_filter.specs.FilterLaws.{keep_all}
 use Rattle.dump_trees.specs.Quiet.{is_quiet_kept}
 use Rattle.dump_trees.specs.Restriction.{is_lost}
-use Rattle.dump_trees.proofs.changes.CutLemmas.{restricted_is_cut}
 use Rattle.dump_trees.proofs.quiet.QuietLemmas.{quiet_separates}
 use Rattle.dump_trees.proofs.expansions.CaseLemmas.{separated_expands}
-use Rattle.dump_trees.proofs.histories.StandingNames.{loaded_folders}
 use Rattle.dump_trees.proofs.expansions.TrimmedHistories.{trimmed_history}
 use Rattle.dump_history.specs.WrittenNodes.{WrittenNode}
-use Rattle.dump_history.specs.ExpandedText.{made_in_stead}
-use Rattle.dump_history.specs.CutDumps.{leaves_no_gap, TreeRelation, TreeRestricts, TreeIsCut, LoadsNumbered}
-use Rattle.dump_history.specs.TrimmedDumps.{part_groups, changes_behind, revisions_with, IsTrimmedText, AreTrimming, AreAllTrimming, FiltersTrimmed, TrimmedDumpLoads, TrimmedCutDumpLoads, KeepsEachPath, EachChangeStays, EachBranchIsCutAlike, FiltersTrimmedExpansion, TrimmedExpansionLoads, TrimmedCutExpansionLoads}
+use Rattle.dump_history.specs.CutDumps.{leaves_no_gap}
+use Rattle.dump_history.specs.TrimmedDumps.{part_groups, changes_behind, revisions_with, IsTrimmedText, AreTrimming, AreAllTrimming, TrimmedDumpLoads, EachChangeStays, EachBranchIsCutAlike}
 use Rattle.dump_history.proofs.again.GroupChanges.{empty_rule}
 use Rattle.dump_history.proofs.again.NodeChanges.{entries_kept}
-use Rattle.dump_history.proofs.expanded.ExpandedLaw.{expanded_dump_loads}
-use Rattle.dump_history.proofs.expanded.SteadLemmas.{with_records}
 use Rattle.dump_history.proofs.restricted.FilteredLaw.{is_left}
 use Rattle.dump_history.proofs.restricted.LoadsOnce.{whole_records_once}
-use Rattle.dump_history.proofs.cuts.OwnNumbers.{numbers_are_kept, filter_same, zip_from_gets, zip_length, same_properties}
-use Rattle.dump_history.proofs.cuts.NameLemmas.{loaded_dumps_have_names}
+use Rattle.dump_history.proofs.cuts.OwnNumbers.{numbers_are_kept, filter_same, same_properties}
 use Rattle.dump_history.proofs.cuts.TrimmedTexts.{trimmed_texts_are_dumps}
 
 at_true : (A B : Type 0) (b : Bool) → b ≡ true → A → MatchBool b A B
@@ -160,45 +154,7 @@ trimmed_dump_loads patched settings dump records revisions trees text f side pad
     no_gap : leaves_no_gap settings ≡ true
     no_gap = or_right settings.renumber (is_pad settings.empty) (ap is_pad pad)
 
--- where the siblings are excluded
-
-zip_there : {A B : Type 0} (R : A → B → Type 0) (xs : List A) (ys : List B) → AllZip R xs ys → (number : ℕ) (x : A)
-    → slice_get xs number ≡ Some x → (y : B) × (slice_get ys number ≡ Some y) × R x y
-zip_there R [] ys zip number x at = absurd (let bad : None ≡ Some x = at in cc)
-zip_there R (v ∷ xs) [] zip number x at = absurd zip
-zip_there {B = B} R (v ∷ xs) (w ∷ ys) zip zero x at =
-    let same : v ≡ x = (let both : Some v ≡ Some x = at in cc) in
-    (w, refl, subst (λ u. R u w) same zip.0)
-zip_there R (v ∷ xs) (w ∷ ys) zip (suc number) x at = zip_there R xs ys zip.1 number x at
-
-pub trimmed_cut_dump_loads : TrimmedCutDumpLoads
-trimmed_cut_dump_loads patched settings included siblings dump records revisions trees text f excludes all pad preserve
-    stays =
-    let (parts, changes, others, has, loads, restrict, properties) =
-    trimmed_dump_loads patched settings dump records revisions trees text f excludes.side pad preserve stays in (
-      parts,
-      changes,
-      others,
-      has,
-      loads,
-      zip_from_gets (TreeIsCut settings included records) trees others
-          (zip_length (TreeRestricts settings records) trees others restrict)
-          (λ number tree at.
-          let (other, there, restricted) =
-          zip_there (TreeRestricts settings records) trees others restrict number tree at in (
-            other,
-            there,
-            restricted_is_cut (IsNewProperty settings (kept_revisions settings records)) settings included siblings trees
-                number tree other excludes all at (loaded_folders revisions trees number tree f.loads.loads at)
-                (loaded_dumps_have_names patched records revisions trees number tree f.loads at) restricted,
-          )),
-      properties,
-    )
-
--- expanded and trimmed
-
-pub keeps_each_path : KeepsEachPath
-keeps_each_path path = refl
+-- under options that keep everything
 
 pub each_branch_is_cut_alike : EachBranchIsCutAlike
 each_branch_is_cut_alike path source branch = (refl, refl, λ rest node at. refl)
@@ -219,49 +175,3 @@ each_change_stays history before c =
     over (Some Made.NewFolder) = refl
     over (Some Made.NewFile) = refl
     over (Some (Made.Copied number source)) = refl
-
-module _ (patched : Patching) (settings : Settings) (dump : List ℕ) (records : List DumpRecord)
-    (revisions : List (List Change)) (trees : List Tree) (again : List DumpRecord) (text : List ℕ)
-    (f : FiltersTrimmedExpansion patched settings dump records revisions trees again text) where
-  -- the expanded form loads to the same trees, with the same properties
-  same_loads : LoadsAs patched root_alone again (made_in_stead records f.steads revisions) trees
-      × ((props : List (List Property)) → HaveRevisionProperties records props → HaveRevisionProperties again props)
-  same_loads =
-      let (loads, apart, numbers, properties) =
-      expanded_dump_loads patched keep_all dump records f.steads again revisions (made_in_stead records f.steads revisions)
-      trees f.has f.loads
-      (with_records patched keep_all dump f.expansion records again f.steads revisions f.has f.loads.makes f.expanded f.same
-      f.clean.whole) in
-      (loads, properties)
-
-  -- so it is filtered and trimmed as any dump
-  pub its_trimmed : FiltersTrimmed patched settings f.expansion again (made_in_stead records f.steads revisions) trees text
-  its_trimmed = record {
-    loads = same_loads.0;
-    filtered = f.filtered;
-    clean = f.clean;
-    fit = f.fit;
-    again = f.left;
-    has_again = f.has_left;
-    behind = f.behind;
-    trimmed = f.trimmed;
-    trims = f.trims;
-  }
-
-  pub its_properties : (Relates : TreeRelation) → LoadsNumbered patched Relates again trees text
-      → LoadsNumbered patched Relates records trees text
-  its_properties Relates (parts, changes, others, has, loads, zip, properties) =
-      (parts, changes, others, has, loads, zip, λ props have. properties props (same_loads.1 props have))
-
-pub trimmed_expansion_loads : TrimmedExpansionLoads
-trimmed_expansion_loads patched settings dump records again revisions trees text f side pad preserve stays =
-    its_properties patched settings dump records revisions trees again text f (TreeRestricts settings again)
-    (trimmed_dump_loads patched settings f.expansion again (made_in_stead records f.steads revisions) trees text
-    (its_trimmed patched settings dump records revisions trees again text f) side pad preserve stays)
-
-pub trimmed_cut_expansion_loads : TrimmedCutExpansionLoads
-trimmed_cut_expansion_loads patched settings included siblings dump records again revisions trees text f excludes all pad
-    preserve stays =
-    its_properties patched settings dump records revisions trees again text f (TreeIsCut settings included again)
-    (trimmed_cut_dump_loads patched settings included siblings f.expansion again (made_in_stead records f.steads revisions)
-    trees text (its_trimmed patched settings dump records revisions trees again text f) excludes all pad preserve stays)

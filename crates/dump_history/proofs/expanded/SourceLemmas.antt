@@ -214,7 +214,7 @@ module _ (settings : Settings) where
             (not_true (keeps settings c.path && is_lost settings c.made) finds)
 
 -- where the changes lose no source, no record in an expanded form misses its own
-pub none_is_missed : (patched : Patching) (settings : Settings) (records : List DumpRecord) (steads : List Stead)
+none_is_missed : (patched : Patching) (settings : Settings) (records : List DumpRecord) (steads : List Stead)
     (again : List DumpRecord) (revisions : List (List Change)) → has_ordered_nodes false again ≡ true
     → AllZip (MakeChanges patched) (groups again) revisions → AllStandFor records steads again
     → list_all (loses_none settings) revisions ≡ true

@@ -135,7 +135,7 @@ module _ (patched : Patching) where
           rw (other, none) tt
 
   -- the groups, and those that stand in place of them
-  pub groups_make : (records : List DumpRecord) (steads : List Stead) (again : List DumpRecord)
+  groups_make : (records : List DumpRecord) (steads : List Stead) (again : List DumpRecord)
       (revisions : List (List Change)) → AllFit records → AllStandFor records steads again
       → AllZip (MakeChanges patched) (groups records) revisions
       → AllZip (MakeChanges patched) (groups again) (expanded_revisions (stead_groups records steads) revisions)

@@ -1,5 +1,5 @@
 -- The text that stands in place of a dump's records is a dump of records that stand in place of them.
-use Rattle.dump_history.proofs.Prelude.{◌≡◌, ◌+◌, ◌<◌, Bool, true, not, ◌++◌, length, map, refl, sym, ap, ◌∙◌, subst, arith, AllZip, list_all, first_true, second_true, absurd_bool, Ending, HasRecords, IsCutInto, BeginsWithRecord, DumpRecord, record_text, is_lawful, is_node, has_header, makes}
+use Rattle.dump_history.proofs.Prelude.{◌≡◌, ◌+◌, ◌<◌, Bool, true, not, ◌++◌, length, map, refl, sym, ap, ◌∙◌, subst, arith, append_assoc, AllZip, list_all, first_true, second_true, absurd_bool, Ending, HasRecords, IsCutInto, BeginsWithRecord, DumpRecord, record_text, is_lawful, is_node, has_header, makes}
 use Rattle.std.proofs.Common.{ℕ, false, List, [], ◌∷◌, codes}
 use Rattle.dump_records.specs.DumpText.{HaveVersions, line_feeds}
 use Rattle.dump_records.specs.HeaderRules.{version_from}
@@ -72,6 +72,18 @@ joins_behind version [] text fit have none number place pending above =
 joins_behind version (r ∷ records) text (fits, fit) (in_force, have) (lfs, rest, is, texts) number place pending above =
     put_one r version lfs text rest records fits in_force is (joins_behind r.version records rest fit have texts)
     number place pending (later_lawful r fits number above)
+
+-- the texts of records, and of others behind them
+pub texts_grow : (xs ys : List DumpRecord) (text own : List ℕ) → AreRecordTexts xs text → AreRecordTexts ys own
+    → AreRecordTexts (xs ++ ys) (text ++ own)
+texts_grow [] ys text own none more = subst (λ t. AreRecordTexts ys (t ++ own)) (sym none) more
+texts_grow (x ∷ xs) ys text own (lfs, rest, is, texts) more = (
+  lfs,
+  rest ++ own,
+  ap (λ t. t ++ own) is ∙ append_assoc (record_text x) (line_feeds lfs ++ rest) own
+      ∙ ap (λ t. record_text x ++ t) (append_assoc (line_feeds lfs) rest own),
+  texts_grow xs ys rest own texts more,
+)
 
 -- what stands in place of records fits, and has the versions in force
 

@@ -1,5 +1,5 @@
 -- Worked values of what is said of dumps of which a part is taken, which wrong definitions don't meet.
-use Rattle.dump_history.proofs.Prelude.{◌≡◌, ◌++◌, Bool, None, refl, sym, ap, ◌∙◌, inr, arith, bytes_eq, suc, zero, AllZip, DropEmptied, DropAll, path_of, Node, Tree, root_alone, put, Patching, slice_get}
+use Rattle.dump_history.proofs.Prelude.{◌≡◌, ◌++◌, Bool, None, refl, sym, ap, ◌∙◌, inr, suc, zero, AllZip, DropEmptied, DropAll, path_of, Tree, root_alone, Patching, slice_get}
 use Rattle.std.proofs.Common.{ℕ, true, false, List, [], ◌∷◌, Some, is_some, is_none, codes}
 use Rattle.std.specs.Fmt.{digits}
 use Rattle.dump_records.specs.DumpText.{line_feeds}
@@ -7,18 +7,15 @@ use Rattle.dump_trees.specs.WritingOut.{copy_of, folder_of}
 use Rattle.dump_trees.specs.Changes.{PropertyChange, steps}
 use Rattle.dump_trees.specs.Branches.{Branch}
 use Rattle.dump_trees.specs.Expansions.{Expands, AllExpand}
-use Rattle.dump_trees.specs.ComingBack.{IsMadeByKept}
 use Rattle.dump_trees.proofs.histories.StandingNames.{loaded_folders}
-use Rattle.dump_trees.proofs.quiet.QuietLemmas.{quiet_separates}
 use Rattle.dump_trees.proofs.expansions.ExpandLemmas.{expanded_lead}
-use Rattle.dump_trees.proofs.expansions.CaseLemmas.{separated_expands}
 use Rattle.dump_history.specs.WrittenNodes.{NodeKind, WrittenNode, node_bytes, node_record, replacing, written_change}
 use Rattle.dump_history.specs.ExpandedDumps.{OwnForm, stead_records, expanded_records}
 use Rattle.dump_history.specs.ExpandedText.{AreRecordTexts, IsExpandedText}
-use Rattle.dump_history.specs.CutDumps.{leaves_no_gap, tells_kept_paths, FiltersExpansion, TreeRelation, ImagesRelate, LoadsNew, LoadsNumbered, TextsAreKept}
-use Rattle.dump_history.proofs.expanded.ReplacingLemmas.{kept_copy_replaces, staying_copy_replaces}
+use Rattle.dump_history.specs.CutDumps.{leaves_no_gap, tells_kept_paths, FiltersExpansion, TreeRelation, ImagesRelate, LoadsNew, LoadsNumbered}
+use Rattle.dump_history.proofs.expanded.ReplacingLemmas.{kept_copy_replaces}
 use Rattle.dump_history.proofs.values.WorkedExpansion.{stays}
-use Rattle.dump_history.proofs.values.WorkedCut.{app, three, branch, records, dump, settings, adds_trunk, adds_old, copies_old, copies_trunk, revisions, begun_tree, first_tree, second_tree, third_tree, trees, file, adds_app, source_branch, again}
+use Rattle.dump_history.proofs.values.WorkedCut.{app, three, branch, records, dump, settings, adds_trunk, adds_old, copies_old, copies_trunk, revisions, begun_tree, first_tree, second_tree, trees, file, adds_app, source_branch, again}
 
 -- options that leave no gap
 
@@ -127,12 +124,6 @@ replaces_file = kept_copy_replaces settings (slice_get (root_alone ∷ first_tre
     (Branch.File [] (codes "text")) adds_app [] (loaded_folders revisions trees 2 second_tree refl refl) refl refl refl
     refl source_branch refl refl (inr ([], refl, refl))
 
--- the copied directory, made over the branch that stands by then, may replace it
-replaces_branch : Expands settings (slice_get trees) third_tree copies_trunk (replacing true copies_trunk ∷ [])
-replaces_branch = staying_copy_replaces settings (slice_get trees) third_tree copies_trunk refl refl
-    (separated_expands settings (slice_get trees) third_tree copies_trunk
-    (λ after is. quiet_separates settings (slice_get trees) third_tree after copies_trunk refl refl is))
-
 -- where nothing stands a node that replaces is refused
 replaces_nothing : is_none (steps (slice_get (root_alone ∷ first_tree ∷ [])) first_tree (replacing true adds_app ∷ []))
     ≡ true
@@ -200,13 +191,3 @@ tells_excluded = refl
 
 tells_excluded_source : tells_kept_paths settings copies_old ≡ false
 tells_excluded_source = refl
-
--- texts that kept changes make
-
--- a file whose text no kept change has made
-secret_stands : TextsAreKept settings [] (put (path_of (codes "a")) (Node.File [] (codes "secret")) root_alone) → ⊥
-secret_stands kept = none (kept (path_of (codes "a")) [] (codes "secret") refl)
-  where
-    none : IsMadeByKept settings [] (codes "secret") → ⊥
-    none (zero, is) = absurd (let bad : false ≡ true = ap (λ t. bytes_eq t []) is in cc)
-    none (suc count, does) = absurd (let (k, low, at) = does.among in omega (arith, low))

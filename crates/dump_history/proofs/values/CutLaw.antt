@@ -1,12 +1,12 @@
--- The laws of what is filtered by siblings, applied to the worked dump: its part loads into a new repository.
+-- The laws of what is filtered by excluded prefixes, applied to the worked dump: its part loads into a new repository.
 use Rattle.dump_history.proofs.Prelude.{◌≡◌, ◌+◌, ◌<◌, ◌^◌, true, ◌++◌, length, refl, ap, ◌∙◌, inr, None, arith, lit<, NoFault, copy_revision_name, with_header_value, property_block_text, Property, DumpRecord, HasPropertyList, LengthsFit, kept_revisions, HoldsOfRecord, AreFaultFree, IsWrittenBlock, IsWrittenText, IsCleanText, AreNewProperties, IsNewProperty, property_list_once, Ending, HasRecords, path_of, Node, Tree, root_alone, Change, loaded_over, Patching, MakeRevisions, RevisionsKeepProperties, HaveRevisionProperties, AllZip, slice_get, IsNewNode}
 use Rattle.std.proofs.Common.{ℕ, List, [], ◌∷◌, Some, codes}
 use Rattle.std.specs.Fmt.{digits}
-use Rattle.dump_history.specs.CutDumps.{FiltersExpansion, TreeRestricts, TreeIsCut, LoadsNew, LoadsNumbered}
-use Rattle.dump_history.proofs.cuts.CutLaws.{excluded_dump_loads, excluded_dump_loads_numbered, cut_dump_loads, cut_dump_loads_numbered}
+use Rattle.dump_history.specs.CutDumps.{FiltersExpansion, TreeRestricts, LoadsNew, LoadsNumbered}
+use Rattle.dump_history.proofs.cuts.CutLaws.{excluded_dump_loads, excluded_dump_loads_numbered}
 use Rattle.dump_history.proofs.values.WorkedDump.{version, zero, one, trunk, none_of}
 use Rattle.dump_history.proofs.values.WorkedFilter.{at_place, free_of, follows, rises, begins, no_copy, text_alone, no_block, revision_part}
-use Rattle.dump_history.proofs.values.WorkedCut.{old, two, three, branch, records, dump, whole, included, siblings, settings, excludes, revisions, third_tree, trees, loads, steads, expansion, is_expanded, expands, file_there, three_there, branch_there, again, whole_again, are_siblings}
+use Rattle.dump_history.proofs.values.WorkedCut.{old, two, three, branch, records, dump, whole, settings, revisions, third_tree, trees, loads, steads, expansion, is_expanded, expands, file_there, three_there, branch_there, again, whole_again}
 
 -- the written file has an empty property block
 no_entries : HasPropertyList file_there []
@@ -147,7 +147,7 @@ written = (
   ),
 )
 
-pub clean : IsCleanText settings expansion again filtered
+clean : IsCleanText settings expansion again filtered
 clean = record { whole = whole_again; fault_free = free; written = written }
 
 -- the written file's block is that of no property
@@ -166,7 +166,7 @@ file_block part (olds, news, list, how, is) =
     none_new [] (p ∷ news) none how = absurd how
     none_new (p ∷ olds) news none how = cc
 
-pub lengths : LengthsFit settings again
+lengths : LengthsFit settings again
 lengths before after r block at is_written = at_place
     (λ b x a. (part : List ℕ) → IsWrittenBlock settings (kept_revisions settings again) x a part
     → length part + length x.text < 10 ^ 18) [] again before after r at (
@@ -198,7 +198,7 @@ lengths before after r block at is_written = at_place
     ) block
 
 -- the dump loads, and this is what the filter writes of its expanded form
-pub filters : (patched : Patching) → FiltersExpansion patched settings dump records revisions trees again filtered
+filters : (patched : Patching) → FiltersExpansion patched settings dump records revisions trees again filtered
 filters patched = record {
   has = whole;
   loads = loads patched;
@@ -210,28 +210,14 @@ filters patched = record {
   fit = lengths;
 }
 
-pub filters_steads : (patched : Patching) → steads ≡ (filters patched).steads
-unfolding filters
-filters_steads patched = refl
-
 -- the laws apply: what is written loads into a new repository, and has the dump's trees, restricted
-pub excluded : (patched : Patching) → LoadsNew patched settings (TreeRestricts settings again) again trees filtered
+excluded : (patched : Patching) → LoadsNew patched settings (TreeRestricts settings again) again trees filtered
 excluded patched =
     excluded_dump_loads patched settings dump filtered records again revisions trees (filters patched) refl refl
 
 excluded_numbered : (patched : Patching) → LoadsNumbered patched (TreeRestricts settings again) records trees filtered
 excluded_numbered patched = excluded_dump_loads_numbered patched settings dump filtered records again revisions trees
     (filters patched) refl refl refl
-
--- and their cuts
-pub cut : (patched : Patching) → LoadsNew patched settings (TreeIsCut settings included again) again trees filtered
-cut patched = cut_dump_loads patched settings included siblings dump filtered records again revisions trees
-    (filters patched) excludes are_siblings refl
-
-pub cut_numbered : (patched : Patching)
-    → LoadsNumbered patched (TreeIsCut settings included again) records trees filtered
-cut_numbered patched = cut_dump_loads_numbered patched settings included siblings dump filtered records again revisions
-    trees (filters patched) excludes are_siblings refl refl
 
 -- in revision 3 of the dump both files stand in both directories
 
@@ -269,8 +255,8 @@ in_revision_3 : (parts : List DumpRecord) × (changes : List (List Change)) × (
     × (tree (path_of (codes "trunk/old")) ≡ None)
     × (tree (path_of (codes "branch/old")) ≡ None)
 in_revision_3 =
-    let (parts, changes, others, has, loads_again, size, images, keep) = cut refused in
-    let (new, tree, image_is, stands, is_cut) = images 3 third_tree refl in
+    let (parts, changes, others, has, loads_again, size, images, keep) = excluded refused in
+    let (new, tree, image_is, stands, restricted) = images 3 third_tree refl in
     let at : 3 ≡ new = (let both : Some 3 ≡ Some new = image_is in cc) in (
       parts,
       changes,
@@ -282,11 +268,11 @@ in_revision_3 =
       size,
       keep,
       ap (slice_get others) at ∙ stands,
-      is_cut.inside (path_of (codes "trunk/app")) refl,
-      is_cut.inside (path_of (codes "branch/app")) refl,
-      is_cut.inside (path_of (codes "branch")) refl,
-      is_cut.outside (path_of (codes "trunk/old")) refl,
-      is_cut.outside (path_of (codes "branch/old")) refl,
+      restricted.kept (path_of (codes "trunk/app")) refl,
+      restricted.kept (path_of (codes "branch/app")) refl,
+      restricted.kept (path_of (codes "branch")) refl,
+      restricted.left (path_of (codes "trunk/old")) refl,
+      restricted.left (path_of (codes "branch/old")) refl,
     )
 
 -- so it is under its own numbers: as many trees, and the same properties
@@ -294,10 +280,10 @@ in_each_revision : (parts : List DumpRecord) × (changes : List (List Change)) �
     × HasRecords filtered parts Ending.Whole
     × MakeRevisions refused parts changes
     × (loaded_over root_alone changes ≡ Some others)
-    × AllZip (TreeIsCut settings included again) trees others
+    × AllZip (TreeRestricts settings again) trees others
     × HaveRevisionProperties parts ([] ∷ [] ∷ [] ∷ [] ∷ [])
 in_each_revision =
-    let (parts, changes, others, has, loads_again, zip, properties) = cut_numbered refused in (
+    let (parts, changes, others, has, loads_again, zip, properties) = excluded_numbered refused in (
       parts,
       changes,
       others,

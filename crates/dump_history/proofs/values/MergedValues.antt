@@ -1,19 +1,18 @@
 -- Worked values of mergeinfo in restricted trees: its numbers change by the kept revisions of the dump itself.
-use Rattle.dump_history.proofs.Prelude.{◌≡◌, not, ◌&&◌, cond, keeps, IsNewNode, refl, sym, ap, ◌∙◌, inl, inr, None, arith, lit<, lit≤, bytes_eq, kept_revisions, new_number, IsNewProperty, NodePath, Node, Tree, root_alone, put, path_of}
+use Rattle.dump_history.proofs.Prelude.{◌≡◌, not, ◌&&◌, cond, keeps, IsNewNode, refl, sym, ap, ◌∙◌, inl, inr, None, arith, lit<, lit≤, bytes_eq, kept_revisions, new_number, IsNewProperty, NodePath, Node, Tree, root_alone, put}
 use Rattle.std.proofs.Common.{ℕ, true, false, List, [], ◌∷◌, Some, codes}
 use Rattle.std.specs.Prelude.{IsTrue, IsFalse}
 use Rattle.std.specs.Fmt.{digits}
 use Rattle.dump_rules.specs.Rewriting.{IsRenumberedMap, IsNewMergeinfo}
 use Rattle.dump_rules.proofs.new_values.OneNewValue.{one_new_value}
 use Rattle.dump_trees.specs.Restriction.{given}
-use Rattle.dump_trees.specs.Siblings.{is_in_cut}
-use Rattle.dump_history.specs.CutDumps.{TreeRestricts, TreeIsCut}
+use Rattle.dump_history.specs.CutDumps.{TreeRestricts}
 use Rattle.dump_history.proofs.values.RaisedValues.{merge, line, reads}
 use Rattle.dump_history.proofs.values.WorkedCut.{records}
 use Rattle.dump_history.proofs.values.WorkedRenumbered.{settings}
 
 -- revision 3 is the second that is kept, so it has the number 2
-pub becomes_two : IsRenumberedMap (kept_revisions settings records) (line (codes "t") 3 true).ranges
+becomes_two : IsRenumberedMap (kept_revisions settings records) (line (codes "t") 3 true).ranges
     (line (codes "t") 2 true).ranges
 becomes_two kind number = (
   λ has. elim has [
@@ -33,7 +32,7 @@ becomes_two kind number = (
       ],
 )
 
-pub new_value : IsNewMergeinfo settings (kept_revisions settings records) (codes "t:3") (codes "t:2")
+new_value : IsNewMergeinfo settings (kept_revisions settings records) (codes "t:3") (codes "t:2")
 unfolding digits
 new_value = (
   line (codes "t") 3 true ∷ [],
@@ -44,7 +43,7 @@ new_value = (
 )
 
 -- the root has this mergeinfo, and nothing else stands
-abbrev pub merged : List ℕ → Tree
+abbrev merged : List ℕ → Tree
 merged value = put [] (Node.Folder (merge value ∷ [])) root_alone
 
 at_kept : (path : NodePath) → IsTrue (keeps settings path)
@@ -60,24 +59,6 @@ at_left (name ∷ path) none = sym (ap (λ b. cond (not b && false) (Some (Node.
 restricts : TreeRestricts settings records (merged (codes "t:3")) (merged (codes "t:2"))
 restricts = record { kept = at_kept; left = at_left }
 
--- so it is in cuts: the root is above what is included
-
-abbrev pub included : List NodePath
-included = path_of (codes "t") ∷ []
-
-inside : (path : NodePath) → IsTrue (is_in_cut included path)
-    → IsNewNode (IsNewProperty settings (kept_revisions settings records)) (merged (codes "t:3") path)
-    (merged (codes "t:2") path)
-inside [] within = ((refl, (codes "t:2", refl, new_value)), tt)
-inside (name ∷ path) within = tt
-
-outside : (path : NodePath) → IsFalse (is_in_cut included path) → merged (codes "t:2") path ≡ None
-outside [] none = absurd (let bad : true ≡ false = none in cc)
-outside (name ∷ path) none = refl
-
-cuts : TreeIsCut settings included records (merged (codes "t:3")) (merged (codes "t:2"))
-cuts = record { inside = inside; outside = outside }
-
 -- the number doesn't stay
 not_as_it_was : IsNewNode (IsNewProperty settings (kept_revisions settings records)) (merged (codes "t:3") [])
     (merged (codes "t:3") []) → ⊥
@@ -89,6 +70,3 @@ not_as_it_was ((name, (value, is, new)), none) =
 
 number_stays : TreeRestricts settings records (merged (codes "t:3")) (merged (codes "t:3")) → ⊥
 number_stays r = not_as_it_was (r.kept [] refl)
-
-number_stays_in_cut : TreeIsCut settings included records (merged (codes "t:3")) (merged (codes "t:3")) → ⊥
-number_stays_in_cut c = not_as_it_was (c.inside [] refl)

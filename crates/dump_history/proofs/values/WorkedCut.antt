@@ -1,31 +1,24 @@
 -- A worked dump of which a part is taken. An included file is copied from one that isn't, which stands beside it, and
 -- its directory is copied to a branch, in which the file is included too. In place of the first copy the file is
 -- written; the second one stays, since what stands beside the file is excluded in both directories.
-use Rattle.dump_history.proofs.Prelude.{◌≡◌, true, ◌||◌, not, ◌++◌, length, None, refl, sym, append-nil, ◌∙◌, subst, inl, inr, zero, suc, ◌+◌, ◌<◌, ◌≤◌, arith, lit<, list_all, list_any, bytes_eq, bytes_eq-Decides, and_parts, or_cases, both_ways, not-true, Contains, Pad, Exclude, Settings, Ending, HasRecords, IsCutInto, property_length, text_length, DumpRecord, record_text, is_lawful, BeginsWithRecord, is_block, HoldsOfRecord, path_of, NodePath, Node, Tree, root_alone, put, grafted, Made, TextChange, Change, Patching, MakesChange, MakeRevisions, LoadsAs, slice_get}
-use Rattle.std.proofs.Common.{ℕ, false, Bool, List, [], ◌∷◌, map, Option, Some, codes}
+use Rattle.dump_history.proofs.Prelude.{◌≡◌, true, ◌++◌, length, None, refl, sym, ◌∙◌, subst, inr, ◌+◌, arith, lit<, Pad, Exclude, Settings, Ending, HasRecords, IsCutInto, property_length, text_length, DumpRecord, record_text, is_lawful, BeginsWithRecord, is_block, HoldsOfRecord, path_of, Node, Tree, root_alone, put, grafted, Made, TextChange, Change, Patching, MakesChange, MakeRevisions, LoadsAs, slice_get}
+use Rattle.std.proofs.Common.{ℕ, false, List, [], ◌∷◌, Some, codes}
 use Rattle.std.specs.Fmt.{digits}
 use Rattle.dump_records.specs.DumpText.{line_feeds}
-use Rattle.dump_text.specs.declared.fault.FaultKind.TheVariants as faults
-use Rattle.dump_trees.specs.Paths.{path_text, below}
 use Rattle.dump_trees.specs.Changes.{History, step, steps}
 use Rattle.dump_trees.specs.Branches.{Branch, HasBranch}
 use Rattle.dump_trees.specs.WritingOut.{file_of}
 use Rattle.dump_trees.specs.Expansions.{Expands, AllExpand, AllRevisionsExpand}
-use Rattle.dump_trees.specs.Siblings.{is_above_included, is_sibling, AreSiblings, ExcludesPaths}
-use Rattle.dump_trees.specs.Looking.{placed_from, end_of}
-use Rattle.dump_trees.specs.Listing.{names_look}
-use Rattle.dump_trees.specs.FindingSiblings.{all_above, CanStandBelow}
-use Rattle.dump_trees.proofs.changes.TreeLemmas.{below_rest}
 use Rattle.dump_trees.proofs.histories.StandingNames.{loaded_folders}
 use Rattle.dump_trees.proofs.quiet.QuietLemmas.{quiet_separates}
 use Rattle.dump_trees.proofs.expansions.CaseLemmas.{separated_expands, kept_copy}
-use Rattle.dump_trees.proofs.expansions.FoundSiblings.{above_are_listed, siblings_are_found}
 use Rattle.dump_history.specs.WrittenNodes.{WrittenNode, node_bytes, node_record, can_be_written}
 use Rattle.dump_history.specs.ExpandedDumps.{OwnForm, Stead}
 use Rattle.dump_history.specs.ExpandedText.{AreRecordTexts, IsExpandedText, made_in_stead}
 use Rattle.dump_history.proofs.expanded.NodeLemmas.{written_nodes_are_records}
 use Rattle.dump_history.proofs.values.WorkedExpansion.{stays}
 use Rattle.dump_history.proofs.values.WorkedDump.{line, record_at, version, zero as revision_0, one, trunk, joined, folder, none_of, makes_trunk}
+use Rattle.dump_text.specs.declared.fault.FaultKind.TheVariants as faults
 
 -- the dump; its first records are those of the other worked dump: a version, revision 0, and the directory in revision 1
 
@@ -191,28 +184,17 @@ whole = (
   (refl, lit< tt),
 )
 
--- what is included, and its siblings
-
-abbrev pub included : List NodePath
-included = path_of (codes "trunk/app") ∷ path_of (codes "branch/app") ∷ []
-
-abbrev pub siblings : List NodePath
-siblings = path_of (codes "branch/old") ∷ path_of (codes "trunk/old") ∷ []
-
--- the siblings are excluded; each revision stays, with its number and its properties, and missing merge sources are left
--- out
+-- both files beside the included ones are excluded; each revision stays, with its number and its properties, and missing
+-- merge sources are left out
 abbrev pub settings : Settings
 settings = record {
   side = Exclude;
-  prefixes = map path_text siblings;
+  prefixes = codes "branch/old" ∷ codes "trunk/old" ∷ [];
   empty = Pad;
   renumber = false;
   preserve = true;
   skip_missing = true;
 }
-
-pub excludes : ExcludesPaths settings siblings
-excludes = record { side = refl; prefixes = refl }
 
 -- the filter refuses the dump itself
 refused : HoldsOfRecord settings (version ∷ revision_0 ∷ one ∷ trunk ∷ old ∷ two ∷ []) app faults.CopySource
@@ -299,7 +281,7 @@ unfolding digits
 can = refl
 
 -- the texts of the first records stand before each rest
-pub begun_texts : (rest : List ℕ) (behind : List DumpRecord) → AreRecordTexts behind rest
+begun_texts : (rest : List ℕ) (behind : List DumpRecord) → AreRecordTexts behind rest
     → AreRecordTexts (version ∷ revision_0 ∷ one ∷ trunk ∷ old ∷ two ∷ behind) (begun rest)
 begun_texts rest behind texts = (
   0,
@@ -360,7 +342,7 @@ source_branch [] = refl
 source_branch (name ∷ rest) = refl
 
 -- one change of a revision is expanded, and those behind it
-pub expand_first : (options : Settings) (history : History) (before after : Tree) (c : Change) (changes front rest : List Change)
+expand_first : (options : Settings) (history : History) (before after : Tree) (c : Change) (changes front rest : List Change)
     → step history before c ≡ Some after → Expands options history before c front
     → AllExpand options history after changes rest → AllExpand options history before (c ∷ changes) (front ++ rest)
 expand_first options history before after c changes front rest at expands more = (
@@ -374,7 +356,7 @@ expand_first options history before after c changes front rest at expands more =
 )
 
 -- one revision is, and those behind it
-pub expand_revision : (options : Settings) (older : List Tree) (youngest tree : Tree) (changes front : List Change)
+expand_revision : (options : Settings) (older : List Tree) (youngest tree : Tree) (changes front : List Change)
     (more rest : List (List Change)) → steps (slice_get older) youngest changes ≡ Some tree
     → AllExpand options (slice_get older) youngest changes front
     → AllRevisionsExpand options (older ++ tree ∷ []) tree more rest
@@ -466,86 +448,3 @@ whole_again = (
   where
     behind_file : List ℕ
     behind_file = codes "\n\n" ++ joined (three ∷ branch ∷ [])
-
--- siblings
-
--- whether there is a rest of a path, and it has no name
-abbrev is_nothing_more : Option NodePath → Bool
-is_nothing_more None = false
-is_nothing_more (Some []) = true
-is_nothing_more (Some (name ∷ rest)) = false
-
--- whether the path is one of these
-abbrev is_listed : List NodePath → NodePath → Bool
-is_listed paths path = list_any (λ other. is_nothing_more (below other path)) paths
-
-listed : (paths : List NodePath) (path : NodePath) → is_listed paths path ≡ true → Contains paths path
-listed [] path some = absurd (let bad : false ≡ true = some in cc)
-listed (other ∷ paths) path some =
-    elim (or_cases (is_nothing_more (below other path)) (is_listed paths path) some) [
-      | inl here ↦ (0, omega arith, cases (below other path) refl here)
-      | inr there ↦ let (k, low, is) = listed paths path there in (suc k, omega (arith, low), is)
-    ]
-  where
-    cases : (o : Option NodePath) → below other path ≡ o → is_nothing_more o ≡ true → other ≡ path
-    cases None at none = absurd (let bad : false ≡ true = none in cc)
-    cases (Some []) at is = sym (below_rest other path [] at ∙ append-nil other)
-    cases (Some (name ∷ rest)) at more = absurd (let bad : false ≡ true = more in cc)
-
--- what holds of each name holds of one of them
-of_name : (test : List ℕ → Bool) (names : List (List ℕ)) (name : List ℕ) → list_all test names ≡ true
-    → list_any (λ other. bytes_eq other name) names ≡ true → test name ≡ true
-of_name test [] name all some = absurd (let bad : false ≡ true = some in cc)
-of_name test (first ∷ names) name all some =
-    let parts = and_parts (test first) (list_all test names) all in
-    elim (or_cases (bytes_eq first name) (list_any (λ other. bytes_eq other name) names) some) [
-      | inl here ↦ subst (λ n. test n ≡ true) ((bytes_eq-Decides first name).0 here) parts.0
-      | inr there ↦ of_name test names name parts.1 there
-    ]
-
--- and what holds of each path of one of them
-of_path : (test : NodePath → Bool) (paths : List NodePath) (path : NodePath) → list_all test paths ≡ true
-    → Contains paths path → test path ≡ true
-of_path test [] path all (k, low, is) = absurd (omega (arith, low))
-of_path test (first ∷ paths) path all (zero, low, is) =
-    subst (λ p. test p ≡ true) is (and_parts (test first) (list_all test paths) all).0
-of_path test (first ∷ paths) path all (suc k, low, is) =
-    of_path test paths path (and_parts (test first) (list_all test paths) all).1
-    (k, (let less : k < length paths = omega (arith, low) in less), is)
-
--- whether a name below the path is none of a sibling, or one of these siblings
-abbrev is_taken : NodePath → List ℕ → Bool
-is_taken path name = not (is_sibling included (path ++ name ∷ [])) || is_listed siblings (path ++ name ∷ [])
-
--- whether all names are so that can stand below the path at the end of this revision
-abbrev are_taken : ℕ → NodePath → Bool
-are_taken number path = list_all (is_taken path)
-    (names_look (placed_from 1 revisions) (end_of (placed_from 1 revisions) number) path)
-
--- they are the siblings in the dump's trees; they are found without its trees
-pub are_siblings : AreSiblings included trees siblings
-are_siblings = siblings_are_found included siblings revisions trees refl refl all
-  where
-    found : (number : ℕ) (path : NodePath) (name : List ℕ)
-        → list_all (are_taken number) ([] ∷ all_above included) ≡ true → is_above_included included path ≡ true
-        → CanStandBelow revisions number path name → is_sibling included (path ++ name ∷ []) ≡ true
-        → Contains siblings (path ++ name ∷ [])
-    found number path name taken above can sibling =
-        let here : are_taken number path ≡ true =
-        of_path (are_taken number) ([] ∷ all_above included) path taken (above_are_listed included path above) in
-        let one : is_taken path name ≡ true =
-        of_name (is_taken path) (names_look (placed_from 1 revisions) (end_of (placed_from 1 revisions) number) path) name
-        here can in
-        elim (or_cases (not (is_sibling included (path ++ name ∷ []))) (is_listed siblings (path ++ name ∷ [])) one) [
-          | inl none ↦ absurd (both_ways (is_sibling included (path ++ name ∷ [])) (not-true _ none) sibling)
-          | inr some ↦ listed siblings (path ++ name ∷ []) some
-        ]
-
-    all : (number : ℕ) (path : NodePath) (name : List ℕ) → number ≤ 3 → is_above_included included path ≡ true
-        → CanStandBelow revisions number path name → is_sibling included (path ++ name ∷ []) ≡ true
-        → Contains siblings (path ++ name ∷ [])
-    all zero path name low = found 0 path name refl
-    all (suc zero) path name low = found 1 path name refl
-    all (suc (suc zero)) path name low = found 2 path name refl
-    all (suc (suc (suc zero))) path name low = found 3 path name refl
-    all (suc (suc (suc (suc n)))) path name low = absurd (omega (arith, low))

@@ -362,12 +362,12 @@ is_trimmed = record {
     behind_zero = record_text one ++ (codes "\n" ++ behind_one)
 
 -- what stands in the directory that is copied
-abbrev pub both : Branch
+abbrev both : Branch
 both = Branch.Folder []
     (Branches.Named (codes "app") (Branch.File [] (codes "text"))
     (Branches.Named (codes "old") (Branch.File [] (codes "text")) Branches.NoMore))
 
-pub both_stand : HasBranch second_tree (path_of (codes "trunk")) both
+both_stand : HasBranch second_tree (path_of (codes "trunk")) both
 both_stand [] = refl
 both_stand (name ∷ rest) = cases rest (bytes_eq (codes "app") name) (bytes_eq (codes "old") name)
   where

@@ -1,31 +1,29 @@
--- A worked dump that is expanded, filtered and trimmed: in place of one copy a file is written, another copy stays,
--- and a file that it takes to an excluded path is deleted behind it.
-use Rattle.dump_history.proofs.Prelude.{◌≡◌, ◌+◌, ◌<◌, ◌^◌, true, ◌++◌, length, refl, ap, ◌∙◌, subst, inl, inr, None, arith, lit<, cond, bytes_eq, slice_get, drop, Contains, AllZip, Exclude, Pad, Settings, Ending, HasRecords, NoFault, copy_revision_name, with_header_value, property_block_text, Property, DumpRecord, record_text, HasPropertyList, LengthsFit, kept_revisions, HoldsOfRecord, AreFaultFree, IsWrittenBlock, IsWrittenText, IsCleanText, AreNewProperties, IsNewProperty, IsNewNode, property_list_once, path_of, NodePath, Node, Tree, root_alone, put, Change, Patching, map, not, both_ways, first_true, not_true, list_all, keeps, sym}
+-- The expanded form of the worked dump, filtered and trimmed: a copy stays, and a file that it takes to an excluded path is
+-- deleted behind it.
+use Rattle.dump_history.proofs.Prelude.{◌≡◌, ◌+◌, ◌<◌, ◌^◌, true, ◌++◌, length, refl, ap, ◌∙◌, subst, inl, inr, None, arith, lit<, cond, bytes_eq, slice_get, drop, Contains, AllZip, Exclude, Pad, Settings, Ending, HasRecords, NoFault, copy_revision_name, with_header_value, property_block_text, Property, DumpRecord, record_text, HasPropertyList, LengthsFit, kept_revisions, HoldsOfRecord, AreFaultFree, IsWrittenBlock, IsWrittenText, IsCleanText, AreNewProperties, IsNewProperty, IsNewNode, property_list_once, path_of, NodePath, Node, Tree, root_alone, put, Change, Patching, LoadsAs, map, not, both_ways, first_true, not_true, list_all, keeps, sym}
 use Rattle.std.proofs.Common.{ℕ, Bool, false, List, [], ◌∷◌, Some, codes}
 use Rattle.std.specs.Fmt.{digits}
-use Rattle.dump_filter.specs.FilterLaws.{keep_all}
 use Rattle.dump_trees.specs.Trees.{at_top}
 use Rattle.dump_trees.specs.Paths.{below}
 use Rattle.dump_trees.specs.Changes.{History}
 use Rattle.dump_trees.specs.Branches.{Branch, Branches, tree_of, HasBranch}
-use Rattle.dump_trees.specs.Expansions.{Expands, AllRevisionsExpand}
 use Rattle.dump_trees.specs.ExpansionCases.{deletion_of, deletions}
 use Rattle.dump_trees.specs.ComingBack.{ComesBack}
 use Rattle.dump_trees.specs.Trimming.{IsTrimmed}
 use Rattle.dump_trees.specs.Quiet.{is_quiet, is_over}
-use Rattle.dump_trees.proofs.histories.StandingNames.{loaded_folders}
 use Rattle.dump_trees.proofs.quiet.QuietLemmas.{quiet_separates}
-use Rattle.dump_trees.proofs.expansions.CaseLemmas.{separated_expands, kept_copy}
 use Rattle.dump_trees.proofs.expansions.TrimLemmas.{taken_tops_cover}
 use Rattle.dump_trees.proofs.expansions.BackFound.{coming_back_is_found}
 use Rattle.dump_history.specs.WrittenNodes.{WrittenNode, node_bytes, written_change}
 use Rattle.dump_history.specs.CutDumps.{TreeRestricts, LoadsNumbered}
-use Rattle.dump_history.specs.TrimmedDumps.{may_stand_behind, part_groups, changes_behind, IsTrimmedText, AreTrimming, AreAllTrimming, FiltersTrimmedExpansion}
+use Rattle.dump_history.specs.TrimmedDumps.{may_stand_behind, part_groups, changes_behind, IsTrimmedText, AreTrimming, AreAllTrimming}
 use Rattle.dump_history.proofs.expanded.NodeLemmas.{written_nodes_are_records}
-use Rattle.dump_history.proofs.cuts.TrimmedLaw.{trimmed_expansion_loads}
+use Rattle.dump_history.proofs.expanded.ExpandedLaw.{expanded_dump_loads}
+use Rattle.dump_history.proofs.expanded.SteadLemmas.{with_records}
+use Rattle.dump_history.proofs.cuts.TrimmedLaw.{trimmed_dump_loads}
 use Rattle.dump_history.proofs.values.WorkedDump.{version, zero, one, trunk, none_of}
 use Rattle.dump_history.proofs.values.WorkedFilter.{at_place, free_of, follows, rises, begins, no_copy, text_alone, no_block, revision_part}
-use Rattle.dump_history.proofs.values.WorkedCut.{old, two, three, branch, records, dump, whole, begins_there, adds_trunk, adds_old, adds_app, copies_old, copies_trunk, revisions, begun_tree, first_tree, second_tree, third_tree, trees, loads, steads, file, can, expansion, is_expanded, expanded, source_branch, expand_first, expand_revision, file_there, three_there, branch_there, again, whole_again}
+use Rattle.dump_history.proofs.values.WorkedCut.{old, two, three, branch, records, dump, whole, begins_there, adds_trunk, adds_app, copies_trunk, revisions, first_tree, third_tree, trees, loads, settings as cut_settings, steads, file, can, expansion, is_expanded, expanded, expands, file_there, three_there, branch_there, again, whole_again}
 use Rattle.dump_history.proofs.values.CutLaw.{filtered}
 
 -- both files are excluded in the branch, and in the trunk the one of which the other is a copy
@@ -39,39 +37,12 @@ settings = record {
   skip_missing = true;
 }
 
--- the expansions do the same
-
-stays_same : (history : History) (before : Tree) (c : Change) → is_quiet keep_all c ≡ true
-    → is_over keep_all before c ≡ false → Expands keep_all history before c (c ∷ [])
-stays_same history before c quiet over = separated_expands keep_all history before c
-    (λ after is. quiet_separates keep_all history before after c quiet over is)
-
-second_same : Expands keep_all (slice_get (root_alone ∷ first_tree ∷ [])) first_tree copies_old (adds_app ∷ [])
-second_same = kept_copy keep_all (slice_get (root_alone ∷ first_tree ∷ [])) first_tree first_tree copies_old 1
-    (path_of (codes "trunk/old")) (Branch.File [] (codes "text")) (Branch.File [] (codes "text")) (adds_app ∷ [])
-    (loaded_folders revisions trees 1 first_tree refl refl) refl refl refl source_branch refl refl
-    (inr ([], refl, refl))
-
-all_same : AllRevisionsExpand keep_all (root_alone ∷ []) root_alone revisions expanded
-all_same =
-    expand_revision keep_all (root_alone ∷ []) root_alone first_tree (adds_trunk ∷ adds_old ∷ [])
-    (adds_trunk ∷ adds_old ∷ []) ((copies_old ∷ []) ∷ (copies_trunk ∷ []) ∷ [])
-    ((adds_app ∷ []) ∷ (copies_trunk ∷ []) ∷ []) refl
-    (expand_first keep_all (slice_get (root_alone ∷ [])) root_alone begun_tree adds_trunk (adds_old ∷ [])
-    (adds_trunk ∷ []) (adds_old ∷ []) refl
-    (stays_same (slice_get (root_alone ∷ [])) root_alone adds_trunk refl refl)
-    (expand_first keep_all (slice_get (root_alone ∷ [])) begun_tree first_tree adds_old [] (adds_old ∷ []) [] refl
-    (stays_same (slice_get (root_alone ∷ [])) begun_tree adds_old refl refl) refl))
-    (expand_revision keep_all (root_alone ∷ first_tree ∷ []) first_tree second_tree (copies_old ∷ []) (adds_app ∷ [])
-    ((copies_trunk ∷ []) ∷ []) ((copies_trunk ∷ []) ∷ []) refl
-    (expand_first keep_all (slice_get (root_alone ∷ first_tree ∷ [])) first_tree second_tree copies_old [] (adds_app ∷ [])
-    [] refl second_same refl)
-    (expand_revision keep_all (root_alone ∷ first_tree ∷ second_tree ∷ []) second_tree third_tree (copies_trunk ∷ [])
-    (copies_trunk ∷ []) [] [] refl
-    (expand_first keep_all (slice_get (root_alone ∷ first_tree ∷ second_tree ∷ [])) second_tree third_tree copies_trunk []
-    (copies_trunk ∷ []) [] refl
-    (stays_same (slice_get (root_alone ∷ first_tree ∷ second_tree ∷ [])) second_tree copies_trunk refl refl) refl)
-    refl))
+-- the expanded form loads to the same trees
+expansion_loads : (patched : Patching) → LoadsAs patched root_alone again expanded trees
+expansion_loads patched =
+    (expanded_dump_loads patched cut_settings dump records steads again revisions expanded trees whole (loads patched)
+    (with_records patched cut_settings dump expansion records again steads revisions whole (loads patched).makes is_expanded
+    expands whole_again)).0
 
 -- the written file has an empty property block
 no_entries : HasPropertyList file_there []
@@ -540,29 +511,19 @@ all_trimming = (
       ),
 )
 
-filters : (patched : Patching)
-    → FiltersTrimmedExpansion patched settings dump records revisions trees again text
-filters patched = record {
-  has = whole;
-  loads = loads patched;
-  steads = steads;
-  expansion = expansion;
-  expanded = is_expanded;
-  same = all_same;
+-- the law applies
+trimmed_loads : (patched : Patching) → LoadsNumbered patched (TreeRestricts settings again) again trees text
+trimmed_loads patched = trimmed_dump_loads patched settings expansion again expanded trees text (record {
+  loads = expansion_loads patched;
   filtered = filtered;
   clean = clean;
   fit = lengths;
-  left = left;
-  has_left = has_left;
+  again = left;
+  has_again = has_left;
   behind = behind;
   trimmed = is_trimmed;
   trims = all_trimming;
-}
-
--- the law applies
-trimmed_loads : (patched : Patching) → LoadsNumbered patched (TreeRestricts settings again) records trees text
-trimmed_loads patched = trimmed_expansion_loads patched settings dump records again revisions trees text
-    (filters patched) refl refl refl refl
+}) refl refl refl refl
 
 -- every delta is refused
 abbrev refused : Patching

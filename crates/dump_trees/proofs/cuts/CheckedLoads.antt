@@ -1,10 +1,10 @@
 -- A dump loads exactly where each change is allowed by the kinds that are told, and each delta applies.
-use Rattle.dump_trees.proofs.Prelude.{◌≡◌, ◌⊎◌, inl, inr, zero, suc, ◌+◌, ◌<◌, ◌≤◌, not, ◌||◌, cond, nat_le, nat_lt, map, refl, sym, ap, ap₂, ◌∙◌, subst, arith, append-nil, append_assoc, option_map, slice_get, list_all, list_all-append, both_ways, and_parts, and_from, not_from_false, le-leb, lt-leb, leb-true, lt-ltb, ltb-true, NodePath, parent_of, Node, Tree, Made, TextChange, Change, History, step, steps, loaded, loaded_over}
+use Rattle.dump_trees.proofs.Prelude.{◌≡◌, ◌⊎◌, inl, inr, zero, suc, ◌+◌, ◌<◌, ◌≤◌, not, ◌||◌, cond, nat_le, nat_lt, map, refl, sym, ap, ap₂, ◌∙◌, subst, arith, append-nil, append_assoc, option_map, slice_get, list_all, list_all-append, both_ways, and_parts, and_from, not_from_false, le-leb, lt-leb, leb-true, lt-ltb, ltb-true, NodePath, parent_of, Node, Tree, Made, Change, History, step, steps, loaded, loaded_over, IsTrue, IsFalse}
 use Rattle.std.proofs.Common.{ℕ, Bool, true, false, ◌&&◌, List, [], ◌∷◌, ◌++◌, length, Option, Some, None, option_and_then, is_some}
 use Rattle.std.proofs.lemmas.List.Sums.{sum_by-append}
 use Rattle.std.proofs.lemmas.Option.{slice_get_within, same_Some}
 use Rattle.dump_trees.specs.Looking.{Placed, placed_from, end_of, Origin, origin_of, looked_up, look}
-use Rattle.dump_trees.specs.LoadCheck.{Kind, kind_of_node, kind_at, is_directory, is_file, Kinds, deletion_allowed, kind_left, making_allowed, kind_made, sets_props, kinds_allow, source_kind, kinds_before, node_from, delta_applies, ToldKinds, TellsKinds, source_told, kinds_told, allowed_there, all_allowed, applies_there, all_apply, LoadIsAllowed, DumpIsAllowed, LooksTellKinds, TellsEachTree, patches_text, WholeTextsApply, FirstRefusalIsFound, IsRefusedAt, FirstRefusalIsThere}
+use Rattle.dump_trees.specs.LoadCheck.{Kind, kind_of_node, kind_at, is_directory, is_file, Kinds, deletion_allowed, kind_left, making_allowed, kind_made, sets_props, kinds_allow, source_kind, kinds_before, node_from, delta_applies, ToldKinds, TellsKinds, source_told, kinds_told, allowed_there, all_allowed, applies_there, all_apply, DumpIsAllowed, TellsEachTree, IsRefusedAt, FirstRefusalIsThere}
 use Rattle.dump_trees.proofs.histories.KeptNumbers.{length_push, get_last}
 use Rattle.dump_trees.proofs.histories.FrontLemmas.{begun_trees, loaded_length}
 use Rattle.dump_trees.proofs.expansions.LookLemmas.{count_none, count_whole, look_finds, origin_source}
@@ -639,7 +639,12 @@ module _ (told : ToldKinds) (first : Tree) (placed : List Placed) where
             (subst (λ f. AreFrom (length f) behind) (sym moved) late) (here_pass ∙ ap is_some at)
 
 -- the first revisions load where each change of them is allowed, and each delta applies
-pub load_is_allowed : LoadIsAllowed
+pub load_is_allowed : (told : ToldKinds) (first : Tree) (front : List (List Change)) (behind : List Placed) →
+    TellsKinds told first (placed_from 1 front ++ behind)
+    → IsTrue (list_all (λ (p : Placed). nat_le (length front) p.revision) behind)
+    → is_some (loaded_over first front)
+    ≡ (all_allowed told (placed_from 1 front ++ behind) (length (placed_from 1 front))
+    && all_apply first (placed_from 1 front ++ behind) (length (placed_from 1 front)))
 load_is_allowed told first front behind tells late =
     sym (revisions_pass told first (placed_from 1 front ++ behind) tells front [] (first ∷ []) first behind refl refl refl
     late refl)
@@ -650,45 +655,11 @@ dump_is_allowed told first revisions tells =
     → is_some (loaded_over first revisions) ≡ pass told first ps (length (placed_from 1 revisions)))
     (append-nil (placed_from 1 revisions)) (λ all. load_is_allowed told first revisions [] all refl) tells
 
--- looking back tells kinds
-pub looks_tell_kinds : LooksTellKinds
-looks_tell_kinds first placed front behind trees tree path same late is there =
-    ap (option_map kind_of_node)
-    (ap (λ ps. look first ps (length (placed_from 1 front)) path) same
-    ∙ look_finds first front behind trees tree path is there late)
-
 -- at the end of each revision
 pub tells_each_tree : TellsEachTree
 tells_each_tree told first revisions trees number tree path tells is there =
     tells_before (option_map kind_of_node) told first (placed_from 1 revisions) tells revisions [] trees number tree path
     (sym (append-nil (placed_from 1 revisions))) refl is there
-
--- a text that comes whole applies
-whole_applies : (text : Option TextChange) (old : Option Node) → not (patches_text text) ≡ true
-    → delta_applies text old ≡ true
-whole_applies None old whole = refl
-whole_applies (Some (TextChange.Replaced text)) old whole = refl
-whole_applies (Some (TextChange.Patched patch)) old whole = absurd (let bad : false ≡ true = whole in cc)
-
-list_get : {A : Type 0} (f : A → Bool) (xs : List A) (n : ℕ) (x : A) → list_all f xs ≡ true → slice_get xs n ≡ Some x
-    → f x ≡ true
-list_get f [] n x all at = absurd (let bad : None ≡ Some x = at in cc)
-list_get f (y ∷ xs) zero x all at =
-    let same : y ≡ x = same_Some y x at in
-    subst (λ z. f z ≡ true) same (and_parts (f y) (list_all f xs) all).0
-list_get f (y ∷ xs) (suc n) x all at = list_get f xs n x (and_parts (f y) (list_all f xs) all).1 at
-
-pub whole_texts_apply : WholeTextsApply
-whole_texts_apply first placed zero low whole = refl
-whole_texts_apply first placed (suc count) low whole =
-    let less = leb-true (suc count) (length placed) low in
-    let (p, at) = get_some placed count (omega (arith, less)) in
-    and_from (all_apply first placed count) (applies_there first placed count (slice_get placed count))
-    (whole_texts_apply first placed count (le-leb count (length placed) (omega (arith, less))) whole)
-    (ap (applies_there first placed count) at
-    ∙ whole_applies p.change.text
-    (looked_up (look first placed) placed count p.change.path (origin_of p.change.deletes p.change.made []))
-    (list_get (λ (q : Placed). not (patches_text q.change.text)) placed count p whole at))
 
 -- the first refusal
 
@@ -696,7 +667,15 @@ none_of : {A : Type 0} (o : Option A) → is_some o ≡ false → o ≡ None
 none_of None is = refl
 none_of (Some x) is = absurd (let bad : true ≡ false = is in cc)
 
-pub first_refusal_is_found : FirstRefusalIsFound
+pub first_refusal_is_found : (told : ToldKinds) (first : Tree) (front : List (List Change)) (changes : List Change) (c : Change)
+    (more : List Change) (rest : List (List Change)) (placed : List Placed) (place : ℕ) →
+    placed ≡ placed_from 1 (front ++ (changes ++ c ∷ more) ∷ rest)
+    → place ≡ length (placed_from 1 (front ++ changes ∷ []))
+    → TellsKinds told first placed
+    → IsTrue (all_allowed told placed place) → IsTrue (all_apply first placed place)
+    → IsFalse (allowed_there told placed place (slice_get placed place))
+    → IsTrue (is_some (loaded_over first (front ++ changes ∷ [])))
+    × (loaded_over first (front ++ (changes ++ c ∷ []) ∷ []) ≡ None)
 first_refusal_is_found told first front changes c more rest placed place same here tells allowed apply refused = (
   load_is_allowed told first (front ++ changes ∷ []) (this ∷ later) tells_one late_one
       ∙ (ap₂ (λ ps n. pass told first ps n) (sym one) (sym here)

@@ -1,9 +1,9 @@
 -- A load takes a change exactly where the kinds at single paths allow it.
-use Rattle.dump_trees.proofs.Prelude.{◌≡◌, and_parts, and_from, or_right, not, ◌||◌, cond, refl, sym, ap, ap₂, ◌∙◌, append-nil, option_map, IfSome, Property, NodePath, parent_of, Node, Tree, is_folder, grafted, at_or_below, at_top, put, empty_tree, Made, PropertyChange, TextChange, Change, History, is_folder_at, has_folder, deleted, copied, made_in, with_props, with_text, props_put, props_set, text_set, step, is_root}
+use Rattle.dump_trees.proofs.Prelude.{◌≡◌, not, ◌||◌, cond, refl, sym, ap, ap₂, ◌∙◌, append-nil, option_map, IfSome, Property, NodePath, parent_of, Node, Tree, is_folder, grafted, at_or_below, at_top, put, empty_tree, Made, PropertyChange, TextChange, Change, History, is_folder_at, has_folder, deleted, copied, made_in, with_props, with_text, props_put, props_set, text_set, step, is_root}
 use Rattle.std.proofs.Common.{ℕ, Bool, true, false, ◌&&◌, List, [], ◌∷◌, ◌++◌, Option, Some, None, option_and_then, is_some, is_none}
 use Rattle.std.proofs.lemmas.Option.{same_Some}
 use Rattle.dump_trees.specs.Looking.{left_by, origin_of, node_with_props}
-use Rattle.dump_trees.specs.LoadCheck.{Kind, kind_of_node, kind_at, is_directory, is_file, Kinds, deletion_allowed, kind_left, making_allowed, kind_made, sets_props, source_kind, kinds_before, node_from, node_set, delta_applies, StepIsAllowed, StricterPropsAllow}
+use Rattle.dump_trees.specs.LoadCheck.{Kind, kind_of_node, kind_at, is_directory, is_file, Kinds, deletion_allowed, kind_left, making_allowed, kind_made, sets_props, source_kind, kinds_before, node_from, node_set, delta_applies, StepIsAllowed}
 use Rattle.dump_trees.proofs.changes.TreeLemmas.{below_top}
 use Rattle.dump_trees.proofs.expansions.BranchLemmas.{parent_apart}
 
@@ -369,18 +369,6 @@ step_is_allowed history tree c =
     makes_is = may_is_allowed history c.made left kinds (has_folder tree c.path)
         (parent_directory tree (parent_of c.path)) refl
         ∙ ap (λ k. making_allowed c.made k kinds) (kind_of_left c.deletes (tree c.path))
-
--- a stricter test allows no more
-pub stricter_props_allow : StricterPropsAllow
-stricter_props_allow c entries kinds is =
-    let whole = and_parts _ (not (is_some c.text) || is_file kind) is in
-    let sets = and_parts _ (is_some kind) whole.0 in
-    and_from _ (not (is_some c.text) || is_file kind)
-    (and_from _ (not (sets_props c.props) || is_some kind) sets.0 (or_right (not (sets_props c.props)) (is_some kind) sets.1))
-    whole.1
-  where
-    kind : Option Kind
-    kind = kind_made c.made (kind_left c.deletes kinds.here) kinds.source
 
 -- where something is made, or something stands that isn't deleted, the change leaves something
 

@@ -1,11 +1,11 @@
 -- Paths that cover others, and the rests from which on they do.
-use Rattle.dump_trees.proofs.Prelude.{◌≡◌, not, ◌⊎◌, zero, suc, ◌<◌, cond, refl, sym, ap, ap₂, ◌∙◌, inl, inr, subst, arith, filter, append-nil, append_assoc, both_ways, list_all, and_parts, and_from, or_cases, or_left, or_right, not-true, NodePath, below, Tree, HasFolders, is_folder}
-use Rattle.std.proofs.Common.{ℕ, Bool, true, false, ◌&&◌, List, [], ◌∷◌, ◌++◌, length, Option, Some, None, is_some, Contains}
+use Rattle.dump_trees.proofs.Prelude.{◌≡◌, ◌⊎◌, zero, suc, ◌<◌, cond, refl, sym, ap, ap₂, ◌∙◌, inl, inr, subst, arith, filter, append-nil, append_assoc, both_ways, list_all, and_from, or_cases, or_left, or_right, NodePath, below, Tree, HasFolders, is_folder}
+use Rattle.std.proofs.Common.{ℕ, Bool, true, false, List, [], ◌∷◌, ◌++◌, length, Option, Some, None, is_some, Contains}
 use Rattle.std.proofs.lemmas.Option.{same_Some}
 use Rattle.std.proofs.lemmas.List.Sums.{AllPass-from_list_all}
 use Rattle.std.proofs.lemmas.List.Elements.{All-contains, All-filter, All-contains_itself, filter_passes, Contains-append_left, Contains-append_right, Contains-append_cases}
 use Rattle.dump_trees.specs.Siblings.{is_within}
-use Rattle.dump_trees.specs.Returns.{is_covered, lie_apart, named_rest, rests_below, rests_covered}
+use Rattle.dump_trees.specs.Returns.{is_covered, named_rest, rests_below, rests_covered}
 use Rattle.dump_trees.proofs.changes.TreeLemmas.{below_rest, below_found, below_top}
 
 -- elements of lists
@@ -80,10 +80,6 @@ pub same_behind : (top rest other : NodePath) → top ++ rest ≡ top ++ other �
 same_behind top rest other same =
     same_Some rest other (sym (below_found top rest) ∙ (ap (below top) same ∙ below_found top other))
 
-pub nothing_behind : (rest more : NodePath) → rest ++ more ≡ [] → more ≡ []
-nothing_behind [] more is = is
-nothing_behind (name ∷ rest) more is = absurd (let bad : name ∷ (rest ++ more) ≡ [] = is in cc)
-
 -- of two paths above a third one, one lies in the other
 pub one_in_other : (first second first_rest second_rest : NodePath) → first ++ first_rest ≡ second ++ second_rest
     → ((rest : NodePath) × (first ≡ second ++ rest))
@@ -156,33 +152,6 @@ uncovered_above tops path rest is = cases (is_covered tops path) refl
     cases false at = refl
     cases true at = absurd (both_ways _ is (covered_more tops path rest at))
 
--- paths that are apart
-
--- of which one is at or below the other are the same
-pub apart_same : (paths : List NodePath) (path other : NodePath) → lie_apart paths ≡ true → Contains paths path
-    → Contains paths other → is_within path other ≡ true → path ≡ other
-apart_same [] path other apart there = absurd (contains_none path there)
-apart_same (first ∷ paths) path other apart there = λ there_too within.
-    elim (contains_cases first paths path there) [
-      | inl one ↦ elim (contains_cases first paths other there_too) [
-        | inl two ↦ sym one ∙ two
-        | inr later ↦
-            let both = all_has (λ p. not (is_within first p) && not (is_within p first)) paths other parts.0 later in
-            absurd (both_ways _ (not-true _ (and_parts (not (is_within first other)) (not (is_within other first)) both).0)
-            (subst (λ p. is_within p other ≡ true) (sym one) within))
-      ]
-      | inr early ↦ elim (contains_cases first paths other there_too) [
-        | inl two ↦
-            let both = all_has (λ p. not (is_within first p) && not (is_within p first)) paths path parts.0 early in
-            absurd (both_ways _ (not-true _ (and_parts (not (is_within first path)) (not (is_within path first)) both).1)
-            (subst (λ p. is_within path p ≡ true) (sym two) within))
-        | inr later ↦ apart_same paths path other parts.1 early later within
-      ]
-    ]
-  where
-    parts : (list_all (λ p. not (is_within first p) && not (is_within p first)) paths ≡ true) × (lie_apart paths ≡ true)
-    parts = and_parts _ (lie_apart paths) apart
-
 -- rests from which on paths cover a branch
 
 named_there : (o : Option NodePath) (rest : NodePath) → Contains (named_rest o) rest
@@ -254,26 +223,3 @@ rests_above top tops rest is = cases (is_covered tops top) refl
                 (same ∙ (ap (λ p. p ++ behind) lower ∙ append_assoc top (name ∷ more) behind)),
           )
         ]
-
--- a topmost rest, where the paths are apart: of two, none is below the other
-pub rests_topmost : (top : NodePath) (tops : List NodePath) (rest first more : NodePath) → lie_apart tops ≡ true
-    → Contains (rests_covered top tops) rest → rest ≡ first ++ more → is_covered tops (top ++ first) ≡ true → first ≡ rest
-rests_topmost top tops rest first more apart there same is = cases (is_covered tops top) refl there
-  where
-    cases : (b : Bool) → is_covered tops top ≡ b → Contains (cond b ([] ∷ []) (rests_below top tops)) rest → first ≡ rest
-    cases true at in_it =
-        elim (contains_cases [] [] rest in_it) [
-          | inl none ↦ sym (same ∙ (ap (λ p. first ++ p) (nothing_behind first more (sym same ∙ sym none)) ∙ append-nil first))
-          | inr bad ↦ absurd (contains_none rest bad)
-        ]
-    cases false at in_it =
-        let (other, behind, among, lies) = covered_by tops (top ++ first) is in
-        let whole : top ++ rest ≡ other ++ (behind ++ more) =
-        ap (λ p. top ++ p) same ∙ (sym (append_assoc top first more)
-        ∙ (ap (λ p. p ++ more) lies ∙ append_assoc other behind more)) in
-        let one : other ≡ top ++ rest =
-        apart_same tops other (top ++ rest) apart among (below_there top tops rest in_it)
-        (subst (λ p. is_within other p ≡ true) (sym whole) (within_found other (behind ++ more))) in
-        let none : behind ++ more ≡ [] =
-        sym (same_behind other [] (behind ++ more) (append-nil other ∙ (one ∙ whole))) in
-        sym (same ∙ (ap (λ p. first ++ p) (nothing_behind behind more none) ∙ append-nil first))

@@ -1,5 +1,5 @@
 -- The siblings of every tree are among the names that can stand in the directories above included paths.
-use Rattle.dump_trees.proofs.Prelude.{◌≡◌, ◌⊎◌, inl, inr, zero, suc, ◌+◌, ◌≤◌, not, ◌||◌, refl, sym, ap, ◌∙◌, subst, arith, append-nil, append_assoc, option_map, nat_le, both_ways, slice_get, and_parts, or_cases, NodePath, parent_of, Node, Tree, root_alone, Made, PropertyChange, TextChange, Change, History, step, steps, loaded_over, is_root}
+use Rattle.dump_trees.proofs.Prelude.{◌≡◌, ◌⊎◌, inl, inr, ◌+◌, ◌≤◌, not, ◌||◌, refl, sym, ap, ◌∙◌, subst, arith, append-nil, append_assoc, option_map, nat_le, slice_get, and_parts, or_cases, NodePath, parent_of, Node, Tree, root_alone, Made, PropertyChange, TextChange, Change, History, step, steps, is_root}
 use Rattle.std.proofs.Common.{ℕ, Bool, true, false, ◌&&◌, List, [], ◌∷◌, ◌++◌, length, Option, Some, None, option_and_then, is_some, Contains}
 use Rattle.std.proofs.lemmas.List.Sums.{count_by-le-length}
 use Rattle.dump_trees.specs.Looking.{Placed, placed_from, end_of, look}
@@ -7,7 +7,7 @@ use Rattle.dump_trees.specs.Listing.{names_look}
 use Rattle.dump_trees.specs.LoadCheck.{Kind, kind_of_node, kind_at, is_directory, is_file, Kinds, deletion_allowed, kind_left, making_allowed, kind_made, sets_props, kinds_allow, kinds_before, source_kind, node_set, delta_applies}
 use Rattle.dump_trees.specs.Siblings.{is_in_cut, is_parent_above, has_node_names, is_sibling}
 use Rattle.dump_trees.specs.Following.{Copies, ExistsOnce}
-use Rattle.dump_trees.specs.EverSiblings.{does_something, EverSiblingsAreFound, EverSiblingsAreSiblings, ChangedPathsExist, CopiedPathsExist, KeptNodesLieInCut}
+use Rattle.dump_trees.specs.EverSiblings.{does_something, EverSiblingsAreFound, ChangedPathsExist, CopiedPathsExist}
 use Rattle.dump_trees.proofs.changes.TreeLemmas.{parent_rest}
 use Rattle.dump_trees.proofs.histories.KeptNumbers.{length_push, get_before}
 use Rattle.dump_trees.proofs.expansions.LookLemmas.{Runs, Begun, look_runs, runs_before, loaded_begun}
@@ -16,7 +16,6 @@ use Rattle.dump_trees.proofs.expansions.StandingLemmas.{copy_has_tree}
 use Rattle.dump_trees.proofs.cuts.CheckedSteps.{left_of, made_node, kind_some, kind_of_left, kind_of_made, step_is_allowed, change_leaves}
 use Rattle.dump_trees.proofs.cuts.CheckedLoads.{AreFrom, of_one, from_more, from_append, one_from, all_from, placed_append, placed_cut, steps_then, pushed, length_append}
 use Rattle.dump_trees.proofs.cuts.FollowLemmas.{MadeIn, change_is_made, exists_at_source}
-use Rattle.dump_trees.proofs.cuts.ParentLemmas.{ever_kept_in_cut}
 
 -- finding them
 
@@ -94,40 +93,6 @@ ever_siblings_are_found included siblings revisions each all front changes more 
                   ∙ below_it,
             )
             (subst (λ p. is_sibling included p ≡ true) same sibling))
-
--- the trees of revisions
-
-last_of : (first : List Change) (others : List (List Change))
-    → (front : List (List Change)) × (last : List Change) × (first ∷ others ≡ front ++ last ∷ [])
-last_of first [] = ([], first, refl)
-last_of first (next ∷ others) =
-    let (front, last, same) = last_of next others in (first ∷ front, last, ap (λ r. first ∷ r) same)
-
-pub ever_siblings_are_siblings : EverSiblingsAreSiblings
-ever_siblings_are_siblings included siblings [] trees is each are = record { each = each; all = all }
-  where
-    in_root : (tree : Tree) (path : NodePath) → root_alone ≡ tree → is_some (tree path) ≡ true
-        → is_sibling included path ≡ true → Contains siblings path
-    in_root tree [] same some sibling = absurd (let bad : false ≡ true = sibling in cc)
-    in_root tree (name ∷ path) same some sibling =
-        absurd (both_ways (is_some (root_alone (name ∷ path))) refl
-        ((λ i. is_some (same i (name ∷ path))) ∙ some))
-
-    one : root_alone ∷ [] ≡ trees
-    one = let both : Some (root_alone ∷ []) ≡ Some trees = is in cc
-
-    in_trees : (number : ℕ) (tree : Tree) → slice_get (root_alone ∷ []) number ≡ Some tree → root_alone ≡ tree
-    in_trees zero tree at = let both : Some root_alone ≡ Some tree = at in let same : root_alone ≡ tree = cc in same
-    in_trees (suc number) tree at = absurd (let bad : None ≡ Some tree = at in cc)
-
-    all : (number : ℕ) (tree : Tree) (path : NodePath) → slice_get trees number ≡ Some tree
-        → is_some (tree path) ≡ true → is_sibling included path ≡ true → Contains siblings path
-    all number tree path at some sibling =
-        in_root tree path (in_trees number tree (ap (λ ts. slice_get ts number) one ∙ at)) some sibling
-ever_siblings_are_siblings included siblings (first ∷ others) trees is each are =
-    let (front, last, same) = last_of first others in
-    are front last [] [] trees (same ∙ ap (λ cs. front ++ cs ∷ []) (sym (append-nil last)))
-    (ap (loaded_over root_alone) (sym same) ∙ is)
 
 -- what changes do
 
@@ -285,11 +250,3 @@ copied_paths_exist revisions trees changes c number source is among there copies
             ∙ ap (option_and_then (λ (t : Tree). kind_at t source)) early))
             ∙ (and_parts (is_some kinds.source) (is_directory kinds.parent)
             (subst (λ m. making_allowed m (kind_left c.deletes kinds.here) kinds ≡ true) copies makes)).0)
-
-pub kept_nodes_lie_in_cut : KeptNodesLieInCut
-kept_nodes_lie_in_cut settings included siblings revisions trees changes c is names excludes all among there = (
-  λ does. ever_kept_in_cut settings included siblings revisions c.path names excludes all
-      (changed_paths_exist revisions trees changes c is among there does),
-  λ number source copies. ever_kept_in_cut settings included siblings revisions source names excludes all
-      (copied_paths_exist revisions trees changes c number source is among there copies),
-)

@@ -10,9 +10,8 @@ use Rattle.dump_trees.specs.Looking.{origin_of}
 use Rattle.dump_trees.specs.Siblings.{is_within, has_node_names, have_node_names, ExcludesPaths}
 use Rattle.dump_trees.specs.ComingBack.{ComesBack, NoneComesBack, NothingComesBack}
 use Rattle.dump_trees.specs.Returns.{is_covered, lie_apart, rests_covered, returns, IsCopyOver}
-use Rattle.dump_trees.specs.Following.{Copies, Way, from_of, to_of, IsClosed, Covers, IsInClosure, followed, IsFollowed, IsGrown, AreFollowed, AddsNothing, ListedAreFollowed, GrownPathsCover, ReachedIsLeast, AdditionsAreReached, ExistsOnce, AdditionsExist, left_uncovered, FollowingEnds, FollowingIsLeast, ClosedAddsNothing, FollowedBringNothingBack, EachCopyIsOver}
+use Rattle.dump_trees.specs.Following.{Copies, Way, from_of, to_of, IsClosed, Covers, IsInClosure, IsFollowed, IsGrown, AreFollowed, AddsNothing, ListedAreFollowed, GrownPathsCover, ExistsOnce, left_uncovered, FollowingEnds, FollowingIsLeast, FollowedBringNothingBack, EachCopyIsOver}
 use Rattle.dump_trees.proofs.changes.TreeLemmas.{below_found}
-use Rattle.dump_trees.proofs.paths.SiblingLemmas.{rest_names, both_names}
 use Rattle.dump_trees.proofs.histories.KeptNumbers.{get_before}
 use Rattle.dump_trees.proofs.histories.FrontLemmas.{begun_trees}
 use Rattle.dump_trees.proofs.histories.StandingNames.{loaded_folders, loaded_names}
@@ -261,17 +260,6 @@ module _ (way : Way) (trees : List Tree) (revisions : List (List Change)) where
           | inr old ↦ has top old
         ]
 
-    additions_in : (tops additions last : List NodePath) → AreFollowed way trees revisions tops additions last
-        → ((top : NodePath) → Contains tops top → Other top)
-        → (added : NodePath) → Contains additions added → Other added
-    additions_in tops [] last is has path there = absurd (contains_none path there)
-    additions_in tops (added ∷ additions) last (one, more, grown, rest) has path there =
-        elim (contains_cases added additions path there) [
-          | inl same ↦ subst Other same (one_in tops added one has)
-          | inr later ↦
-              additions_in more additions last rest (more_in tops more added one grown has) path later
-        ]
-
     last_in : (tops additions last : List NodePath) → AreFollowed way trees revisions tops additions last
         → ((top : NodePath) → Contains tops top → Other top)
         → (path : NodePath) → is_covered last path ≡ true → Other path
@@ -298,23 +286,6 @@ reached_in way trees revisions tops Other closed has _ (IsInClosure.Inside path 
 reached_in way trees revisions tops Other closed has _ (IsInClosure.Followed path source rest old copy exists reached) =
     closed.copied path source rest old copy exists
     (reached_in way trees revisions tops Other closed has (from_of way path source ++ rest) reached)
-
-pub reached_is_least : ReachedIsLeast
-reached_is_least way trees revisions tops = (
-  reached_closed way trees revisions tops,
-  λ has closed all path reached.
-      reached_in way trees revisions tops (λ p. has p ≡ true) closed (λ top there. all_has has tops top all there) path
-      reached,
-)
-
-pub additions_are_reached : AdditionsAreReached
-additions_are_reached way trees revisions tops additions last are = (
-  additions_stay way trees revisions tops additions last are,
-  additions_in way trees revisions (IsInClosure way trees revisions tops) (reached_closed way trees revisions tops) tops
-      additions last are (λ top there. IsInClosure.Given top there),
-  last_in way trees revisions (IsInClosure way trees revisions tops) (reached_closed way trees revisions tops) tops
-      additions last are (λ top there. IsInClosure.Given top there),
-)
 
 -- what exists at additions
 
@@ -514,25 +485,6 @@ module _ (trees : List Tree) (revisions : List (List Change)) (is : loaded_over 
       (all_has (λ changes. list_all (λ (c : Change). has_node_names c.path) changes) revisions copy.changes names copy.among)
       copy.there)
 
-  addition_names : (way : Way) (tops : List NodePath) (added : NodePath) → IsFollowed way trees revisions tops added
-      → have_node_names revisions ≡ true → has_node_names added ≡ true
-  addition_names way tops added one names =
-      subst (λ p. has_node_names p ≡ true) (sym one.at) (by_way way)
-    where
-      source_names : has_node_names (one.source ++ one.rest) ≡ true
-      source_names =
-          loaded_names revisions trees one.copy.number one.old is names one.copy.tree (one.source ++ one.rest) one.exists
-
-      by_way : (w : Way) → has_node_names (to_of w one.path one.source ++ one.rest) ≡ true
-      by_way Way.ToSources = source_names
-      by_way Way.ToCopies =
-          both_names one.path one.rest (copy_names names one.path one.source one.old one.copy)
-          (rest_names one.source one.rest source_names)
-
-pub additions_exist : AdditionsExist
-additions_exist way trees revisions tops added is one =
-    (addition_exists trees revisions is way tops added one, addition_names trees revisions is way tops added one)
-
 -- counts
 
 count_cons : (f : NodePath → Bool) (p : NodePath) (ps : List NodePath)
@@ -635,18 +587,6 @@ following_is_least way trees revisions tops additions last is are nothing =
       reached_in way trees revisions tops (Covers last) closed
           (λ top there. additions_stay way trees revisions tops additions last are top (covered_itself tops top there)),
     )
-
-pub closed_adds_nothing : ClosedAddsNothing
-closed_adds_nothing way trees revisions tops closed path source old copy =
-    no_elements (followed way tops old path source) (λ rest there.
-    let parts = and_parts (is_some (old (source ++ rest))) (not (is_covered tops (to_of way path source ++ rest)))
-    (filter_passed (λ r. is_some (old (source ++ r)) && not (is_covered tops (to_of way path source ++ r)))
-    (rests_covered (from_of way path source) tops) rest there) in
-    both_ways _ (not-true _ parts.1)
-    (closed.copied path source rest old copy parts.0
-    (rests_there (from_of way path source) tops rest
-    (filter_there (λ r. is_some (old (source ++ r)) && not (is_covered tops (to_of way path source ++ r)))
-    (rests_covered (from_of way path source) tops) rest there))))
 
 -- nothing comes back
 

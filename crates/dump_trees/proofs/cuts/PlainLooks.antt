@@ -47,10 +47,6 @@ same_touches p q same path =
 
 -- what is left is of the same kind
 
-kind_none : (o : Option Node) → option_map kind_of_node o ≡ None → o ≡ None
-kind_none None is = refl
-kind_none (Some n) is = absurd (let bad : Some (kind_of_node n) ≡ None = is in cc)
-
 text_kind : (text plain : Option TextChange) → is_some plain ≡ is_some text → not (patches_text plain) ≡ true
     → (old other : Option Node) → option_map kind_of_node other ≡ option_map kind_of_node old
     → (is_some old ≡ true → is_some (node_with_text text old) ≡ true)

@@ -1,47 +1,11 @@
--- The returns of a copy are where something comes back, and at nothing above.
-use Rattle.dump_trees.proofs.Prelude.{◌≡◌, not, cond, refl, sym, ap, ap₂, ◌∙◌, subst, filter, append-nil, append_assoc, and_parts, and_from, not-true, not_from_false, Settings, NodePath, keeps, Tree, Made, Change, History}
+-- What comes back by a copy is at its returns, or below them.
+use Rattle.dump_trees.proofs.Prelude.{◌≡◌, not, refl, sym, ap, ap₂, ◌∙◌, subst, append_assoc, and_parts, and_from, not-true, not_from_false, Settings, NodePath, keeps, Tree, Made, Change, History}
 use Rattle.std.proofs.Common.{Bool, true, false, ◌&&◌, List, [], ◌∷◌, ◌++◌, Some, is_some, Contains}
 use Rattle.dump_trees.specs.Siblings.{is_within, has_node_names}
-use Rattle.dump_trees.specs.ComingBack.{ComesBack, alone_if}
-use Rattle.dump_trees.specs.Returns.{is_covered, lie_apart, rests_below, rests_covered, returns, KeptIsUncovered, ReturnsByCases, IsReturn, IsCopyOver, ReturnsAreFound, ReturnsTellAll}
+use Rattle.dump_trees.specs.ComingBack.{ComesBack}
+use Rattle.dump_trees.specs.Returns.{is_covered, rests_covered, returns, IsCopyOver, ReturnsTellAll}
 use Rattle.dump_trees.proofs.paths.SiblingLemmas.{rest_names, both_names, excluded_match}
-use Rattle.dump_trees.proofs.cuts.CoveredPaths.{contains_first, contains_none, filter_there, filter_passed, filter_has, within_rest, within_found, exists_above, covered_more, uncovered_above, rests_there, rests_above, rests_topmost}
-
-pub kept_is_uncovered : KeptIsUncovered
-kept_is_uncovered settings excluded path excludes names are = excluded_match settings excluded path excludes names are
-
--- by cases
-
-filter_none : (f : NodePath → Bool) (xs : List NodePath) → ((x : NodePath) → f x ≡ false) → filter f xs ≡ []
-filter_none f [] none = refl
-filter_none f (x ∷ xs) none =
-    ap (λ b. cond b (x ∷ filter f xs) (filter f xs)) (none x) ∙ filter_none f xs none
-
-pub returns_by_cases : ReturnsByCases
-returns_by_cases excluded old path source = (
-  λ covered.
-      filter_none (λ rest. is_some (old (source ++ rest)) && not (is_covered excluded (path ++ rest)))
-      (rests_covered source excluded)
-      (λ rest. ap (λ b. is_some (old (source ++ rest)) && not b) (covered_more excluded path rest covered)
-      ∙ no_and (is_some (old (source ++ rest)))),
-  λ open_path covered.
-      ap (λ b. filter (λ rest. is_some (old (source ++ rest)) && not (is_covered excluded (path ++ rest)))
-      (cond b ([] ∷ []) (rests_below source excluded))) covered
-      ∙ (ap (λ p. cond (is_some (old p) && not (is_covered excluded (path ++ []))) ([] ∷ []) []) (append-nil source)
-      ∙ (ap (λ p. cond (is_some (old source) && not (is_covered excluded p)) ([] ∷ []) []) (append-nil path)
-      ∙ (ap (λ b. cond (is_some (old source) && not b) ([] ∷ []) []) open_path ∙ alone (is_some (old source))))),
-  λ open_source.
-      ap (λ b. filter (λ rest. is_some (old (source ++ rest)) && not (is_covered excluded (path ++ rest)))
-      (cond b ([] ∷ []) (rests_below source excluded))) open_source,
-)
-  where
-    no_and : (b : Bool) → (b && false) ≡ false
-    no_and true = refl
-    no_and false = refl
-
-    alone : (b : Bool) → cond (b && true) ([] ∷ []) [] ≡ alone_if b
-    alone true = refl
-    alone false = refl
+use Rattle.dump_trees.proofs.cuts.CoveredPaths.{contains_first, contains_none, filter_there, filter_passed, filter_has, within_found, exists_above, uncovered_above, rests_there, rests_above}
 
 module _ (settings : Settings) (excluded : List NodePath) (history : History) (old : Tree) (c : Change) (source : NodePath)
     (over : IsCopyOver settings excluded history old c source) where
@@ -157,35 +121,6 @@ module _ (settings : Settings) (excluded : List NodePath) (history : History) (o
       empty : (rests : List NodePath) → ((rest : NodePath) → Contains rests rest → ⊥) → rests ≡ []
       empty [] none = refl
       empty (rest ∷ rests) none = absurd (none rest (contains_first rest rests))
-
-  found : lie_apart excluded ≡ true
-      → ((rest : NodePath) → Contains (returns excluded old c.path source) rest → IsReturn settings history c rest)
-      × ((rest : NodePath) → IsReturn settings history c rest → Contains (returns excluded old c.path source) rest)
-  found apart = (
-    λ rest there.
-        let (back, at) = is_back rest (listed_back rest there) in
-        record {
-          back = back;
-          at = at;
-          topmost = λ other within.
-              let (more, same) = within_rest other.rest rest within in
-              rests_topmost source excluded rest other.rest more apart
-              (filter_there (λ r. is_some (old (source ++ r)) && not (is_covered excluded (c.path ++ r)))
-              (rests_covered source excluded) rest there) same (back_at other).left;
-        },
-    λ rest is.
-        let (first, more, there, same) = back_listed is.back.rest (back_at is.back) in
-        let (other, at) = is_back first (listed_back first there) in
-        subst (λ r. Contains (returns excluded old c.path source) r)
-        (sym at ∙ is.topmost other
-        (subst (λ r. is_within r rest ≡ true) (sym at)
-        (subst (λ r. is_within first r ≡ true) (sym same ∙ is.at) (within_found first more)))) there,
-  )
-
--- the returns are the topmost rests at which something comes back
-pub returns_are_found : ReturnsAreFound
-returns_are_found settings excluded history old c source over apart =
-    found settings excluded history old c source over apart
 
 pub returns_tell_all : ReturnsTellAll
 returns_tell_all settings excluded history old c source over = tell_all settings excluded history old c source over

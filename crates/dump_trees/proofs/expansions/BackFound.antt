@@ -1,11 +1,10 @@
 -- What comes back by a copy is found in the branch that it copies.
-use Rattle.dump_trees.proofs.Prelude.{◌≡◌, zero, suc, ◌<◌, cond, bytes_eq, bytes_eq-Decides, refl, sym, ap, ap₂, ◌∙◌, subst, inl, inr, append-nil, append_assoc, arith, map, both_ways, not-true, not_from_false, and_parts, and_from, Settings, NodePath, keeps, Tree, Made}
+use Rattle.dump_trees.proofs.Prelude.{◌≡◌, zero, suc, ◌<◌, cond, bytes_eq, bytes_eq-Decides, refl, sym, ap, ap₂, ◌∙◌, subst, inl, inr, append-nil, append_assoc, arith, map, both_ways, not-true, not_from_false, and_parts, and_from, or_left, or_right, ◌||◌, Settings, NodePath, keeps, Tree, Made, Change, History, IsTrue}
 use Rattle.std.proofs.Common.{ℕ, Bool, true, false, not, ◌&&◌, List, [], ◌∷◌, ◌++◌, length, Some, None, is_some, Contains}
 use Rattle.std.proofs.lemmas.List.Elements.{Contains-append_left, Contains-append_right, Contains-append_cases, Contains-push}
-use Rattle.dump_trees.specs.Branches.{Branch, Branches, tree_of, found, has_name, is_distinct, are_distinct}
-use Rattle.dump_trees.specs.ComingBack.{alone_if, coming_back, inside_coming_back, ComingBackIsFound}
+use Rattle.dump_trees.specs.Branches.{Branch, Branches, tree_of, found, has_name, is_distinct, are_distinct, HasBranch}
+use Rattle.dump_trees.specs.ComingBack.{alone_if, coming_back, inside_coming_back, ComesBack}
 use Rattle.dump_trees.proofs.expansions.FoundSiblings.{contains_map}
-use Rattle.dump_trees.proofs.expansions.WrittenLemmas.{inside_of, found_has_name}
 
 -- an element of a list whose elements are made of others is made of one
 contains_made : {A B : Type 0} (f : A → B) (xs : List A) (y : B) → Contains (map f xs) y
@@ -16,6 +15,23 @@ contains_made f (x ∷ xs) y (suc k, low, is) =
     let (z, (m, fits, there), same) =
     contains_made f xs y (k, (let less : k < length (map f xs) = omega (arith, low) in less), is) in
     (z, (suc m, omega (arith, fits), there), same)
+
+-- the tree of what stands in a folder
+abbrev inside_of : Branches → Tree
+inside_of inside = tree_of (Branch.Folder [] inside)
+
+found_has_name : (others : Branches) (name : List ℕ) (rest : NodePath) → is_some (found others name rest None) ≡ true
+    → has_name name others ≡ true
+found_has_name Branches.NoMore name rest some = some
+found_has_name (Branches.Named first branch others) name rest some =
+    cases (bytes_eq first name) refl (found_has_name others name rest) some
+  where
+    cases : (b : Bool) → bytes_eq first name ≡ b
+        → (is_some (found others name rest None) ≡ true → has_name name others ≡ true)
+        → is_some (cond b (tree_of branch rest) (found others name rest None)) ≡ true
+        → (bytes_eq first name || has_name name others) ≡ true
+    cases true is further some = or_left (bytes_eq first name) (has_name name others) is
+    cases false is further some = or_right (bytes_eq first name) (has_name name others) (further some)
 
 -- what comes back at this rest
 pub record IsBack (settings : Settings) (path source : NodePath) (tree : Tree) (rest : NodePath) : Type 0 where
@@ -173,7 +189,13 @@ module _ (settings : Settings) where
             })))
 
 -- what comes back by a copy is found
-pub coming_back_is_found : ComingBackIsFound
+pub coming_back_is_found : (settings : Settings) (history : History) (old : Tree) (c : Change) (number : ℕ)
+    (source : NodePath) (branch : Branch) →
+    c.made ≡ Some (Made.Copied number source) → history number ≡ Some old → HasBranch old source branch
+    → IsTrue (is_distinct branch)
+    → ((rest : NodePath) → Contains (coming_back settings c.path source branch) rest
+    → (back : ComesBack settings history c) × (back.rest ≡ rest))
+    × ((back : ComesBack settings history c) → Contains (coming_back settings c.path source branch) back.rest)
 coming_back_is_found settings history old c number source branch copies there has apart = (
   λ rest among.
       let back = branch_back settings branch c.path source apart rest among in (

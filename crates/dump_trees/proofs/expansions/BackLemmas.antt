@@ -1,9 +1,9 @@
 -- Looking back goes to fewer changes, so the bound on how many are followed doesn't matter.
-use Rattle.dump_trees.proofs.Prelude.{◌≡◌, zero, suc, ◌<◌, ◌≤◌, not, cond, nat_le, refl, sym, ap, ◌∙◌, subst, arith, map, slice_get, list_all, list_all-append, and_parts, and_from, not_from_false, le-leb, lt-leb, leb-true, ltb-true, NodePath, below, Node, Tree, Made, Change}
+use Rattle.dump_trees.proofs.Prelude.{◌≡◌, zero, suc, ◌<◌, ◌≤◌, not, cond, nat_le, refl, sym, ap, ◌∙◌, subst, arith, slice_get, list_all, and_parts, and_from, not_from_false, le-leb, lt-leb, leb-true, ltb-true, NodePath, below, Node, Tree, Made, Change}
 use Rattle.std.proofs.Common.{ℕ, Bool, true, false, List, [], ◌∷◌, ◌++◌, Option, Some, None}
-use Rattle.dump_trees.specs.Looking.{Placed, placed_from, end_of, touches_path, holds_there, latest, Origin, origin_of, set_by, looked_up, left_at, left_there, look_behind, look_within, look}
+use Rattle.dump_trees.specs.Looking.{Placed, end_of, touches_path, holds_there, latest, Origin, origin_of, set_by, looked_up, left_at, left_there, look_behind, look_within, look}
 use Rattle.dump_trees.specs.Listing.{names_made, names_from, names_left, names_there, names_behind, names_within, names_look}
-use Rattle.dump_trees.specs.LookingBack.{is_of_before, copies_back, LookGoesBack, NamesGoBack, SourceEndsBefore}
+use Rattle.dump_trees.specs.steps.LookingBack.{is_of_before, copies_back}
 use Rattle.dump_trees.proofs.expansions.LookLemmas.{count_cons, count_none, origin_source}
 
 -- the order of changes
@@ -24,42 +24,6 @@ from_more number other low (p ∷ placed) are =
     let high = leb-true other p.revision parts.0 in
     and_from (nat_le number p.revision) (list_all (λ (q : Placed). nat_le number q.revision) placed)
     (le-leb number p.revision (omega arith)) (from_more number other low placed parts.1)
-
-from_append : (number : ℕ) (placed more : List Placed) → AreFrom number placed → AreFrom number more
-    → AreFrom number (placed ++ more)
-from_append number placed more one two =
-    list_all-append (λ (p : Placed). nat_le number p.revision) placed more
-    ∙ and_from (list_all (λ (p : Placed). nat_le number p.revision) placed)
-    (list_all (λ (p : Placed). nat_le number p.revision) more) one two
-
--- the changes of one revision
-abbrev of_one : ℕ → List Change → List Placed
-of_one number changes = map (λ (c : Change). record { revision = number; change = c }) changes
-
-one_from : (number : ℕ) (changes : List Change) → AreFrom number (of_one number changes)
-one_from number [] = refl
-one_from number (c ∷ changes) =
-    and_from (nat_le number number) (list_all (λ (p : Placed). nat_le number p.revision) (of_one number changes))
-    (le-leb number number (omega arith)) (one_from number changes)
-
-all_from : (number : ℕ) (revisions : List (List Change)) → AreFrom number (placed_from number revisions)
-all_from number [] = refl
-all_from number (changes ∷ revisions) =
-    from_append number (of_one number changes) (placed_from (suc number) revisions) (one_from number changes)
-    (from_more number (suc number) (omega arith) (placed_from (suc number) revisions) (all_from (suc number) revisions))
-
-one_rises : (number : ℕ) (changes : List Change) (more : List Placed) → AreFrom number more → Rise more
-    → Rise (of_one number changes ++ more)
-one_rises number [] more are rise = rise
-one_rises number (c ∷ changes) more are rise =
-    (from_append number (of_one number changes) more (one_from number changes) are, one_rises number changes more are rise)
-
-all_rise : (number : ℕ) (revisions : List (List Change)) → Rise (placed_from number revisions)
-all_rise number [] = tt
-all_rise number (changes ∷ revisions) =
-    one_rises number changes (placed_from (suc number) revisions)
-    (from_more number (suc number) (omega arith) (placed_from (suc number) revisions) (all_from (suc number) revisions))
-    (all_rise (suc number) revisions)
 
 -- none of them stands in a revision up to this number
 pub none_up_to : (number bound : ℕ) (placed : List Placed) → number < bound → AreFrom bound placed
@@ -258,20 +222,3 @@ module _ (placed : List Placed) (back : LooksBack placed) where
       (λ place is n few p.
       let early = latest_low (touches_path path) placed (suc count) place is in
       names_bound count count n (omega arith) (omega arith) p))
-
--- the laws, as the contract states them
-
-pub look_goes_back : LookGoesBack
-look_goes_back first number revisions count path back =
-    look_back (placed_from number revisions)
-    (looks_back (placed_from number revisions) (all_rise number revisions) back) first count path
-
-pub names_go_back : NamesGoBack
-names_go_back number revisions count path back =
-    names_back (placed_from number revisions)
-    (looks_back (placed_from number revisions) (all_rise number revisions) back) count path
-
-pub source_ends_before : SourceEndsBefore
-source_ends_before number revisions place p from source back at made =
-    le-leb (end_of (placed_from number revisions) from) place
-    (looks_back (placed_from number revisions) (all_rise number revisions) back place p at from source made)

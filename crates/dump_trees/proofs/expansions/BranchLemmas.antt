@@ -2,7 +2,7 @@
 use Rattle.dump_trees.proofs.Prelude.{◌≡◌, cond, bytes_eq, ◌||◌, refl, ap, ◌∙◌, subst, append-nil, option_map, both_ways, bytes_eq-Decides, Property, NodePath, below, parent_of, Node, Tree, HasFolders, is_folder, at_or_below, grafted, at_top, put, is_folder_at, has_folder}
 use Rattle.std.proofs.Common.{ℕ, Bool, true, false, List, [], ◌∷◌, ◌++◌, Option, Some, None, option_and_then}
 use Rattle.dump_trees.specs.Branches.{Branch, Branches, tree_of, found, has_name}
-use Rattle.dump_trees.proofs.changes.TreeLemmas.{below_rest, below_found, below_top, parent_rest}
+use Rattle.dump_trees.proofs.changes.TreeLemmas.{below_rest, below_top, parent_rest}
 
 -- paths
 
@@ -46,9 +46,6 @@ IsSameOutside top before after = (path : NodePath) → below top path ≡ None �
 
 pub graft_outside : (top : NodePath) (new old : Tree) → IsSameOutside top old (grafted top new old)
 graft_outside top new old path apart = ap (λ o. at_or_below o new (old path)) apart
-
-pub graft_at : (top : NodePath) (new old : Tree) (rest : NodePath) → grafted top new old (top ++ rest) ≡ new rest
-graft_at top new old rest = ap (λ o. at_or_below o new (old (top ++ rest))) (below_found top rest)
 
 pub put_at : (top : NodePath) (node : Node) (tree : Tree) → put top node tree top ≡ Some node
 put_at top node tree = ap (λ o. at_top o node (tree top)) (below_top top)

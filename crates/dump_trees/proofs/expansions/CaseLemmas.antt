@@ -4,12 +4,12 @@ use Rattle.std.proofs.Common.{ℕ, Bool, true, false, ◌&&◌, List, [], ◌∷
 use Rattle.dump_trees.specs.Branches.{Branch, tree_of, is_distinct, HasBranch}
 use Rattle.dump_trees.specs.WritingOut.{WritesOut}
 use Rattle.dump_trees.specs.Leading.{Leads}
-use Rattle.dump_trees.specs.ExpansionCases.{branch_with_props, branch_with_text, branch_made, deletion_of, cleared, deletions, CoverKept, SeparatedExpands, KeptCopyExpands, LeftCopyExpands}
+use Rattle.dump_trees.specs.ExpansionCases.{branch_with_props, branch_with_text, branch_made, deletion_of, cleared, SeparatedExpands, KeptCopyExpands}
 use Rattle.dump_trees.proofs.changes.PlainLemmas.{graft_at}
 use Rattle.dump_trees.proofs.expansions.LeadLemmas.{leads_one, leads_then}
 use Rattle.dump_trees.proofs.expansions.BranchLemmas.{IsSameOutside, graft_outside, same_folder, IsClear, clear_below, root_stands}
 use Rattle.dump_trees.proofs.expansions.WritingLemmas.{branch_leads}
-use Rattle.dump_trees.proofs.expansions.DeletionLemmas.{graft_same, graft_twice, graft_clears, without, without_outside, without_none, without_top, kept_deletion, clearing_leads, deletions_lead, top_deletion}
+use Rattle.dump_trees.proofs.expansions.DeletionLemmas.{graft_same, graft_twice, graft_clears, kept_deletion, clearing_leads}
 
 -- a separated change
 pub separated_expands : SeparatedExpands
@@ -232,33 +232,8 @@ module _ (settings : Settings) (history : History) (before old : Tree) (c : Chan
         (written_leads before (is_some (before c.path)) refl done.0 (clear_below before folders c.path)
         (kept_deletion settings history c.path before (grafted c.path empty_tree before) kept))
 
-    left_leads : HasFolders before → keeps settings c.path ≡ false → (rests : List NodePath)
-        → CoverKept settings before c.path rests → (after : Tree) → step history before c ≡ Some after
-        → Leads settings history before (deletions c.path rests ++ (cleared before c.path ++ changes)) after
-    left_leads folders left rests cover after at =
-        let done = copy_after after at in
-        let between : Tree = without c.path rests before in
-        let here : between c.path ≡ before c.path
-        = without_top settings history c.path left rests before cover.kept in
-        subst (λ t. Leads settings history before (deletions c.path rests ++ (cleared before c.path ++ changes)) t)
-        (graft_same c.path (tree_of made) before between (without_outside c.path rests before) ∙ done.1)
-        (leads_then settings history (deletions c.path rests) (cleared before c.path ++ changes) before between
-        (grafted c.path (tree_of made) between)
-        (deletions_lead settings history c.path left rests before cover.kept cover.stand cover.apart)
-        (written_leads between (is_some (before c.path)) (ap is_some here)
-        (same_folder c.path before between (without_outside c.path rests before) ∙ done.0)
-        (λ none rest. without_none c.path rests before (c.path ++ rest)
-        (clear_below before folders c.path (sym here ∙ none) rest))
-        (top_deletion settings history c.path left before rests cover)))
-
 pub kept_copy : KeptCopyExpands
 kept_copy settings history before old c number source branch made changes folders kept is there stands apart makes out
     after at =
     kept_leads settings history before old c number source branch made is there stands makes changes apart out folders
     kept after at
-
-pub left_copy : LeftCopyExpands
-left_copy settings history before old c number source branch made changes rests folders left cover is there stands apart
-    makes out after at =
-    left_leads settings history before old c number source branch made is there stands makes changes apart out folders
-    left rests cover after at

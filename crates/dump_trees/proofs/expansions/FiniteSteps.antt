@@ -2,7 +2,7 @@
 use Rattle.dump_trees.proofs.Prelude.{◌≡◌, cond, refl, sym, ap, ◌∙◌, subst, append-nil, option_map, IfSome, and_parts, Property, NodePath, below, parent_of, Node, Tree, HasFolders, at_or_below, grafted, at_top, put, empty_tree, root_alone, Made, PropertyChange, TextChange, Change, History, is_folder_at, has_folder, deleted, node_put, copied, made_in, edited_with, with_entry, new_props, new_text, with_props, with_text, props_put, props_set, text_set, step, steps}
 use Rattle.std.proofs.Common.{ℕ, Bool, true, false, ◌&&◌, List, [], ◌∷◌, ◌++◌, Option, Some, None, option_and_then, is_some, is_none}
 use Rattle.dump_trees.specs.Branches.{Branch, Branches, tree_of, HasBranch}
-use Rattle.dump_trees.specs.ExpansionCases.{branch_with_props, branch_with_text, branch_made}
+use Rattle.dump_trees.specs.ExpansionCases.{branch_with_props}
 use Rattle.dump_trees.proofs.changes.TreeLemmas.{below_rest, parent_rest}
 use Rattle.dump_trees.proofs.expansions.BranchLemmas.{clear_below}
 use Rattle.dump_trees.proofs.expansions.DeletionLemmas.{parent_some}
@@ -115,26 +115,6 @@ whole_props (Some change) (Branch.Folder props inside) is =
     record { apart = is.apart; entries = (new_entries change props is.entries.0, is.entries.1) }
 whole_props (Some change) (Branch.File props text) is =
     record { apart = refl; entries = new_entries change props is.entries }
-
-pub whole_text : (text : Option TextChange) (branch made : Branch) → branch_with_text text branch ≡ Some made
-    → IsWhole branch → IsWhole made
-whole_text None branch made at is =
-    let same : branch ≡ made = (let both : Some branch ≡ Some made = at in cc) in subst (λ b. IsWhole b) same is
-whole_text (Some change) (Branch.Folder props inside) made at is =
-    absurd (let bad : None ≡ Some made = at in cc)
-whole_text (Some change) (Branch.File props old) made at is = cases (new_text change old) at
-  where
-    cases : (o : Option (List ℕ)) → option_map (λ text. Branch.File props text) o ≡ Some made → IsWhole made
-    cases None there = absurd (let bad : None ≡ Some made = there in cc)
-    cases (Some text) there =
-        let same : Branch.File props text ≡ made = (let both : Some (Branch.File props text) ≡ Some made = there in cc)
-        in
-        subst (λ b. IsWhole b) same (record { apart = refl; entries = is.entries })
-
--- what a change makes of a branch is whole
-pub whole_made : (c : Change) (branch made : Branch) → branch_made c branch ≡ Some made → IsWhole branch → IsWhole made
-whole_made c branch made at is =
-    whole_text c.text (branch_with_props c.props branch) made at (whole_props c.props branch is)
 
 -- the stages of a change
 

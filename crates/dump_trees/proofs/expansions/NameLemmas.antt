@@ -1,15 +1,14 @@
--- Each name in a folder is among those that can stand there; so a branch that is found stands.
-use Rattle.dump_trees.proofs.Prelude.{◌≡◌, zero, suc, ◌≤◌, ◌||◌, cond, nat_le, bytes_eq, refl, sym, ap, ◌∙◌, subst, inl, inr, ◌⊎◌, arith, append-nil, append_assoc, slice_get, IfSome, list_any, both_ways, or_left, or_right, or_cases, bytes_eq-Decides, Property, NodePath, below, Node, Tree, HasFolders, is_folder, root_alone, put, Made, PropertyChange, TextChange, Change, History, is_copied, deleted, made_in, node_put, has_folder, props_set, text_set, step}
+-- Each name in a folder is among those that can stand there.
+use Rattle.dump_trees.proofs.Prelude.{◌≡◌, zero, suc, ◌≤◌, ◌||◌, cond, bytes_eq, refl, sym, ap, ◌∙◌, subst, inl, inr, ◌⊎◌, arith, append-nil, append_assoc, slice_get, IfSome, list_any, both_ways, or_left, or_right, or_cases, bytes_eq-Decides, NodePath, below, Node, Tree, HasFolders, root_alone, put, Made, PropertyChange, TextChange, Change, History, is_copied, deleted, made_in, node_put, has_folder, props_set, text_set, step}
 use Rattle.std.proofs.Common.{ℕ, Bool, true, false, ◌&&◌, List, [], ◌∷◌, ◌++◌, Option, Some, None, option_and_then, length, is_some, is_none}
-use Rattle.dump_trees.specs.Branches.{Branch, Branches, tree_of, found, has_name, HasBranch}
-use Rattle.dump_trees.specs.Looking.{Placed, placed_from, end_of, touches_rest, touches_path, holds_there, latest, left_by, origin_of, node_with_props, node_with_text, set_by, look}
-use Rattle.dump_trees.specs.Listing.{name_made, name_below, names_made, names_from, names_left, names_there, names_behind, names_within, names_look, IsLooked, AreLooked, NamesAreLooked, LookedBranchStands, LookedBranchStandsThen}
+use Rattle.dump_trees.specs.Looking.{Placed, placed_from, end_of, touches_rest, touches_path, holds_there, latest, left_by, origin_of, node_with_props, node_with_text, set_by}
+use Rattle.dump_trees.specs.Listing.{name_made, name_below, names_made, names_from, names_left, names_there, names_behind, names_within, NamesAreLooked}
 use Rattle.dump_trees.proofs.changes.TreeLemmas.{below_rest, below_found}
 use Rattle.dump_trees.proofs.changes.FolderLemmas.{step_keeps}
 use Rattle.dump_trees.proofs.histories.HistoryLemmas.{root_folders}
-use Rattle.dump_trees.proofs.expansions.BranchLemmas.{clear_below, not_found}
+use Rattle.dump_trees.proofs.expansions.BranchLemmas.{clear_below}
 use Rattle.dump_trees.proofs.expansions.StandingLemmas.{origin_in, step_has, step_untouched, copy_has_tree}
-use Rattle.dump_trees.proofs.expansions.LookLemmas.{StepsAt, Runs, look_runs, runs_before, loaded_begun, count_whole}
+use Rattle.dump_trees.proofs.expansions.LookLemmas.{StepsAt, Runs, loaded_begun}
 
 -- lists of names
 
@@ -401,96 +400,6 @@ module _ (placed : List Placed) (bound : ℕ) (trees : List Tree) (runs : Runs r
   names_run (suc more) count low tree at path name some =
       behind_lists more (names_run more) path name count low tree at some
 
-  -- a branch that is found
-  module _ (count : ℕ) (tree : Tree) (at : slice_get trees count ≡ Some tree) where
-    tree_folders : HasFolders tree
-    tree_folders = folders_at count count (omega arith) tree at
-
-    looked_node : (path : NodePath) → look root_alone placed count path ≡ tree path
-    looked_node path = look_runs root_alone placed bound trees runs count count (omega arith) tree at path
-
-    -- a node below a name stands in one of the name
-    child_there : (path : NodePath) (name : List ℕ) (rest : NodePath) (node : Node)
-        → tree (path ++ name ∷ rest) ≡ Some node → is_some (tree (path ++ name ∷ [])) ≡ true
-    child_there path name [] node stands = ap is_some stands
-    child_there path name (next ∷ rest) node stands =
-        folder_there (tree (path ++ name ∷ []))
-        (tree_folders (path ++ name ∷ []) next rest node
-        (ap tree (append_assoc path (name ∷ []) (next ∷ rest)) ∙ stands))
-      where
-        folder_there : (o : Option Node) → is_folder o ≡ true → is_some o ≡ true
-        folder_there None is = is
-        folder_there (Some n) is = refl
-
-    -- below a name that isn't among the branches nothing stands
-    unnamed : (path : NodePath) (inside : Branches)
-        → ((name : List ℕ) → Has name (names_look placed count path)
-        → is_some (look root_alone placed count (path ++ name ∷ [])) ≡ true → has_name name inside ≡ true)
-        → (name : List ℕ) (rest : NodePath) → has_name name inside ≡ false → tree (path ++ name ∷ rest) ≡ None
-    unnamed path inside all name rest none = cases (tree (path ++ name ∷ rest)) refl
-      where
-        cases : (o : Option Node) → tree (path ++ name ∷ rest) ≡ o → o ≡ None
-        cases None stands = refl
-        cases (Some node) stands =
-            let some = child_there path name rest node stands in
-            absurd (both_ways (has_name name inside) none
-            (all name (names_run count count (omega arith) tree at path name some)
-            (ap is_some (looked_node (path ++ name ∷ [])) ∙ some)))
-
-    -- below each other name one of the branches does
-    either_found : (path : NodePath) (first : List ℕ) (branch : Branch) (others : Branches) (name : List ℕ)
-        (rest : NodePath) → HasBranch tree (path ++ first ∷ []) branch
-        → (has_name name others ≡ true → tree (path ++ name ∷ rest) ≡ found others name rest None)
-        → (b : Bool) → bytes_eq first name ≡ b → (b || has_name name others) ≡ true
-        → tree (path ++ name ∷ rest) ≡ cond b (tree_of branch rest) (found others name rest None)
-    either_found path first branch others name rest here there true same some =
-        ap (λ n. tree (path ++ n ∷ rest)) (sym ((bytes_eq-Decides first name).0 same))
-        ∙ (ap tree (sym (append_assoc path (first ∷ []) rest)) ∙ here rest)
-    either_found path first branch others name rest here there false apart some = there some
-
-    -- nothing stands below a file
-    below_file : (path : NodePath) (props : List Property) (text : List ℕ)
-        → look root_alone placed count path ≡ Some (Node.File props text) → (name : List ℕ) (rest : NodePath)
-        → tree (path ++ name ∷ rest) ≡ None
-    below_file path props text looked name rest = cases (tree (path ++ name ∷ rest)) refl
-      where
-        cases : (o : Option Node) → tree (path ++ name ∷ rest) ≡ o → o ≡ None
-        cases None stands = refl
-        cases (Some node) stands =
-            absurd (both_ways (is_folder (tree path)) (ap is_folder (sym (looked_node path) ∙ looked))
-            (tree_folders path name rest node stands))
-
-    by_name : (path : NodePath) (inside : Branches) (name : List ℕ) (rest : NodePath)
-        → ((other : List ℕ) → Has other (names_look placed count path)
-        → is_some (look root_alone placed count (path ++ other ∷ [])) ≡ true → has_name other inside ≡ true)
-        → (has_name name inside ≡ true → tree (path ++ name ∷ rest) ≡ found inside name rest None)
-        → (b : Bool) → has_name name inside ≡ b → tree (path ++ name ∷ rest) ≡ found inside name rest None
-    by_name path inside name rest all further true some = further some
-    by_name path inside name rest all further false none =
-        unnamed path inside all name rest none ∙ sym (not_found inside name rest None none)
-
-    mutual
-      looked_branch : (branch : Branch) (path : NodePath) → IsLooked placed count path branch
-          → HasBranch tree path branch
-      looked_branch (Branch.Folder props inside) path looked [] =
-          ap tree (append-nil path) ∙ (sym (looked_node path) ∙ looked.0)
-      looked_branch (Branch.Folder props inside) path looked (name ∷ rest) =
-          by_name path inside name rest looked.2
-          (λ some. looked_inside inside path looked.1 name rest some) (has_name name inside) refl
-      looked_branch (Branch.File props text) path looked [] =
-          ap tree (append-nil path) ∙ (sym (looked_node path) ∙ looked)
-      looked_branch (Branch.File props text) path looked (name ∷ rest) =
-          below_file path props text looked name rest
-
-      looked_inside : (branches : Branches) (path : NodePath) → AreLooked placed count path branches → (name : List ℕ)
-          (rest : NodePath) → has_name name branches ≡ true
-          → tree (path ++ name ∷ rest) ≡ found branches name rest None
-      looked_inside Branches.NoMore path looked name rest some = absurd (let bad : false ≡ true = some in cc)
-      looked_inside (Branches.Named first branch others) path looked name rest some =
-          either_found path first branch others name rest
-          (looked_branch branch (path ++ first ∷ []) looked.0)
-          (λ there. looked_inside others path looked.1 name rest there) (bytes_eq first name) refl some
-
 -- the laws, as the contract states them
 
 pub names_are_looked : NamesAreLooked
@@ -499,19 +408,3 @@ names_are_looked revisions trees number tree path name at there some =
     names_run (placed_from 1 revisions) (length revisions) all.1 all.2.runs
     (end_of (placed_from 1 revisions) number) (end_of (placed_from 1 revisions) number) (omega arith) tree
     (all.2.ends number tree there) path name some
-
-pub looked_branch_stands : LookedBranchStands
-looked_branch_stands revisions trees number tree path branch at there looked =
-    let all = loaded_begun root_alone revisions trees at in
-    looked_branch (placed_from 1 revisions) (length revisions) all.1 all.2.runs
-    (end_of (placed_from 1 revisions) number) tree (all.2.ends number tree there) branch path looked
-
-pub looked_branch_then : LookedBranchStandsThen
-looked_branch_then front behind trees tree path branch at there late looked =
-    let all = loaded_begun root_alone front trees at in
-    looked_branch (placed_from 1 front ++ behind) (length front) all.1
-    (runs_before root_alone (placed_from 1 front) behind (length front) all.1 all.2.runs late)
-    (length (placed_from 1 front)) tree
-    (ap (slice_get all.1)
-    (sym (count_whole (λ (p : Placed). nat_le p.revision (length front)) (placed_from 1 front) all.2.low))
-    ∙ all.2.ends (length front) tree there) branch path looked

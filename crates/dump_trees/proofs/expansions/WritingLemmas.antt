@@ -2,11 +2,11 @@
 use Rattle.dump_trees.proofs.Prelude.{◌≡◌, not, cond, bytes_eq, refl, sym, ap, ◌∙◌, subst, inl, inr, ◌⊎◌, append-nil, append_assoc, option_map, both_ways, and_parts, and_from, or_left, or_right, not-true, bytes_eq-Decides, Property, Settings, NodePath, keeps, below, Node, Tree, is_folder, at_or_below, grafted, at_top, put, Made, PropertyChange, TextChange, Change, History, has_folder, edited_with, with_props, with_text, text_set, props_set, copied, step, Separates, LeavesKept}
 use Rattle.std.proofs.Common.{ℕ, Bool, true, false, ◌&&◌, List, [], ◌∷◌, ◌++◌, Option, Some, None, option_and_then, is_some, is_none}
 use Rattle.dump_trees.specs.Branches.{Branch, Branches, tree_of, has_name, is_distinct, are_distinct, HasBranch}
-use Rattle.dump_trees.specs.WritingOut.{copy_of, folder_of, file_of, IsCutAlike, IsLeftOut, IsCopied, WritesOut, WritesInside, WritingLeads}
+use Rattle.dump_trees.specs.WritingOut.{copy_of, folder_of, file_of, IsCutAlike, IsLeftOut, IsCopied, WritesOut, WritesInside}
 use Rattle.dump_trees.specs.Leading.{Leads}
 use Rattle.dump_trees.proofs.changes.TreeLemmas.{below_rest, below_found}
 use Rattle.dump_trees.proofs.expansions.LeadLemmas.{leads_nowhere, leads_first, leads_one, leads_then}
-use Rattle.dump_trees.proofs.expansions.BranchLemmas.{graft_outside, put_at, put_twice, child_folder, child_apart, below_joined, IsClear, clear_below, root_stands, laid, laid_none, laid_first, laid_folder, file_grafted}
+use Rattle.dump_trees.proofs.expansions.BranchLemmas.{graft_outside, put_at, put_twice, child_folder, child_apart, below_joined, IsClear, root_stands, laid, laid_none, laid_first, laid_folder, file_grafted}
 
 -- single changes
 
@@ -245,8 +245,3 @@ module _ (settings : Settings) (history : History) where
         (stays_free path name branch others tree none
         (λ other named. free other (or_right (bytes_eq name other) (has_name other others) named)))
         there)))
-
--- the law, as the contract states it
-pub writing_leads : WritingLeads
-writing_leads settings history before path branch changes folders none some apart out =
-    branch_leads settings history branch path changes before apart (clear_below before folders path none) some out

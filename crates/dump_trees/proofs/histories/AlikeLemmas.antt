@@ -1,5 +1,5 @@
 -- Loading behind other revisions, where the load sets new properties: to the changes it is as a filter that keeps all.
-use Rattle.dump_trees.proofs.Prelude.{◌≡◌, ◌+◌, cond, refl, sym, ap, ◌∙◌, subst, inl, inr, append_assoc, slice_get, ⊤, AllZip, Property, Exclude, Pad, Settings, Node, Tree, HasFolders, Made, Change, History, steps, given, is_given, NewProperty, KeepsEntries, NewNumber, IsNewNode, IsRestricted, sets_whole, IsNewMade, IsNewChange, AllHaveFolders, AreRestricted, IsMade, loaded, AreNewChanges, AllSeparate, made_behind, IsChangeBehind, AreRevisionsBehind, AreAlike, AllAreAlike, LoadsAlike, EachLoadsAlike}
+use Rattle.dump_trees.proofs.Prelude.{◌≡◌, ◌+◌, cond, refl, sym, ap, ◌∙◌, subst, inl, inr, append_assoc, slice_get, AllZip, Property, Exclude, Pad, Settings, Node, Tree, HasFolders, Made, Change, History, steps, given, is_given, NewProperty, KeepsEntries, NewNumber, IsNewNode, IsRestricted, sets_whole, IsNewMade, IsNewChange, AllHaveFolders, AreRestricted, IsMade, loaded, AreNewChanges, AllSeparate, made_behind, IsChangeBehind, AreRevisionsBehind, AreAlike, AllAreAlike, LoadsAlike, EachLoadsAlike}
 use Rattle.std.proofs.Common.{ℕ, Bool, true, false, List, [], ◌∷◌, ◌++◌, length, Option, Some, None, option_and_then}
 use Rattle.dump_trees.proofs.changes.StepLemmas.{followed}
 use Rattle.dump_trees.proofs.changes.FolderLemmas.{KeepsFolders}

@@ -1,12 +1,9 @@
 -- Lines of mergeinfo by the cut.
-use Rattle.dump_trees.proofs.Prelude.{◌≡◌, inl, inr, or_cases, cond, refl, sym, ap, ◌∙◌, subst, arith, append-nil, append_assoc, zero, suc, AllZip, list_all, list_all-append, list_any, and_parts, and_from, or_left, or_right, both_ways, Property, NodePath, path_of, Node, Tree, NewProperty, IsNewNode}
-use Rattle.std.proofs.Common.{Bool, true, false, List, [], ◌∷◌, ◌++◌, Option, Some, None, Contains}
-use Rattle.std.proofs.lemmas.List.Elements.{All-head, All-tail}
+use Rattle.dump_trees.proofs.Prelude.{◌≡◌, inl, inr, or_cases, cond, refl, sym, ap, ◌∙◌, subst, arith, append-nil, append_assoc, zero, suc, list_all, list_all-append, list_any, and_parts, and_from, or_left, or_right, both_ways, NodePath, path_of}
+use Rattle.std.proofs.Common.{Bool, true, false, List, [], ◌∷◌, ◌++◌, Contains}
 use Rattle.dump_trees.specs.Siblings.{is_in_cut, is_within, is_sibling, has_node_names}
 use Rattle.dump_trees.specs.CanonicalPaths.{canonical_path}
-use Rattle.dump_trees.specs.Cuts.{IsCut}
-use Rattle.dump_trees.specs.ComingBack.{properties_of}
-use Rattle.dump_trees.specs.CutLines.{IsNamedLine, NamedLineStays, LinesStayByCut, sibling_from, siblings_of, SiblingsOfNamedCover, EachProperty}
+use Rattle.dump_trees.specs.CutLines.{NamedLineStays, sibling_from, siblings_of, SiblingsOfNamedCover}
 use Rattle.dump_trees.proofs.paths.CanonicalLemmas.{short_are_canonical}
 use Rattle.dump_trees.proofs.paths.NamedLines.{named_texts_leave_cut}
 use Rattle.dump_trees.proofs.paths.SiblingLemmas.{root_inside, is_sibling_there, within_found}
@@ -21,60 +18,6 @@ named_line_stays settings included named siblings line excludes cover its =
   where
     same : canonical_path line.path ≡ path_of line.path
     same = short_are_canonical line.path its.0
-
-pub lines_stay_by_cut : LinesStayByCut
-lines_stay_by_cut settings included named siblings [] excludes cover all = refl
-lines_stay_by_cut settings included named siblings (line ∷ lines) excludes cover all =
-    let rest = lines_stay_by_cut settings included named siblings lines excludes cover
-    (All-tail (IsNamedLine named) line lines all) in
-    λ i. cond
-    (named_line_stays settings included named siblings line excludes cover (All-head (IsNamedLine named) line lines all) i)
-    (line ∷ rest i) (rest i)
-
--- trees
-
-zip_follows : (IsNew IsOther : NewProperty) (old new : List Property)
-    → ((p q : Property) → Contains old p → IsNew p q → IsOther p q) → AllZip IsNew old new → AllZip IsOther old new
-zip_follows IsNew IsOther [] [] follows zip = zip
-zip_follows IsNew IsOther [] (q ∷ new) follows zip = zip
-zip_follows IsNew IsOther (p ∷ old) [] follows zip = zip
-zip_follows IsNew IsOther (p ∷ old) (q ∷ new) follows zip = (
-  follows p q (0, omega arith, refl) zip.0,
-  zip_follows IsNew IsOther old new
-      (λ r s there is.
-      follows r s (later r there) is)
-      zip.1,
-)
-  where
-    later : (r : Property) → Contains old r → Contains (p ∷ old) r
-    later r (k, low, is) = (suc k, omega (arith, low), is)
-
-nodes_follow : (IsNew IsOther : NewProperty) (old new : Option Node)
-    → ((node : Node) (p q : Property) → old ≡ Some node → Contains (properties_of node) p → IsNew p q → IsOther p q)
-    → IsNewNode IsNew old new → IsNewNode IsOther old new
-nodes_follow IsNew IsOther None None follows is = is
-nodes_follow IsNew IsOther None (Some new) follows is = is
-nodes_follow IsNew IsOther (Some (Node.Folder old)) None follows is = is
-nodes_follow IsNew IsOther (Some (Node.File old text)) None follows is = is
-nodes_follow IsNew IsOther (Some (Node.Folder old)) (Some (Node.Folder new)) follows is =
-    zip_follows IsNew IsOther old new (λ p q there. follows (Node.Folder old) p q refl there) is
-nodes_follow IsNew IsOther (Some (Node.Folder old)) (Some (Node.File new text)) follows is = is
-nodes_follow IsNew IsOther (Some (Node.File old text)) (Some (Node.Folder new)) follows is = is
-nodes_follow IsNew IsOther (Some (Node.File old text)) (Some (Node.File new same)) follows is = (
-  zip_follows IsNew IsOther old new (λ p q there. follows (Node.File old text) p q refl there) is.0,
-  is.1,
-)
-
--- a cut is one by another relation of properties, where that follows for each property of the tree
-pub cuts_follow : (included : List NodePath) (IsNew IsOther : NewProperty) (old new : Tree) → IsCut included IsNew old new
-    → EachProperty (λ p. (q : Property) → IsNew p q → IsOther p q) old → IsCut included IsOther old new
-cuts_follow included IsNew IsOther old new cut follows = record {
-  inside = λ path is.
-      nodes_follow IsNew IsOther (old path) (new path)
-      (λ node p q at there. follows path node p at there q)
-      (cut.inside path is);
-  outside = cut.outside;
-}
 
 -- siblings on the ways to paths
 

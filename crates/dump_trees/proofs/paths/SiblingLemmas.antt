@@ -1,8 +1,8 @@
 -- What the siblings exclude of a tree.
-use Rattle.dump_trees.proofs.Prelude.{◌≡◌, not, ◌||◌, ◌⊎◌, cond, bytes_eq, refl, sym, ap, ap₂, ◌∙◌, inl, inr, subst, append-nil, append_assoc, map, filter, both_ways, list_any, list_all, list_all-append, slice_get, nat_lt, bare_path, names_of, and_parts, and_from, or_cases, or_left, or_right, not-true, not_from_false, matches_path, bare_prefix, Settings, side_keeps, NodePath, path_text, path_of, is_name, is_short, keeps, below, parent_of, Tree, HasFolders, is_folder}
+use Rattle.dump_trees.proofs.Prelude.{◌≡◌, not, ◌||◌, ◌⊎◌, bytes_eq, refl, sym, ap, ap₂, ◌∙◌, inl, inr, subst, append-nil, append_assoc, map, both_ways, list_any, list_all, list_all-append, slice_get, nat_lt, bare_path, names_of, and_parts, and_from, or_cases, or_left, or_right, not-true, not_from_false, matches_path, Settings, side_keeps, NodePath, path_text, path_of, is_name, keeps, below, parent_of, Tree, HasFolders, is_folder}
 use Rattle.std.proofs.Common.{ℕ, Bool, true, false, ◌&&◌, List, [], ◌∷◌, ◌++◌, length, Option, Some, None, is_some}
 use Rattle.std.proofs.lemmas.List.Folds.{list_any_at}
-use Rattle.dump_trees.specs.Siblings.{is_within, has_name_behind, is_above_included, is_in_cut, is_parent_above, is_node_name, has_node_names, is_sibling, AreSiblings, ExcludesPaths, SiblingsLeaveCut, NamedPathsLeaveCut, named_paths, ShortPathsHaveNames, PrefixesNamePaths, TextsNamePaths}
+use Rattle.dump_trees.specs.Siblings.{is_within, has_name_behind, is_above_included, is_in_cut, is_parent_above, is_node_name, has_node_names, is_sibling, AreSiblings, ExcludesPaths, SiblingsLeaveCut, NamedPathsLeaveCut, ShortPathsHaveNames}
 use Rattle.dump_trees.proofs.changes.TreeLemmas.{below_rest, below_found}
 use Rattle.dump_trees.proofs.changes.FolderLemmas.{parent_behind}
 use Rattle.dump_trees.proofs.paths.PrefixPaths.{has_no_slash, split_names, matches_names, text_names}
@@ -322,17 +322,6 @@ excluded_match settings paths path excludes names are =
     excludes.side excludes.prefixes
     ∙ ap not (texts_match paths path names are)
 
--- the siblings leave the root
-pub root_stays : (settings : Settings) (included siblings : List NodePath) → ExcludesPaths settings siblings
-    → list_all (is_sibling included) siblings ≡ true → keeps settings [] ≡ true
-root_stays settings included siblings excludes all =
-    excluded_match settings siblings [] excludes (sibling_names included siblings all) refl
-    ∙ cases (list_any (λ top. is_within top []) siblings) refl
-  where
-    cases : (b : Bool) → list_any (λ top. is_within top []) siblings ≡ b → not b ≡ true
-    cases false is = refl
-    cases true is = absurd (both_ways _ (sibling_out included siblings [] all is) (root_inside included))
-
 -- where the siblings are excluded, what stands is kept where it is in the cut
 pub siblings_leave_cut : SiblingsLeaveCut
 siblings_leave_cut settings included siblings trees number tree path excludes all at folders names some =
@@ -376,71 +365,3 @@ short_names text short = cases (path_of text) (no_slash_of (bare_path text)) sho
         let parts = and_parts (nat_lt 0 (length name) && not (bytes_eq name (46 ∷ []))) _ are in
         let its = and_parts (nat_lt 0 (length name)) (not (bytes_eq name (46 ∷ []))) parts.0 in
         and_from _ _ (and_from _ _ (and_from _ _ its.0 slashes.0) its.1) (cases path slashes.1 parts.1)
-
--- names of nodes are in short form
-short_test : (path : NodePath) → has_node_names path ≡ true
-    → list_all (λ name. nat_lt 0 (length name) && not (bytes_eq name (46 ∷ []))) path ≡ true
-short_test [] are = refl
-short_test (name ∷ path) are =
-    let parts = and_parts (is_node_name name) (has_node_names path) are in
-    let its = and_parts (is_name name) (not (bytes_eq name (46 ∷ []))) parts.0 in
-    and_from _ _
-    (and_from _ _ (and_parts (nat_lt 0 (length name)) (has_no_slash name) its.0).0 its.1)
-    (short_test path parts.1)
-
--- a prefix that matches a path with names of nodes is in short form
-named_match : (prefixes : List (List ℕ)) (path : NodePath) → has_node_names path ≡ true
-    → list_any (λ prefix. matches_path prefix (path_text path)) prefixes
-    ≡ list_any (λ top. is_within top path) (named_paths prefixes)
-named_match [] path are = refl
-named_match (prefix ∷ prefixes) path are =
-    ap (λ b. b || list_any (λ other. matches_path other (path_text path)) prefixes)
-    (matches_names prefix path (no_slashes path are))
-    ∙ cases (named_match prefixes path are) (is_short (bare_prefix prefix)) refl
-  where
-    top : NodePath
-    top = path_of (bare_prefix prefix)
-
-    outside : is_short (bare_prefix prefix) ≡ false → (b : Bool) → is_within top path ≡ b → is_within top path ≡ false
-    outside long false is = is
-    outside long true is =
-        let (rest, same) = within_rest top path is in
-        absurd (both_ways _ long (short_test top
-        (front_names top rest (subst (λ p. has_node_names p ≡ true) same are))))
-
-    cases : list_any (λ other. matches_path other (path_text path)) prefixes
-        ≡ list_any (λ other. is_within other path) (named_paths prefixes)
-        → (b : Bool) → is_short (bare_prefix prefix) ≡ b
-        → (is_within top path || list_any (λ other. matches_path other (path_text path)) prefixes)
-        ≡ list_any (λ other. is_within other path)
-        (map path_of (cond b (bare_prefix prefix ∷ filter is_short (map bare_prefix prefixes))
-        (filter is_short (map bare_prefix prefixes))))
-    cases rest true short = ap (λ b. is_within top path || b) rest
-    cases rest false long =
-        ap (λ b. b || list_any (λ other. matches_path other (path_text path)) prefixes)
-        (outside long (is_within top path) refl)
-        ∙ rest
-
--- a prefix keeps the path that it names, and what lies below it
-pub prefixes_name_paths : PrefixesNamePaths
-prefixes_name_paths settings path side are =
-    ap (λ s. side_keeps s (list_any (λ prefix. matches_path prefix (path_text path)) settings.prefixes)) side
-    ∙ named_match settings.prefixes path are
-
--- the text of a path names it
-pub texts_name_paths : TextsNamePaths
-texts_name_paths [] are = refl
-texts_name_paths (path ∷ paths) are =
-    ap (λ b. map path_of (cond b (bare_prefix (path_text path) ∷ filter is_short (map bare_prefix (map path_text paths)))
-    (filter is_short (map bare_prefix (map path_text paths))))) short
-    ∙ ap₂ (λ p ps. p ∷ ps) named (texts_name_paths paths parts.1)
-  where
-    parts : (has_node_names path ≡ true) × (list_all has_node_names paths ≡ true)
-    parts = and_parts (has_node_names path) (list_all has_node_names paths) are
-
-    named : path_of (bare_prefix (path_text path)) ≡ path
-    named = text_names path (are_names path parts.0)
-
-    short : is_short (bare_prefix (path_text path)) ≡ true
-    short = ap (list_all (λ name. nat_lt 0 (length name) && not (bytes_eq name (46 ∷ [])))) named
-        ∙ short_test path parts.0

@@ -3,9 +3,7 @@ use Rattle.dump_trees.proofs.Prelude.{◌≡◌, codes, refl, sym, ap, ap₂, �
 use Rattle.std.proofs.Common.{true, false, List, [], ◌∷◌, ◌++◌, Some, None, is_some, Contains}
 use Rattle.std.proofs.lemmas.List.Elements.{All-head, All-tail}
 use Rattle.dump_trees.specs.Branches.{Branch, Branches, HasBranch}
-use Rattle.dump_trees.specs.WritingOut.{IsCutAlike}
 use Rattle.dump_trees.specs.ComingBack.{ComesBack, NoneComesBack, NothingComesBack, coming_back, MakesText, IsMadeByKept, SetsProperty}
-use Rattle.dump_trees.proofs.expansions.StayingLemmas.{cut_alike_is_found}
 use Rattle.dump_trees.proofs.values.ValueParts.{change, folder, file, copy, excluding, property, setting, patching}
 
 -- when something comes back
@@ -113,13 +111,7 @@ more_stands has = absurd (let bad : Some (Node.File [] (codes "1")) ≡ None = h
 abbrev with_file : Branch
 with_file = Branch.Folder [] (Branches.Named (codes "s") (Branch.File [] (codes "1")) Branches.NoMore)
 
--- the cut takes it whole where both files are left out, and not where one is
-taken_whole : IsCutAlike (record (excluding (codes "a/s")) { prefixes = codes "a/s" ∷ codes "b/s" ∷ [] })
-    (path_of (codes "b")) (path_of (codes "a")) with_file
-taken_whole =
-    (cut_alike_is_found (record (excluding (codes "a/s")) { prefixes = codes "a/s" ∷ codes "b/s" ∷ [] })
-    (path_of (codes "b")) (path_of (codes "a")) with_file refl refl).0 refl refl
-
+-- where the file is left out at the source alone, it comes back
 loses_file : coming_back (excluding (codes "b/s")) (path_of (codes "a")) (path_of (codes "b")) with_file
     ≡ path_of (codes "s") ∷ []
 loses_file = refl

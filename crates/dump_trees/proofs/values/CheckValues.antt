@@ -3,7 +3,7 @@ use Rattle.dump_trees.proofs.Prelude.{◌≡◌, not, AllZip, codes, refl, ap, o
 use Rattle.std.proofs.Common.{ℕ, true, false, List, [], ◌∷◌, length, Option, Some, None, is_some}
 use Rattle.dump_trees.specs.Looking.{Placed, placed_from, look}
 use Rattle.dump_trees.specs.LoadCheck.{patches_text, HasSameKinds, IsRefusedAt, Kind, kind_of_node, Kinds, kinds_allow, kinds_before, node_set, delta_applies, ToldKinds, TellsKinds, allowed_there, all_allowed, all_apply}
-use Rattle.dump_trees.proofs.cuts.CheckedLoads.{first_refusal_is_found, first_refusal_is_there, looks_tell_kinds}
+use Rattle.dump_trees.proofs.cuts.CheckedLoads.{first_refusal_is_there}
 use Rattle.dump_trees.proofs.cuts.PlainLooks.{plain_looks_tell_kinds}
 use Rattle.dump_trees.proofs.values.ValueParts.{change, folder, file, copy, deletion, replacing, setting, editing, writing, patching, property}
 
@@ -149,20 +149,6 @@ as_it_loads = refl
 where_it_was : allowed_there told placed 3 (slice_get placed 3) ≡ true
 where_it_was = refl
 
--- what the first five leave loads, and with the sixth it doesn't
-is_found : (is_some (loaded_over root_alone ((folder (codes "a") ∷ file (codes "a/f") (codes "1") ∷ [])
-    ∷ (deletion (codes "a") ∷ [])
-    ∷ (copy 1 (codes "a") (codes "b") ∷ writing (codes "2") (change (codes "b/f")) ∷ []) ∷ [])) ≡ true)
-    × (loaded_over root_alone ((folder (codes "a") ∷ file (codes "a/f") (codes "1") ∷ [])
-    ∷ (deletion (codes "a") ∷ [])
-    ∷ (copy 1 (codes "a") (codes "b") ∷ writing (codes "2") (change (codes "b/f")) ∷ copy 2 (codes "a") (codes "c") ∷ [])
-    ∷ []) ≡ None)
-is_found =
-    first_refusal_is_found told root_alone
-    ((folder (codes "a") ∷ file (codes "a/f") (codes "1") ∷ []) ∷ (deletion (codes "a") ∷ []) ∷ [])
-    (copy 1 (codes "a") (codes "b") ∷ writing (codes "2") (change (codes "b/f")) ∷ []) (copy 2 (codes "a") (codes "c")) []
-    ((deletion (codes "b") ∷ []) ∷ []) placed 5 refl refl (looks_tell_kinds root_alone placed) refl refl refl
-
 -- a copy of its own revision is refused
 own_revision : all_allowed
     (λ count path. option_map kind_of_node (look root_alone
@@ -239,9 +225,8 @@ a_delta s = absurd (let bad : false ≡ true = s.whole in cc)
 -- the sixth change of the dump is refused, and so is the dump
 sixth_refused : IsRefusedAt root_alone whole 5 (copy 2 (codes "a") (codes "c"))
 sixth_refused =
-    first_refusal_is_there told root_alone whole placed 5
-    (record { revision = 3; change = copy 2 (codes "a") (codes "c") }) refl refl (looks_tell_kinds root_alone placed) refl refl
-    refl
+    first_refusal_is_there (λ count path. option_map kind_of_node (look root_alone plain count path)) root_alone whole placed
+    5 (record { revision = 3; change = copy 2 (codes "a") (codes "c") }) refl refl plain_tells refl refl refl
 
 -- a change of a dump that loads isn't
 none_is_refused : IsRefusedAt root_alone ((folder (codes "a") ∷ []) ∷ []) 0 (folder (codes "a")) → ⊥

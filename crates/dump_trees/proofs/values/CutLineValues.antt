@@ -2,7 +2,7 @@
 use Rattle.dump_trees.proofs.Prelude.{◌≡◌, codes, refl, map, Exclude, Settings, NodePath, path_text, path_of, is_short}
 use Rattle.std.proofs.Common.{ℕ, true, false, List, [], ◌∷◌}
 use Rattle.dump_rules.specs.Mergeinfo.{MergeLine}
-use Rattle.dump_rules.specs.Rewriting.{staying_lines}
+use Rattle.dump_rules.specs.Settings.{keeps_path}
 use Rattle.dump_trees.specs.Siblings.{CoverNamed}
 use Rattle.dump_trees.specs.CutLines.{has_line_in_cut, sibling_from, siblings_of}
 use Rattle.dump_trees.proofs.paths.CutLineLemmas.{siblings_of_named_cover}
@@ -61,14 +61,16 @@ they_cover = siblings_of_named_cover included named refl
 abbrev excluding_them : Settings
 excluding_them = record (including_all (map path_text (siblings_of included named))) { side = Exclude }
 
-just_in_cut : staying_lines excluding_them (line_of (codes "/never/x") ∷ line_of (codes "/a/b/c") ∷ line_of (codes "/a/x") ∷ [])
-    ≡ line_of (codes "/a/b/c") ∷ []
-just_in_cut = refl
+out_of_cut : keeps_path excluding_them (codes "/never/x") ≡ false
+out_of_cut = refl
 
--- the short form is needed: with a slash more a line isn't matched by any prefix but the root's, and stays, though the
--- load reads a path outside of the cut
+in_cut : keeps_path excluding_them (codes "/a/b/c") ≡ true
+in_cut = refl
+
+-- the short form is needed: with a slash more a line's path isn't matched by any prefix but the root's, and stays,
+-- though the load reads a path outside of the cut
 not_short : is_short (codes "//never/x") ≡ false
 not_short = refl
 
-stays_outside : staying_lines excluding_them (line_of (codes "//never/x") ∷ []) ≡ line_of (codes "//never/x") ∷ []
+stays_outside : keeps_path excluding_them (codes "//never/x") ≡ true
 stays_outside = refl

@@ -1,15 +1,14 @@
 -- Worked values of cuts, of their siblings, and of what comes back.
 use Rattle.dump_trees.proofs.Prelude.{◌≡◌, sym, ◌≤◌, ◌||◌, bytes_eq-Decides, or_cases, inr, inl, ◌⊎◌, list_any, codes, refl, ap, subst, slice_get, bytes_eq, arith, AllZip, Exclude, Settings, NodePath, path_text, path_of, keeps, Node, Tree, put, root_alone, Made, Change, History, unwrap_or, both_ways, loaded_over}
-use Rattle.std.proofs.Common.{◌<◌, ℕ, zero, suc, true, false, List, [], ◌∷◌, ◌++◌, map, Some, is_some, Contains}
+use Rattle.std.proofs.Common.{◌<◌, ℕ, zero, suc, true, false, List, [], ◌∷◌, ◌++◌, map, Some, Contains}
 use Rattle.std.proofs.lemmas.List.Elements.{All-nil, All-cons}
-use Rattle.dump_trees.specs.Siblings.{is_above_included, is_in_cut, is_sibling, named_paths, has_node_names, AreSiblings}
-use Rattle.dump_trees.specs.Cuts.{IsCut}
+use Rattle.dump_trees.specs.Siblings.{is_above_included, is_in_cut, is_sibling, has_node_names, AreSiblings}
 use Rattle.dump_trees.specs.Branches.{Branch, Branches}
 use Rattle.dump_trees.specs.FindingSiblings.{all_above, CanStandBelow}
 use Rattle.dump_trees.proofs.expansions.FoundSiblings.{above_are_listed, siblings_are_found}
 use Rattle.dump_trees.specs.ComingBack.{ComesBack, coming_back, NoneComesBack, NothingComesBack, AgreeWhereKept}
 use Rattle.dump_trees.proofs.expansions.ComingLemmas.{kept_changes_tell_all}
-use Rattle.dump_trees.proofs.values.ValueParts.{including_all, excluding, as_it_was, folder, file, copy, property, node_at}
+use Rattle.dump_trees.proofs.values.ValueParts.{including_all, excluding, folder, file, copy, property, node_at}
 use Rattle.dump_trees.proofs.paths.KeptPaths.{keeps_nothing}
 
 -- the cut
@@ -74,16 +73,7 @@ no_dot = refl
 any_name_of_none : is_sibling [] (path_of (codes "a")) ≡ true
 any_name_of_none = refl
 
--- prefixes
-
-as_named : named_paths (codes "a/b" ∷ codes "/c/" ∷ []) ≡ path_of (codes "a/b") ∷ path_of (codes "c") ∷ []
-as_named = refl
-
-not_named : named_paths (codes "a//b" ∷ codes "./a" ∷ codes "a/." ∷ []) ≡ []
-not_named = refl
-
-root_named : named_paths (codes "/" ∷ []) ≡ [] ∷ []
-root_named = refl
+-- names of nodes
 
 dots_have_no_names : has_node_names (path_of (codes "a/./b")) ≡ false
 dots_have_no_names = refl
@@ -125,16 +115,6 @@ left_beside = refl
 
 left_in_the_root : keeps settings (path_of (codes "b")) ≡ false
 left_in_the_root = refl
-
--- the directory above has to keep its properties
-lost_properties : IsCut included as_it_was tree
-    (put (path_of (codes "a/b")) (Node.File [] (codes "1"))
-    (put (path_of (codes "a")) (Node.Folder []) root_alone)) → ⊥
-lost_properties cut = cut.inside (path_of (codes "a")) refl
-
--- the siblings have to go
-left_there : IsCut included as_it_was tree tree → ⊥
-left_there cut = absurd (let bad : true ≡ false = ap (λ o. is_some o) (cut.outside (path_of (codes "b")) refl) in cc)
 
 -- what comes back
 

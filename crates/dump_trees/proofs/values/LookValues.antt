@@ -1,10 +1,9 @@
 -- Worked values of looking back: what is found is what stands once the dump is loaded, and the latest change that
 -- touches a path is told from those that don't.
-use Rattle.dump_trees.proofs.Prelude.{◌≡◌, ◌||◌, bytes_eq, codes, refl, path_of, Node, root_alone, Change}
-use Rattle.std.proofs.Common.{ℕ, Bool, true, false, List, [], ◌∷◌, ◌++◌, length, Option, Some, None}
-use Rattle.dump_trees.specs.Branches.{Branch, Branches}
-use Rattle.dump_trees.specs.Listing.{names_look, IsLooked}
-use Rattle.dump_trees.specs.LookingBack.{copies_back}
+use Rattle.dump_trees.proofs.Prelude.{◌≡◌, codes, refl, path_of, Node, root_alone, Change}
+use Rattle.std.proofs.Common.{ℕ, true, false, List, [], ◌∷◌, ◌++◌, length, Option, Some, None}
+use Rattle.dump_trees.specs.Listing.{names_look}
+use Rattle.dump_trees.specs.steps.LookingBack.{copies_back}
 use Rattle.dump_trees.specs.Looking.{placed_from, end_of, touches_path, latest, look}
 use Rattle.dump_trees.proofs.values.ValueParts.{change, folder, file, copy, deletion, replacing, setting, writing, property, stands}
 
@@ -145,26 +144,6 @@ not_the_later = refl
 -- a text that is set makes no name
 only_made : names_look (placed_from 1 ((setting [] (change (codes "x")) ∷ []) ∷ [])) 1 [] ≡ []
 only_made = refl
-
--- a branch that is found
-abbrev in_b : Branch
-in_b = Branch.Folder []
-    (Branches.Named (codes "f") (Branch.File (property (codes "p") (codes "v") ∷ []) (codes "2")) Branches.NoMore)
-
-is_looked : IsLooked (placed_from 1 whole) 8 (path_of (codes "b")) in_b
-is_looked = (
-  refl,
-  (refl, tt),
-  λ name among stands. twice (bytes_eq (codes "f") name) among,
-)
-  where
-    twice : (b : Bool) → (b || (b || false)) ≡ true → (b || false) ≡ true
-    twice true is = refl
-    twice false is = is
-
--- one that leaves out a file isn't
-leaves_out : IsLooked (placed_from 1 whole) 8 (path_of (codes "b")) (Branch.Folder [] Branches.NoMore) → ⊥
-leaves_out looked = absurd (let bad : false ≡ true = looked.2 (codes "f") refl refl in cc)
 
 -- copies that name a revision before their own
 

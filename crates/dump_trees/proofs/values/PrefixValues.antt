@@ -1,8 +1,8 @@
 -- Worked values of prefixes that aren't written in canonical form.
-use Rattle.dump_trees.proofs.Prelude.{◌≡◌, codes, refl, ap, bytes_eq, Exclude, Settings, path_of, keeps}
-use Rattle.std.proofs.Common.{ℕ, Bool, true, false, List, [], ◌∷◌, map}
-use Rattle.dump_trees.specs.Siblings.{is_in_cut, named_paths}
-use Rattle.dump_trees.specs.CanonicalPaths.{canonical_path, canonical_paths, lies_in_prefixes, ExcludesPrefixes}
+use Rattle.dump_trees.proofs.Prelude.{◌≡◌, codes, refl, Exclude, Settings, path_of, keeps}
+use Rattle.std.proofs.Common.{ℕ, true, false, List, [], ◌∷◌, map}
+use Rattle.dump_trees.specs.Siblings.{is_in_cut}
+use Rattle.dump_trees.specs.CanonicalPaths.{canonical_path, canonical_paths}
 use Rattle.dump_trees.proofs.values.ValueParts.{including_all}
 
 -- one path
@@ -41,10 +41,6 @@ two_dots = refl
 all_count : canonical_paths (codes "./trunk" ∷ codes "a//b" ∷ codes "/c/" ∷ []) ≡ map path_of (codes "trunk" ∷ codes "a/b" ∷ codes "c" ∷ [])
 all_count = refl
 
--- where a short form alone counted, one of them would
-one_would : named_paths (codes "./trunk" ∷ codes "a//b" ∷ codes "/c/" ∷ []) ≡ path_of (codes "c") ∷ []
-one_would = refl
-
 trunk_inside : is_in_cut (canonical_paths (codes "./trunk" ∷ [])) (path_of (codes "trunk/f")) ≡ true
 trunk_inside = refl
 
@@ -57,21 +53,9 @@ all_inside = refl
 
 -- what is excluded
 
-below_named : lies_in_prefixes (codes "./secret" ∷ []) (path_of (codes "secret/f")) ≡ true
-below_named = refl
-
-beside_not_named : lies_in_prefixes (codes "./secret" ∷ []) (path_of (codes "secrets")) ≡ false
-beside_not_named = refl
-
-above_not_named : lies_in_prefixes (codes "a//secret" ∷ []) (path_of (codes "a")) ≡ false
-above_not_named = refl
-
 -- prefixes are excluded as they are written here
 abbrev excluding_texts : List (List ℕ) → Settings
 excluding_texts prefixes = record (including_all prefixes) { side = Exclude }
-
-does_exclude : ExcludesPrefixes (excluding_texts (codes "/secret" ∷ [])) (codes "./secret" ∷ [])
-does_exclude = record { side = refl; prefixes = refl }
 
 secret_left : keeps (excluding_texts (codes "/secret" ∷ [])) (path_of (codes "secret/f")) ≡ false
 secret_left = refl
@@ -79,11 +63,3 @@ secret_left = refl
 -- as the prefix is spelled, it isn't excluded
 secret_stays : keeps (excluding_texts (codes "./secret" ∷ [])) (path_of (codes "secret")) ≡ true
 secret_stays = refl
-
-not_as_spelled : ExcludesPrefixes (excluding_texts (codes "./secret" ∷ [])) (codes "./secret" ∷ []) → ⊥
-not_as_spelled e =
-    absurd (let bad : false ≡ true = ap (first_is (codes "/secret")) e.prefixes in cc)
-  where
-    first_is : List ℕ → List (List ℕ) → Bool
-    first_is text [] = false
-    first_is text (prefix ∷ prefixes) = bytes_eq prefix text

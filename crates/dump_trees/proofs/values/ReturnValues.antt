@@ -1,9 +1,8 @@
 -- Worked values of returns.
-use Rattle.dump_trees.proofs.Prelude.{◌≡◌, codes, refl, ap, NodePath, path_of, keeps, Node, Tree, put, root_alone, History}
+use Rattle.dump_trees.proofs.Prelude.{◌≡◌, codes, refl, NodePath, path_of, keeps, Node, Tree, put, root_alone, History}
 use Rattle.std.proofs.Common.{ℕ, true, false, List, [], ◌∷◌, ◌++◌, Some, is_some}
-use Rattle.dump_trees.specs.Siblings.{is_within}
 use Rattle.dump_trees.specs.ComingBack.{ComesBack}
-use Rattle.dump_trees.specs.Returns.{is_covered, lie_apart, rests_below, rests_covered, returns, IsReturn}
+use Rattle.dump_trees.specs.Returns.{is_covered, lie_apart, rests_below, rests_covered, returns}
 use Rattle.dump_trees.proofs.values.ValueParts.{excluding, copy}
 
 -- paths
@@ -80,7 +79,7 @@ whole_but_a_part = refl
 beside_it : returned (path_of (codes "c") ∷ []) ≡ []
 beside_it = refl
 
--- what is below a return comes back, and is no return
+-- what is below a return comes back
 
 abbrev history : History
 history number = Some old
@@ -103,8 +102,3 @@ back_at rest kept left stands = record {
 
 below_it : ComesBack (excluding (codes "a/d")) history (copy 1 (codes "a") (codes "b"))
 below_it = back_at (codes "d/s") refl refl refl
-
-no_return : IsReturn (excluding (codes "a/d")) history (copy 1 (codes "a") (codes "b")) (path_of (codes "d/s")) → ⊥
-no_return is =
-    absurd (let bad : true ≡ false
-    = ap (λ p. is_within p (path_of (codes "d"))) (is.topmost (back_at (codes "d") refl refl refl) refl) in cc)

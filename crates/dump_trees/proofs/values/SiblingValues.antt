@@ -1,13 +1,10 @@
 -- Worked values of cuts and siblings that wrong definitions don't meet: of names, of paths that a dump names, and of
 -- trees at other times.
-use Rattle.dump_trees.proofs.Prelude.{◌≡◌, codes, refl, sym, ap, ◌∙◌, subst, both_ways, bytes_eq, list_any, Side, Include, Exclude, Settings, NodePath, path_text, path_of, keeps, Node, Tree, put, root_alone, Change, arith, slice_get, map, zero, suc}
+use Rattle.dump_trees.proofs.Prelude.{◌≡◌, codes, refl, sym, ap, ◌∙◌, subst, both_ways, list_any, Side, Include, Exclude, Settings, NodePath, path_text, path_of, keeps, Node, Tree, put, root_alone, Change, arith, slice_get, map, zero, suc}
 use Rattle.std.proofs.Common.{ℕ, Bool, true, false, List, [], ◌∷◌, Some, None, is_some, Contains}
-use Rattle.dump_rules.specs.Mergeinfo.{MergeLine}
-use Rattle.dump_rules.specs.Rewriting.{staying_lines}
 use Rattle.dump_trees.specs.Siblings.{is_within, is_above_included, is_in_cut, is_parent_above, is_sibling, has_node_names, HasNames, AreSiblings, ExcludesPaths, CoverNamed}
-use Rattle.dump_trees.specs.Cuts.{IsCut}
 use Rattle.dump_trees.specs.FindingSiblings.{CanStandBelow}
-use Rattle.dump_trees.proofs.values.ValueParts.{including_all, as_it_was, folder, file, copy}
+use Rattle.dump_trees.proofs.values.ValueParts.{including_all, folder, file, copy}
 
 -- one path is included
 abbrev included : List NodePath
@@ -98,29 +95,6 @@ idle_sibling = record { each = refl; all = all }
 dot_stands : HasNames (put ((46 ∷ []) ∷ []) (Node.File [] []) root_alone) → ⊥
 dot_stands names = absurd (let bad : false ≡ true = names ((46 ∷ []) ∷ []) refl in cc)
 
--- the cut tree
-
-abbrev tree : Tree
-tree = put (path_of (codes "a/b")) (Node.File [] (codes "1")) with_sibling
-
--- nothing is made up in it
-made_up : IsCut included as_it_was root_alone above → ⊥
-made_up cut = cut.inside (path_of (codes "a")) refl
-
--- an included file doesn't go
-lost_file : IsCut included as_it_was tree above → ⊥
-lost_file cut = cut.inside (path_of (codes "a/b")) refl
-
--- nor does the directory above it, though nothing included stands in it
-lost_directory : IsCut included as_it_was above root_alone → ⊥
-lost_directory cut = cut.inside (path_of (codes "a")) refl
-
--- its text stays
-other_text : IsCut included as_it_was tree (put (path_of (codes "a/b")) (Node.File [] (codes "2")) above) → ⊥
-other_text cut =
-    let same : codes "2" ≡ codes "1" = (cut.inside (path_of (codes "a/b")) refl).1 in
-    absurd (let bad : false ≡ true = ap (λ t. bytes_eq t (codes "1")) same in cc)
-
 -- named paths
 
 -- siblings that leave out a path which a merge source names, though nothing ever stands there
@@ -157,20 +131,6 @@ kept_without_it = refl
 
 left_with_it : keeps (excluding_all (path_of (codes "gone") ∷ [])) (path_of (codes "gone/f")) ≡ false
 left_with_it = refl
-
--- so a line of mergeinfo with this source stays without it, though the source isn't in the cut
-
-abbrev gone : MergeLine
-gone = record { path = codes "/gone/f"; ranges = [] }
-
-abbrev merged : MergeLine
-merged = record { path = codes "/a/b/c"; ranges = [] }
-
-stays_without_it : staying_lines (excluding_all []) (gone ∷ merged ∷ []) ≡ gone ∷ merged ∷ []
-stays_without_it = refl
-
-goes_with_it : staying_lines (excluding_all (path_of (codes "gone") ∷ [])) (gone ∷ merged ∷ []) ≡ merged ∷ []
-goes_with_it = refl
 
 -- options that exclude paths
 

@@ -1,4 +1,4 @@
--- Worked values of copies that stay: with what they set themselves, and with deletions behind them.
+-- Worked values of copies that stay, with deletions behind them.
 use Rattle.dump_trees.proofs.Prelude.{◌≡◌, codes, refl, sym, ap, ◌∙◌, subst, at_top, inl, inr, bytes_eq, cond, AllZip, slice_get, path_of, NodePath, keeps, Node, Tree, put, grafted, root_alone, Made, Change, History, steps, list_any, below, loaded_over, IsRestricted, is_quiet, is_over}
 use Rattle.std.proofs.Common.{ℕ, Bool, true, false, ◌||◌, List, [], ◌∷◌, ◌++◌, Option, Some, None, option_and_then, is_some, is_none}
 use Rattle.dump_trees.specs.Branches.{Branch, Branches, tree_of, HasBranch}
@@ -6,10 +6,9 @@ use Rattle.dump_trees.specs.Expansions.{Expands}
 use Rattle.dump_trees.specs.ComingBack.{ComesBack}
 use Rattle.dump_trees.specs.Trimming.{CoverTaken, taken_tops, IsTrimmed, IsSameNumber, AreTrimmedRevisions}
 use Rattle.dump_trees.proofs.quiet.QuietLemmas.{quiet_separates}
-use Rattle.dump_trees.proofs.expansions.StayingLemmas.{kept_copy_stays}
 use Rattle.dump_trees.proofs.expansions.TrimLemmas.{taken_tops_cover}
 use Rattle.dump_trees.proofs.expansions.TrimmedHistories.{trimmed_history}
-use Rattle.dump_trees.proofs.values.ValueParts.{as_it_was, entries_stay, folder, file, copy, deletion, excluding, property, setting, same_folder, same_file, same_copy, node_at}
+use Rattle.dump_trees.proofs.values.ValueParts.{as_it_was, entries_stay, folder, file, copy, deletion, excluding, same_folder, same_file, same_copy, node_at}
 
 -- a directory with a file
 abbrev old : Tree
@@ -18,28 +17,8 @@ old = put (path_of (codes "a/s")) (Node.File [] (codes "1")) (put (path_of (code
 abbrev history : History
 history number = Some old
 
--- a copy that sets properties
-
 abbrev with_file : Branch
 with_file = Branch.Folder [] (Branches.Named (codes "s") (Branch.File [] (codes "1")) Branches.NoMore)
-
-stands : HasBranch old (path_of (codes "a")) with_file
-stands [] = refl
-stands (name ∷ rest) = cases rest (bytes_eq (codes "s") name)
-  where
-    cases : (rest : NodePath) (b : Bool) → at_top (cond b (below [] rest) None) (Node.File [] (codes "1")) None
-        ≡ cond b (tree_of (Branch.File [] (codes "1")) rest) None
-    cases rest false = refl
-    cases [] true = refl
-    cases (next ∷ rest) true = refl
-
--- what is excluded lies elsewhere: the copy stays, with its own properties
-stays : Expands (excluding (codes "c")) history old
-    (setting (property (codes "p") (codes "1") ∷ []) (copy 1 (codes "a") (codes "b")))
-    (setting (property (codes "p") (codes "1") ∷ []) (copy 1 (codes "a") (codes "b")) ∷ [])
-stays = kept_copy_stays (excluding (codes "c")) history old old
-    (setting (property (codes "p") (codes "1") ∷ []) (copy 1 (codes "a") (codes "b"))) 1 (path_of (codes "a")) with_file
-    refl refl stands (refl, refl, λ rest node at. refl)
 
 -- a copy that the cut doesn't take whole is no expansion of itself, since it isn't separated
 not_itself : Expands (excluding (codes "b/s")) history (put (path_of (codes "a")) (Node.Folder []) root_alone)
