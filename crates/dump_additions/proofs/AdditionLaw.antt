@@ -1,5 +1,5 @@
 -- The laws of expanded dumps, as the contracts state them.
-use Rattle.std.proofs.Common.{◌≡◌, ℕ, zero, suc, List, [], ◌∷◌, map, Some, None, refl, sym, ap, ◌∙◌, subst}
+use Rattle.std.proofs.Common.{◌≡◌, ℕ, zero, suc, true, List, [], ◌∷◌, map, Some, None, refl, sym, ap, ◌∙◌, subst}
 use Rattle.std.specs.Prelude.{slice_get}
 use Rattle.std.proofs.lemmas.Simd.{map-map}
 use Rattle.dump_records.specs.RecordText.{DumpRecord}
@@ -10,6 +10,8 @@ use Rattle.dump_trees.specs.Looking.{placed_from}
 use Rattle.dump_trees.specs.Paths.{NodePath}
 use Rattle.dump_trees.specs.Trees.{Tree, root_alone}
 use Rattle.dump_trees.proofs.expansions.FiniteSteps.{AllFinite, IsFinite, finite_root}
+use Rattle.dump_history.specs.CopiesOver.{some_copies_over}
+use Rattle.dump_history.specs.ExpandedDumps.{Stead}
 use Rattle.dump_history.specs.ExpandedText.{made_in_stead}
 use Rattle.dump_history.specs.RecordChanges.{Patching}
 use Rattle.dump_history.proofs.expanded.ExpandedLaw.{expanded_dump_loads}
@@ -17,13 +19,15 @@ use Rattle.dump_history.proofs.expanded.SteadLemmas.{expansions_are_dumps}
 use Rattle.dump_index.specs.IndexLaws.{AreListed}
 use Rattle.dump_index.specs.Listed.{Listed, listed_of}
 use Rattle.dump_index.specs.declared.change.NodeChange.{NodeChange}
-use Rattle.dump_changes.specs.NodeProperties.{ListNodes, node_numbers}
+use Rattle.dump_changes.specs.FileTexts.{record_texts}
+use Rattle.dump_changes.specs.NodeProperties.{ListNodes, node_numbers, property_blocks}
 use Rattle.dump_changes.proofs.PropertyLemmas.{nodes_are}
-use Rattle.dump_expansion.specs.ByChanges.{expanded_by, steads_for}
+use Rattle.dump_expansion.specs.ByChanges.{are_given_for, expanded_by, steads_for}
 use Rattle.dump_expansion.specs.GivenSteads.{GivenStead, steads_in}
 use Rattle.dump_expansion.proofs.ByChanges.{steads_by_changes}
-use Rattle.dump_additions.specs.AdditionLaws.{AdditionsExpand, AdditionsLoadTheSame, HasAdditions}
-use Rattle.dump_additions.proofs.AdditionLemmas.{revisions_expand}
+use Rattle.dump_additions.specs.AdditionLaws.{AdditionsCopyOverNothing, AdditionsExpand, AdditionsLoadTheSame, HasAdditions}
+use Rattle.dump_additions.proofs.AdditionLemmas.{AllRevisionsKnown, AreSteadsFrom, revisions_expand, revisions_known}
+use Rattle.dump_additions.proofs.CopyOverLemmas.{revisions_none}
 use Rattle.dump_additions.proofs.NumberLemmas.{numbers_of, numbers_rise, rise, steads_are}
 
 module _ (patched : Patching) (dump : List ℕ) (records : List DumpRecord) (changes : List NodeChange)
@@ -47,18 +51,35 @@ module _ (patched : Patching) (dump : List ℕ) (records : List DumpRecord) (cha
       subst IsFinite (let same : root_alone ≡ tree = (let both : Some root_alone ≡ Some tree = at in cc) in same) finite_root
   root_finite (suc number) tree at = absurd (let bad : None ≡ Some tree = at in cc)
 
+  -- what is given for the changes of the index
+  its : (are_given_for (numbers_of (map listed_of changes)) given ≡ true)
+      × AreSteadsFrom (property_blocks records) (record_texts records) (map listed_of changes) excluded 0
+      (map listed_of changes) (steads_for (numbers_of (map listed_of changes)) given)
+  its = steads_are (property_blocks records) (record_texts records) (map listed_of changes) excluded 0 (map listed_of changes)
+      given h.additions (ap rise numbers_are ∙ numbers_rise records)
+
+  abbrev steads : List Stead
+  steads = steads_for (numbers_of (map listed_of changes)) given
+
+  made_is : made_in_stead records (steads_in 0 records given) revisions ≡ expanded_by steads revisions
+  made_is =
+      steads_by_changes patched dump records revisions given h.has h.loads.makes
+      (ap (λ ns. are_given_for ns given) (sym numbers_are) ∙ its.0)
+      ∙ ap (λ ns. expanded_by (steads_for ns given) revisions) (sym numbers_are)
+
+  known : AllRevisionsKnown (property_blocks records) (record_texts records) (map listed_of changes) excluded
+      (root_alone ∷ []) root_alone revisions steads
+  known =
+      revisions_known patched records changes revisions trees excluded lists h.ordered h.loads.loads revisions []
+      (root_alone ∷ []) root_alone refl refl refl root_finite finite_root h.loads.loads (map listed_of changes) lists.listed
+      steads its.1
+
   pub expands : AllRevisionsExpand keep_all (root_alone ∷ []) root_alone revisions
       (made_in_stead records (steads_in 0 records given) revisions)
   expands =
-      let its = steads_are patched records changes revisions trees excluded lists h.ordered h.loads.loads 0 (map listed_of changes)
-      given h.additions (ap rise numbers_are ∙ numbers_rise records) in
-      subst (AllRevisionsExpand keep_all (root_alone ∷ []) root_alone revisions)
-      (sym (steads_by_changes patched dump records revisions given h.has h.loads.makes
-      (ap (λ ns. Rattle.dump_expansion.specs.ByChanges.are_given_for ns given) (sym numbers_are) ∙ its.0)
-      ∙ ap (λ ns. expanded_by (steads_for ns given) revisions) (sym numbers_are)))
-      (revisions_expand patched records changes revisions trees excluded lists h.ordered h.loads.loads revisions []
-      (root_alone ∷ []) root_alone refl refl refl root_finite finite_root h.loads.loads (map listed_of changes) lists.listed
-      (steads_for (numbers_of (map listed_of changes)) given) its.1)
+      subst (AllRevisionsExpand keep_all (root_alone ∷ []) root_alone revisions) (sym made_is)
+      (revisions_expand (property_blocks records) (record_texts records) (map listed_of changes) excluded revisions
+      (root_alone ∷ []) root_alone steads known)
 
 pub additions_expand : AdditionsExpand
 additions_expand patched dump records changes revisions trees excluded given h =
@@ -72,3 +93,10 @@ additions_load patched dump text records changes revisions trees excluded given 
     let (loads, apart, numbers, properties) = expanded_dump_loads patched keep_all dump records (steads_in 0 records given) again
     revisions (made_in_stead records (steads_in 0 records given) revisions) trees h.has h.loads form in
     (again, has, loads, numbers, properties)
+
+pub additions_over : AdditionsCopyOverNothing
+additions_over patched dump records changes revisions trees excluded given path h =
+    ap (some_copies_over path) (made_is patched dump records changes revisions trees excluded given h)
+    ∙ revisions_none (property_blocks records) (record_texts records) (map listed_of changes) excluded path revisions
+    (root_alone ∷ []) root_alone (steads patched dump records changes revisions trees excluded given h) trees
+    (known patched dump records changes revisions trees excluded given h) h.loads.loads

@@ -1,25 +1,33 @@
 -- What is in place of the changes of a dump that loads does the same.
-use Rattle.std.proofs.Common.{◌≡◌, ◌⊎◌, ℕ, suc, ◌+◌, true, List, [], ◌∷◌, ◌++◌, length, map, take, drop, Option, Some, None, option_map, option_and_then, is_some, refl, sym, ap, ap₂, ◌∙◌, subst, append_assoc, append-nil, arith, inl, inr}
-use Rattle.std.specs.Prelude.{IfSome, slice_get}
+use Rattle.std.proofs.Common.{◌≡◌, ℕ, suc, ◌+◌, true, false, not, ◌&&◌, List, [], ◌∷◌, ◌++◌, length, map, take, drop, Option, Some, None, option_map, option_and_then, is_some, refl, sym, ap, ap₂, ◌∙◌, subst, append_assoc, append-nil, arith}
+use Rattle.std.specs.Prelude.{IfSome, slice_get, ⊤}
 use Rattle.std.specs.List.{AllZip}
+use Rattle.std.proofs.lemmas.Bool.{and_parts, not-true}
 use Rattle.std.proofs.lemmas.List.{length-append}
 use Rattle.dump_text.specs.PropertyList.{Property}
 use Rattle.dump_records.specs.RecordText.{DumpRecord}
 use Rattle.dump_filter.specs.FilterLaws.{keep_all}
 use Rattle.dump_trees.specs.Branches.{Branch, tree_of}
-use Rattle.dump_trees.specs.Changes.{Change, Made, TextChange, edited_with, step, steps}
+use Rattle.dump_trees.specs.Changes.{Change, History, Made, TextChange, deleted, edited_with, is_copied, is_folder_at, made_in, props_set, step, steps, text_set}
 use Rattle.dump_trees.specs.ComingBack.{properties_of}
+use Rattle.dump_trees.specs.ExpansionCases.{deletion_of}
 use Rattle.dump_trees.specs.Expansions.{AllExpand, AllRevisionsExpand, Expands}
+use Rattle.dump_trees.specs.LoadCheck.{Kinds, delta_applies, is_directory, kind_left, kinds_allow, kinds_before, making_allowed, node_set}
 use Rattle.dump_trees.specs.Looking.{Placed, end_of, look, placed_from}
-use Rattle.dump_trees.specs.Paths.{NodePath, names_of}
+use Rattle.dump_trees.specs.Paths.{NodePath, names_of, parent_of}
 use Rattle.dump_trees.specs.Revisions.{loaded, loaded_over}
-use Rattle.dump_trees.specs.Trees.{Node, Tree, root_alone}
+use Rattle.dump_trees.specs.Trees.{HasFolders, Node, Tree, empty_tree, grafted, root_alone}
 use Rattle.dump_trees.specs.WritingOut.{file_of, folder_of}
 use Rattle.dump_trees.proofs.cuts.CheckedLoads.{AreFrom, Pushed, all_from, from_append, from_more, of_one, one_from, placed_append, placed_cut, pushed, steps_then}
+use Rattle.dump_trees.proofs.cuts.CheckedSteps.{parent_directory, step_is_allowed}
+use Rattle.dump_trees.proofs.expansions.BranchLemmas.{graft_outside}
+use Rattle.dump_trees.proofs.expansions.DeletionLemmas.{deletion_step}
 use Rattle.dump_trees.proofs.expansions.FiniteLemmas.{HasEntries}
-use Rattle.dump_trees.proofs.expansions.FiniteSteps.{AllFinite, IsFinite, finite_stands, finite_step, finite_steps}
-use Rattle.dump_trees.proofs.expansions.EveryLemmas.{finite_more}
+use Rattle.dump_trees.proofs.expansions.FiniteSteps.{AllFinite, IsFinite, finite_folders, finite_stands, finite_step, finite_steps}
+use Rattle.dump_trees.proofs.expansions.EveryLemmas.{copy_parts, finite_more}
+use Rattle.dump_trees.proofs.expansions.LeadLemmas.{leads_then}
 use Rattle.dump_trees.proofs.expansions.LookLemmas.{look_finds, look_finds_each}
+use Rattle.dump_trees.proofs.expansions.StayingLemmas.{copied_same}
 use Rattle.dump_trees.proofs.histories.FrontLemmas.{loaded_behind}
 use Rattle.dump_trees.proofs.histories.KeptNumbers.{length_push}
 use Rattle.dump_history.specs.RecordChanges.{Patching}
@@ -42,7 +50,7 @@ use Rattle.dump_changes.specs.NodeProperties.{ArePropertiesAt, ListNodes, proper
 use Rattle.dump_changes.proofs.TextLemmas.{whole_is_of_file}
 use Rattle.dump_expansion.specs.ByChanges.{expanded_by}
 use Rattle.dump_expansion.specs.GivenSteads.{GivenStead, left_alone}
-use Rattle.dump_additions.specs.Additions.{AreNodesOf, IsAddition, IsNodeOfForm, MakesRoot}
+use Rattle.dump_additions.specs.Additions.{AreNodesOf, IsAddition, IsNodeOfForm, MakesRoot, copies_over}
 use Rattle.dump_additions.specs.declared.parts.Form.{Form}
 use Rattle.dump_additions.specs.declared.parts.Form.TheVariants.{Copy, Directory, File}
 use Rattle.dump_additions.specs.Parts.{ArePartsOf, PartMeant}
@@ -78,6 +86,129 @@ some_kind None None is = refl
 some_kind None (Some node) is = absurd (cc)
 some_kind (Some kind) None is = absurd (cc)
 some_kind (Some kind) (Some node) is = refl
+
+-- a copy without deleting, over something, does the same once this is deleted
+
+module _ (history : History) (c : Change) (stays : c.deletes ≡ false) (copies : is_copied c.made ≡ true) where
+  -- what a copy needs above its path
+  copy_parent : (before after : Tree) → step history before c ≡ Some after → is_some (parent_of c.path) ≡ true
+  copy_parent before after at =
+      by_made c.made copies (and_parts _ _ (and_parts _ _ (and_parts _ _ allowed).0).0).1
+    where
+      kinds : Kinds
+      kinds = kinds_before history before c
+
+      allowed : kinds_allow c kinds ≡ true
+      allowed =
+          (and_parts (kinds_allow c kinds) (delta_applies c.text (node_set history before c))
+          (sym (step_is_allowed history before c) ∙ ap is_some at)).0
+
+      above : (o : Option NodePath) → is_folder_at before o ≡ true → is_some o ≡ true
+      above None is = is
+      above (Some parent) is = refl
+
+      by_made : (made : Option Made) → is_copied made ≡ true
+          → making_allowed made (kind_left c.deletes kinds.here) kinds ≡ true → is_some (parent_of c.path) ≡ true
+      by_made None copied is = absurd (let bad : false ≡ true = copied in cc)
+      by_made (Some Made.NewFolder) copied is = absurd (let bad : false ≡ true = copied in cc)
+      by_made (Some Made.NewFile) copied is = absurd (let bad : false ≡ true = copied in cc)
+      by_made (Some (Made.Copied number source)) copied is =
+          above (parent_of c.path)
+          (sym (parent_directory before (parent_of c.path))
+          ∙ (and_parts (is_some kinds.source) (is_directory kinds.parent) is).1)
+
+  -- it doesn't see what is deleted
+  copy_after_deletion : (before : Tree) → step history (grafted c.path empty_tree before) c ≡ step history before c
+  copy_after_deletion before =
+      let (number, source, is) = copy_parts c.made copies in
+      ap (λ b. further (deleted b c.path (grafted c.path empty_tree before))) stays
+      ∙ (ap (λ o. option_and_then (λ t. text_set c.text c.path t) (option_and_then (λ t. props_set c.props c.path t) o))
+      (ap (λ m. made_in history m c.path (grafted c.path empty_tree before)) is
+      ∙ (copied_same history number source c.path before (grafted c.path empty_tree before)
+      (graft_outside c.path empty_tree before)
+      ∙ ap (λ m. made_in history m c.path before) (sym is)))
+      ∙ ap (λ b. further (deleted b c.path before)) (sym stays))
+    where
+      further : Option Tree → Option Tree
+      further o =
+          option_and_then (λ t. text_set c.text c.path t)
+          (option_and_then (λ t. props_set c.props c.path t) (option_and_then (λ t. made_in history c.made c.path t) o))
+
+  cleared_expands : (before : Tree) → is_some (before c.path) ≡ true
+      → Expands keep_all history before c (deletion_of c.path ∷ c ∷ [])
+  cleared_expands before some after at =
+      leads_then keep_all history (deletion_of c.path ∷ []) (c ∷ []) before (grafted c.path empty_tree before) after
+      (each_change_stays history before (deletion_of c.path) (grafted c.path empty_tree before)
+      (deletion_step history c.path before (copy_parent before after at) some))
+      (each_change_stays history (grafted c.path empty_tree before) c after (copy_after_deletion before ∙ at))
+
+module _ (blocks : List (List ℕ)) (texts : List ToldText) (listed : List Listed) (excluded : List NodePath) where
+  -- what is in place of the change at a place: the change alone, if it doesn't copy over something; a deletion of what exists
+  -- there and the change, if it does; or an addition
+  pub data IsSteadAt (place : ℕ) (l : Listed) (s : Stead) : Type 0 where
+    LeftAlone : s ≡ left_alone → copies_over listed place l ≡ false → IsSteadAt place l s
+    ClearedFirst : (w : WrittenNode) → s ≡ record { nodes = w ∷ []; own = OwnForm.AsItIs }
+        → written_change w ≡ deletion_of (names_of l.path) → copies_over listed place l ≡ true
+        → IsSteadAt place l s
+    InPlace : (g : GivenStead) → IsAddition blocks texts listed excluded place l g
+        → s ≡ record { nodes = g.nodes; own = OwnForm.LeftOut } → IsSteadAt place l s
+
+  -- so of the changes from this place on
+  abbrev pub AreSteadsFrom : ℕ → List Listed → List Stead → Type 0
+  AreSteadsFrom place [] steads = steads ≡ []
+  AreSteadsFrom place (l ∷ ls) [] = ⊥
+  AreSteadsFrom place (l ∷ ls) (s ∷ steads) = IsSteadAt place l s × AreSteadsFrom (suc place) ls steads
+
+  -- a change, before which this is the tree, and what is in its place
+  pub record IsKnown (history : History) (before : Tree) (c : Change) (s : Stead) : Type 0 where
+    pub place : ℕ
+    pub number : ℕ
+    pub l : Listed
+    pub is : IsListed l (record { revision = number; change = c })
+    pub stead : IsSteadAt place l s
+    pub kinds : (p : NodePath) → is_some (kind_look listed place p) ≡ is_some (before p)
+    pub folders : HasFolders before
+    pub expands : Expands keep_all history before c (changes_for s c)
+
+  -- so of the changes of a revision, and of those of each revision
+  abbrev pub AllKnown : History → Tree → List Change → List Stead → Type 0
+  AllKnown history before [] steads = ⊤
+  AllKnown history before (c ∷ cs) [] = ⊥
+  AllKnown history before (c ∷ cs) (s ∷ steads) = IsKnown history before c s
+      × ((after : Tree) → step history before c ≡ Some after → AllKnown history after cs steads)
+
+  abbrev pub AllRevisionsKnown : List Tree → Tree → List (List Change) → List Stead → Type 0
+  AllRevisionsKnown older youngest [] steads = ⊤
+  AllRevisionsKnown older youngest (cs ∷ left) steads =
+      AllKnown (slice_get older) youngest cs (take (length cs) steads)
+      × ((tree : Tree) → steps (slice_get older) youngest cs ≡ Some tree
+      → AllRevisionsKnown (older ++ tree ∷ []) tree left (drop (length cs) steads))
+
+  -- what is in place of them does the same
+  changes_expand : (history : History) (cs : List Change) (steads : List Stead) (before : Tree)
+      → AllKnown history before cs steads → AllExpand keep_all history before cs (expanded_changes steads cs)
+  changes_expand history [] [] before known = refl
+  changes_expand history [] (s ∷ steads) before known = refl
+  changes_expand history (c ∷ cs) [] before known = absurd known
+  changes_expand history (c ∷ cs) (s ∷ steads) before (own, more) = (
+    changes_for s c,
+    expanded_changes steads cs,
+    refl,
+    own.expands,
+    λ after at. changes_expand history cs steads after (more after at),
+  )
+
+  pub revisions_expand : (left : List (List Change)) (older : List Tree) (youngest : Tree) (steads : List Stead)
+      → AllRevisionsKnown older youngest left steads
+      → AllRevisionsExpand keep_all older youngest left (expanded_by steads left)
+  revisions_expand [] older youngest steads known = refl
+  revisions_expand (cs ∷ left) older youngest steads (own, more) = (
+    expanded_changes (take (length cs) steads) cs,
+    expanded_by (drop (length cs) steads) left,
+    refl,
+    changes_expand (slice_get older) cs (take (length cs) steads) youngest own,
+    λ tree at. revisions_expand left (older ++ tree ∷ []) tree (drop (length cs) steads) (more tree at),
+  )
 
 module _ (patched : Patching) (records : List DumpRecord) (changes : List NodeChange) (revisions : List (List Change))
     (trees : List Tree) (excluded : List NodePath) (lists : ListNodes patched records changes (placed_from 1 revisions))
@@ -148,16 +279,12 @@ module _ (patched : Patching) (records : List DumpRecord) (changes : List NodeCh
     nodes_found path source (part ∷ parts) (w ∷ nodes) (is, are) =
         (form_found path source part.form part.rest w is, nodes_found path source parts nodes are)
 
-  -- whether what is in place of the change at a place is itself, or an addition
-  abbrev pub IsSteadAt : ℕ → Listed → Stead → Type 0
-  IsSteadAt place l s = (s ≡ left_alone)
-      ⊎ ((g : GivenStead) × Addition place l g × (s ≡ record { nodes = g.nodes; own = OwnForm.LeftOut }))
+  -- what is in place of changes of the dump
+  abbrev SteadAt : ℕ → Listed → Stead → Type 0
+  SteadAt = IsSteadAt blocks texts listed excluded
 
-  -- so of the changes from this place on
-  abbrev pub AreSteadsFrom : ℕ → List Listed → List Stead → Type 0
-  AreSteadsFrom place [] steads = steads ≡ []
-  AreSteadsFrom place (l ∷ ls) [] = ⊥
-  AreSteadsFrom place (l ∷ ls) (s ∷ steads) = IsSteadAt place l s × AreSteadsFrom (suc place) ls steads
+  abbrev SteadsFrom : ℕ → List Listed → List Stead → Type 0
+  SteadsFrom = AreSteadsFrom blocks texts listed excluded
 
   -- in a revision, after the ones that load to these trees
   module _ (rs : List (List Change)) (older more : List Tree) (youngest : Tree) (joined : trees ≡ older ++ more)
@@ -289,36 +416,57 @@ module _ (patched : Patching) (records : List DumpRecord) (changes : List NodeCh
               a.number a.source makes a.is_root.own a.form first
           root = root_by a.form a.is_root.makes
 
+      -- a copy over something, which is deleted first
+      cleared_stays : (l : Listed) → c.made ≡ l.made → c.deletes ≡ l.deletes → c.path ≡ names_of l.path → (w : WrittenNode)
+          → written_change w ≡ deletion_of (names_of l.path) → copies_over listed place l ≡ true
+          → Expands keep_all (slice_get older) before c (written_change w ∷ c ∷ [])
+      cleared_stays l made deletes path_is w clears over =
+          let parts = and_parts (is_copied l.made && not l.deletes) (is_some (kind_look listed place (names_of l.path))) over in
+          let copies = and_parts (is_copied l.made) (not l.deletes) parts.0 in
+          subst (λ d. Expands keep_all (slice_get older) before c (d ∷ c ∷ []))
+          (sym (clears ∙ ap deletion_of (sym path_is)))
+          (cleared_expands (slice_get older) c (deletes ∙ not-true l.deletes copies.1) (ap is_copied made ∙ copies.0) before
+          (ap (λ p. is_some (before p)) path_is ∙ (sym (kind_before (names_of l.path)) ∙ parts.1)))
+
       -- what is in place of any change
       stead_expands : (n : ℕ) (l : Listed) → IsListed l (record { revision = n; change = c }) → (s : Stead)
-          → IsSteadAt place l s → Expands keep_all (slice_get older) before c (changes_for s c)
-      stead_expands n l is s (inl alone) =
+          → SteadAt place l s → Expands keep_all (slice_get older) before c (changes_for s c)
+      stead_expands n l is s (LeftAlone alone none) =
           subst (λ x. Expands keep_all (slice_get older) before c (changes_for x c)) (sym alone)
           (each_change_stays (slice_get older) before c)
-      stead_expands n l is s (inr (g, a, same)) =
+      stead_expands n l is s (ClearedFirst w same clears over) =
+          subst (λ x. Expands keep_all (slice_get older) before c (changes_for x c)) (sym same)
+          (cleared_stays l is.made is.deletes is.path w clears over)
+      stead_expands n l is s (InPlace g a same) =
           subst (λ x. Expands keep_all (slice_get older) before c (changes_for x c)) (sym same)
           (subst (λ cs. Expands keep_all (slice_get older) before c cs) (sym (append-nil (map written_change g.nodes)))
           (λ after at. addition_expands after at n l is g a after at))
 
-    -- the changes of the revision
-    changes_expand : (cs ds : List Change) (before : Tree) → IsFinite before
+    -- the changes of the revision, each of which is known with the tree before it
+    changes_known : (cs ds : List Change) (before : Tree) → IsFinite before
         → steps (slice_get older) youngest ds ≡ Some before → (behind : List Placed)
         → here ≡ placed_from 1 (rs ++ (ds ++ cs) ∷ []) ++ behind → AreFrom (suc (length rs)) behind → (place : ℕ)
         → place ≡ length (placed_from 1 (rs ++ ds ∷ [])) → (ls : List Listed) → AllZip IsListed ls (of_one (1 + length rs) cs)
-        → (steads : List Stead) → AreSteadsFrom place ls steads
-        → AllExpand keep_all (slice_get older) before cs (expanded_changes steads cs)
-    changes_expand [] ds before finite done behind is_here late place place_is ls zip [] are = refl
-    changes_expand [] ds before finite done behind is_here late place place_is ls zip (s ∷ steads) are = refl
-    changes_expand (c ∷ cs) ds before finite done behind is_here late place place_is [] zip steads are = absurd zip
-    changes_expand (c ∷ cs) ds before finite done behind is_here late place place_is (l ∷ ls) zip [] are = absurd are
-    changes_expand (c ∷ cs) ds before finite done behind is_here late place place_is (l ∷ ls) (is, zip) (s ∷ steads) (own, are) = (
-      changes_for s c,
-      expanded_changes steads cs,
-      refl,
-      stead_expands ds before finite done c (of_one (1 + length rs) cs ++ behind) with_c late_too (1 + length rs) l is s
-          (subst (λ n. IsSteadAt n l s) place_is own),
+        → (steads : List Stead) → SteadsFrom place ls steads
+        → AllKnown blocks texts listed excluded (slice_get older) before cs steads
+    changes_known [] ds before finite done behind is_here late place place_is ls zip steads are = tt
+    changes_known (c ∷ cs) ds before finite done behind is_here late place place_is [] zip steads are = absurd zip
+    changes_known (c ∷ cs) ds before finite done behind is_here late place place_is (l ∷ ls) zip [] are = absurd are
+    changes_known (c ∷ cs) ds before finite done behind is_here late place place_is (l ∷ ls) (is, zip) (s ∷ steads) (own, are) = (
+      record {
+        place = length (placed_from 1 (rs ++ ds ∷ []));
+        number = 1 + length rs;
+        l = l;
+        is = is;
+        stead = subst (λ n. SteadAt n l s) place_is own;
+        kinds = kind_before ds before finite done c (of_one (1 + length rs) cs ++ behind) with_c late_too;
+        folders = finite_folders before finite;
+        expands =
+            stead_expands ds before finite done c (of_one (1 + length rs) cs ++ behind) with_c late_too (1 + length rs) l is s
+            (subst (λ n. SteadAt n l s) place_is own);
+      },
       λ after at.
-          changes_expand cs (ds ++ c ∷ []) after
+          changes_known cs (ds ++ c ∷ []) after
           (subst (λ o. IfSome o IsFinite) at (finite_step (slice_get older) all before finite c))
           (steps_then (slice_get older) youngest ds (c ∷ [])
           ∙ (ap (option_and_then (λ t. steps (slice_get older) t (c ∷ []))) done
@@ -347,21 +495,21 @@ module _ (patched : Patching) (records : List DumpRecord) (changes : List NodeCh
 
   -- lists of two parts
   record AreSplitAt (place : ℕ) (ls rest : List Listed) (steads : List Stead) : Type 0 where
-    pub first : AreSteadsFrom place ls (take (length ls) steads)
-    pub others : AreSteadsFrom (place + length ls) rest (drop (length ls) steads)
+    pub first : SteadsFrom place ls (take (length ls) steads)
+    pub others : SteadsFrom (place + length ls) rest (drop (length ls) steads)
 
-  split_steads : (place : ℕ) (ls rest : List Listed) (steads : List Stead) → AreSteadsFrom place (ls ++ rest) steads
+  split_steads : (place : ℕ) (ls rest : List Listed) (steads : List Stead) → SteadsFrom place (ls ++ rest) steads
       → AreSplitAt place ls rest steads
   split_steads place [] rest steads are = record {
     first = refl;
-    others = subst (λ n. AreSteadsFrom n rest steads) (let same : place ≡ place + 0 = omega arith in same) are;
+    others = subst (λ n. SteadsFrom n rest steads) (let same : place ≡ place + 0 = omega arith in same) are;
   }
   split_steads place (l ∷ ls) rest [] are = absurd are
   split_steads place (l ∷ ls) rest (s ∷ steads) (own, are) =
       let more = split_steads (suc place) ls rest steads are in
       record {
         first = (own, more.first);
-        others = subst (λ n. AreSteadsFrom n rest (drop (length ls) steads))
+        others = subst (λ n. SteadsFrom n rest (drop (length ls) steads))
             (let same : suc place + length ls ≡ place + suc (length ls) = omega arith in same) more.others;
       }
 
@@ -396,28 +544,25 @@ module _ (patched : Patching) (records : List DumpRecord) (changes : List NodeCh
   one_size number (c ∷ cs) = ap suc (one_size number cs)
 
   -- the changes of all revisions
-  pub revisions_expand : (left rs : List (List Change)) (older : List Tree) (youngest : Tree) → here ≡ placed_from 1 (rs ++ left)
+  pub revisions_known : (left rs : List (List Change)) (older : List Tree) (youngest : Tree) → here ≡ placed_from 1 (rs ++ left)
       → loaded_over root_alone rs ≡ Some older → slice_get older (length rs) ≡ Some youngest → AllFinite (slice_get older)
       → IsFinite youngest → loaded older youngest left ≡ Some trees → (ls : List Listed)
       → AllZip IsListed ls (placed_from (suc (length rs)) left) → (steads : List Stead)
-      → AreSteadsFrom (length (placed_from 1 rs)) ls steads
-      → AllRevisionsExpand keep_all older youngest left (expanded_by steads left)
-  revisions_expand [] rs older youngest is_here begins last all finite leads ls zip steads are = refl
-  revisions_expand (cs ∷ left) rs older youngest is_here begins last all finite leads ls zip steads are = (
-    expanded_changes (take (length cs) steads) cs,
-    expanded_by (drop (length cs) steads) left,
-    refl,
+      → SteadsFrom (length (placed_from 1 rs)) ls steads
+      → AllRevisionsKnown blocks texts listed excluded older youngest left steads
+  revisions_known [] rs older youngest is_here begins last all finite leads ls zip steads are = tt
+  revisions_known (cs ∷ left) rs older youngest is_here begins last all finite leads ls zip steads are = (
     first,
     λ tree at.
         let push = pushed root_alone rs older youngest cs tree begins last at in
-        revisions_expand left (rs ++ cs ∷ []) (older ++ tree ∷ []) tree
+        revisions_known left (rs ++ cs ∷ []) (older ++ tree ∷ []) tree
         (is_here ∙ ap (placed_from 1) (sym (append_assoc rs (cs ∷ []) left))) push.loads push.last
         (finite_more older tree all (finite_tree tree at))
         (finite_tree tree at) (sym (ap (option_and_then (λ t. loaded (older ++ t ∷ []) t left)) at) ∙ leads) parts.back
         (subst (λ n. AllZip IsListed parts.back (placed_from n left)) (ap suc (sym (length_push rs cs))) parts.others)
         (drop (length cs) steads)
-        (subst (λ n. AreSteadsFrom n parts.back (drop (length cs) steads)) next_place
-        (subst (λ n. AreSteadsFrom (length (placed_from 1 rs) + length parts.front) parts.back (drop n steads)) parts_size
+        (subst (λ n. SteadsFrom n parts.back (drop (length cs) steads)) next_place
+        (subst (λ n. SteadsFrom (length (placed_from 1 rs) + length parts.front) parts.back (drop n steads)) parts_size
         its.others)),
   )
     where
@@ -435,7 +580,7 @@ module _ (patched : Patching) (records : List DumpRecord) (changes : List NodeCh
 
       its : AreSplitAt (length (placed_from 1 rs)) parts.front parts.back steads
       its = split_steads (length (placed_from 1 rs)) parts.front parts.back steads
-          (subst (λ ms. AreSteadsFrom (length (placed_from 1 rs)) ms steads) parts.joined are)
+          (subst (λ ms. SteadsFrom (length (placed_from 1 rs)) ms steads) parts.joined are)
 
       one_more : placed_from 1 (rs ++ cs ∷ []) ≡ placed_from 1 rs ++ of_one (1 + length rs) cs
       one_more =
@@ -465,11 +610,11 @@ module _ (patched : Patching) (records : List DumpRecord) (changes : List NodeCh
           from_more (suc (length rs)) (suc (suc (length rs))) (omega arith) (placed_from (suc (suc (length rs))) left)
           (all_from (suc (suc (length rs))) left)
 
-      first : AllExpand keep_all (slice_get older) youngest cs (expanded_changes (take (length cs) steads) cs)
+      first : AllKnown blocks texts listed excluded (slice_get older) youngest cs (take (length cs) steads)
       first =
-          changes_expand rs older joined.0 youngest joined.1 begins last all cs [] youngest finite refl
+          changes_known rs older joined.0 youngest joined.1 begins last all cs [] youngest finite refl
           (placed_from (suc (suc (length rs))) left) here_now later (length (placed_from 1 rs)) none_done parts.front
           (subst (λ n. AllZip IsListed parts.front (of_one n cs))
           (let same : suc (length rs) ≡ 1 + length rs = omega arith in same) parts.first)
           (take (length cs) steads)
-          (subst (λ n. AreSteadsFrom (length (placed_from 1 rs)) parts.front (take n steads)) parts_size its.first)
+          (subst (λ n. SteadsFrom (length (placed_from 1 rs)) parts.front (take n steads)) parts_size its.first)

@@ -1,6 +1,7 @@
 pub mod AdditionLaw
 pub mod AdditionLemmas
 pub mod CopyLemmas
+pub mod CopyOverLemmas
 pub mod EntryLemmas
 pub mod ExpandLemmas
 pub mod NodeLemmas

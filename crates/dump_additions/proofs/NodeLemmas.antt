@@ -1,12 +1,13 @@
 -- Nodes, and the parts that they write.
 use Rattle.std.proofs.Common.{◌≡◌, ℕ, ◌+◌, ◌<◌, ◌≤◌, ◌-◌, length, take, drop, get_or, arith, Bool, true, false, cond, List, [], ◌∷◌, ◌++◌, map, Option, Some, None, nat_eq, refl, sym, ap, ◌∙◌, subst, append_assoc, append-nil, inl, inr}
-use Rattle.std.specs.Prelude.{unwrap_or, Err}
+use Rattle.std.specs.Prelude.{unwrap_or, Err, Ok, Result}
 use Rattle.std.specs.List.{Contains, list_all}
 use Rattle.std.proofs.lemmas.Bool.{eqb-true}
 use Rattle.std.proofs.lemmas.List.{get_or-map, length-map, map-append, take_all, take_more}
 use Rattle.std.proofs.lemmas.List.Elements.{Contains-get_or}
 use Rattle.dump_trees.specs.Paths.{NodePath, names_of, path_of}
 use Rattle.dump_trees.specs.Changes.{Made}
+use Rattle.dump_trees.specs.ExpansionCases.{deletion_of}
 use Rattle.dump_trees.specs.Siblings.{has_node_names}
 use Rattle.dump_trees.proofs.paths.SiblingLemmas.{both_names}
 use Rattle.dump_history.specs.WrittenNodes.{WrittenNode, can_be_written}
@@ -20,9 +21,10 @@ use Rattle.dump_index.proofs.SlashLemmas.{names_joined}
 use Rattle.dump_cut.proofs.ParentLemmas.{ends_named}
 use Rattle.dump_expansion.specs.GivenSteads.{GivenStead}
 use Rattle.dump_expansion.specs.steps.NewNodes.{written_kind}
-use Rattle.dump_additions.specs.Additions.{AreNodesOf, IsAddition, IsNodeOf, IsRootOf, SaysKind}
+use Rattle.dump_expansion.specs.declared.expanding.Stead as code
+use Rattle.dump_additions.specs.Additions.{AreNodesOf, BringsNone, IsAddition, IsCleared, IsNodeOf, IsRootOf, SaysKind, copies_over}
 use Rattle.dump_additions.specs.FirstNotAdded.{BringsSome, CannotBeAdded, HasDelta, IsReason}
-use Rattle.dump_additions.specs.steps.Nodes.{AddsNodes, IsAdditionOr, IsNodeOrDelta, IsRootOr}
+use Rattle.dump_additions.specs.steps.Nodes.{AddsNodes, IsAdditionOr, IsClearingOr, IsNodeOrDelta, IsRootOr, IsSteadFor, IsSteadOr}
 use Rattle.dump_additions.specs.declared.not_added.Reason.{Reason}
 use Rattle.dump_additions.specs.declared.not_added.Reason.TheVariants.{Delta, NoLoad, NotWritable}
 use Rattle.dump_additions.specs.declared.parts.Form.{Form}
@@ -175,9 +177,19 @@ module _ (blocks : List (List ℕ)) (texts : List ToldText) (listed : List Liste
           (new_is ∙ ap (λ (ns : List WrittenNode). ns ++ nodes) first_is);
     }
 
-    pub not_written : (g : GivenStead) → IsAddition blocks texts listed excluded place l g
+    not_written : (g : GivenStead) → IsAddition blocks texts listed excluded place l g
         → list_all can_be_written g.nodes ≡ false → CannotBeAdded blocks texts listed excluded place l NotWritable
     not_written g addition isnt = refused NotWritable (g, addition, isnt)
+
+    pub stead_or : (new : List WrittenNode)
+        → IsAddition blocks texts listed excluded place l (record { number = l.record_number; nodes = new; keeps = false })
+        → (made : Result code.Stead Reason) → IsSteadFor l.record_number new false made
+        → IsSteadOr blocks texts listed excluded place l made
+    stead_or new addition (Ok stead) (same, ok) =
+        subst (λ (g : GivenStead). IsAddition blocks texts listed excluded place l g × (list_all can_be_written g.nodes ≡ true))
+        (sym same) (addition, ok)
+    stead_or new addition (Err reason) (is, isnt) =
+        subst (CannotBeAdded blocks texts listed excluded place l) (sym is) (not_written _ addition isnt)
 
   module _ (parts inside : List PartMeant) (form : Form) (rest : NodePath)
       (same : parts ≡ record { form = form; rest = rest } ∷ inside) (are : Parts parts) where
@@ -199,9 +211,46 @@ module _ (blocks : List (List ℕ)) (texts : List ToldText) (listed : List Liste
         by Directory isnt is = is.0
         by File isnt is = is.0
 
+    -- or nothing does, and it may be over something
+    pub stays : form ≡ Copy → (found : Result (Option code.Stead) Reason) → IsClearingOr listed place l found
+        → IsAdditionOr blocks texts listed excluded place l found
+    stays is found clears =
+        cases (subst (BringsNone blocks texts listed excluded (names_of l.path)) (sym copies)
+        (subst (λ f. IsFormAt listed excluded number (names_of l.path) source [] (Some f)) is top.1)) found clears
+      where
+        cases : BringsNone blocks texts listed excluded (names_of l.path) l.made → (found : Result (Option code.Stead) Reason)
+            → IsClearingOr listed place l found → IsAdditionOr blocks texts listed excluded place l found
+        cases none (Ok None) over = (none, over)
+        cases none (Ok (Some stead)) clears = inr (none, clears)
+        cases none (Err reason) (over, why, its) = inr (none, over, why, its)
+
     pub refused_back : (form ≡ Copy → ⊥) → (reason : Reason) → CannotBeAdded blocks texts listed excluded place l reason
         → IsAdditionOr blocks texts listed excluded place l (Err reason)
-    refused_back isnt reason why = (some_back isnt, why)
+    refused_back isnt reason why = inl (some_back isnt, why)
+
+-- the node that deletes what exists at the path of a change
+module _ (listed : List Listed) (place : ℕ) (l : Listed) (named : has_node_names (names_of l.path) ≡ true)
+    (over : copies_over listed place l ≡ true) (text : List ℕ) (is : text ≡ l.path) (nodes : List WrittenNode)
+    (nodes_are : nodes ≡ WrittenNode.Deletion text ∷ []) where
+  abbrev its : GivenStead
+  its = record { number = l.record_number; nodes = nodes; keeps = true }
+
+  cleared : IsCleared l its
+  cleared = (
+    WrittenNode.Deletion text,
+    ap deletion_of (named_bare text (ap (λ t. has_node_names (names_of t)) is ∙ named) ∙ ap names_of is),
+    ap (λ ns. record { number = l.record_number; nodes = ns; keeps = true }) nodes_are,
+  )
+
+  pub cleared_by : (stead : code.Stead) → IsSteadFor l.record_number nodes true (Ok stead)
+      → IsClearingOr listed place l (Ok (Some stead))
+  cleared_by stead (same, ok) =
+      subst (λ (g : GivenStead). (copies_over listed place l ≡ true) × IsCleared l g × (list_all can_be_written g.nodes ≡ true))
+      (sym same) (over, cleared, ok)
+
+  pub not_cleared : (reason : Reason) → IsSteadFor l.record_number nodes true (Err reason)
+      → IsClearingOr listed place l (Err reason)
+  not_cleared reason (same, isnt) = (over, same, (its, cleared, isnt))
 
 -- a list that isn't empty
 pub first_part : (slice items : List Part) (d item : Part) → slice ≡ items → 1 ≤ length slice → item ≡ get_or slice 0 d

@@ -1,26 +1,19 @@
 -- What is given for the nodes of a dump, and what is in place of their changes.
-use Rattle.std.proofs.Common.{◌≡◌, ℕ, suc, ◌<◌, ◌≤◌, Bool, true, false, ◌&&◌, ◌==◌, cond, Some, List, [], ◌∷◌, map, nat_lt, nat_le, refl, sym, ap, ◌∙◌, subst, arith, inl, inr}
+use Rattle.std.proofs.Common.{◌≡◌, ℕ, suc, ◌<◌, ◌≤◌, Bool, true, false, ◌&&◌, ◌==◌, cond, List, [], ◌∷◌, map, nat_lt, nat_le, refl, sym, ap, ◌∙◌, subst, arith}
 use Rattle.std.specs.Prelude.{if◌then◌else◌}
 use Rattle.std.specs.List.{list_all}
 use Rattle.std.proofs.lemmas.Bool.{and_from, and_parts, eq-eqb, eqb-true, false_from_ne_true, le-leb, leb-true, lt-ltb, ltb-true}
 use Rattle.dump_records.specs.RecordText.{DumpRecord}
 use Rattle.dump_digest.specs.RecordParts.{is_node}
-use Rattle.dump_trees.specs.Changes.{Change}
-use Rattle.dump_trees.specs.Looking.{placed_from}
 use Rattle.dump_trees.specs.Paths.{NodePath}
-use Rattle.dump_trees.specs.Revisions.{loaded_over}
-use Rattle.dump_trees.specs.Trees.{Tree, root_alone}
 use Rattle.dump_history.specs.ExpandedDumps.{Stead}
-use Rattle.dump_history.specs.RecordChanges.{Patching}
-use Rattle.dump_index.specs.InOrder.{are_in_order}
-use Rattle.dump_index.specs.Listed.{Listed, listed_of}
-use Rattle.dump_index.specs.declared.change.NodeChange.{NodeChange}
-use Rattle.dump_changes.specs.FileTexts.{record_texts}
-use Rattle.dump_changes.specs.NodeProperties.{ListNodes, node_numbers, property_blocks}
+use Rattle.dump_index.specs.Listed.{Listed}
+use Rattle.dump_changes.specs.FileTexts.{ToldText}
+use Rattle.dump_changes.specs.NodeProperties.{node_numbers}
 use Rattle.dump_expansion.specs.ByChanges.{are_given_for, steads_for}
 use Rattle.dump_expansion.specs.GivenSteads.{GivenStead, left_alone, own_form}
-use Rattle.dump_additions.specs.Additions.{Added, AreAdditionsFrom, IsAddition, Kept, NoChange}
-use Rattle.dump_additions.proofs.AdditionLemmas.{AreSteadsFrom}
+use Rattle.dump_additions.specs.Additions.{Added, AreAdditionsFrom, Cleared, Kept, NoChange, copies_over}
+use Rattle.dump_additions.proofs.AdditionLemmas.{AreSteadsFrom, ClearedFirst, InPlace, IsSteadAt, LeftAlone}
 
 -- whether each number is greater than those before it
 abbrev pub rise : List ℕ → Bool
@@ -102,49 +95,52 @@ given_same n numbers g given same = rw same refl
 abbrev pub numbers_of : List Listed → List ℕ
 numbers_of ls = map (λ (l : Listed). l.record_number) ls
 
-module _ (patched : Patching) (records : List DumpRecord) (changes : List NodeChange) (revisions : List (List Change))
-    (trees : List Tree) (excluded : List NodePath) (lists : ListNodes patched records changes (placed_from 1 revisions))
-    (ordered : are_in_order 0 changes ≡ true) (loads : loaded_over root_alone revisions ≡ Some trees) where
+module _ (blocks : List (List ℕ)) (texts : List ToldText) (listed : List Listed) (excluded : List NodePath) where
   abbrev Steads : ℕ → List Listed → List Stead → Type 0
-  Steads = AreSteadsFrom patched records changes revisions trees excluded lists ordered loads
+  Steads = AreSteadsFrom blocks texts listed excluded
 
-  abbrev Additions : ℕ → List Listed → List GivenStead → Type 0
-  Additions = AreAdditionsFrom (property_blocks records) (record_texts records) (map listed_of changes) excluded
-
-  -- a change that stays
-  kept_stead : (place : ℕ) (l : Listed) (more : List Listed) (given : List GivenStead)
+  -- for the first change nothing is given
+  alone_stead : (place : ℕ) (l : Listed) (more : List Listed) (given : List GivenStead)
+      → copies_over listed place l ≡ false
       → list_all (λ m. nat_lt l.record_number m) (numbers_of more) ≡ true
       → are_given_for (numbers_of more) given ≡ true → Steads (suc place) more (steads_for (numbers_of more) given)
       → (are_given_for (numbers_of (l ∷ more)) given ≡ true) × Steads place (l ∷ more) (steads_for (numbers_of (l ∷ more)) given)
-  kept_stead place l more [] low are steads = (refl, (inl refl, steads))
-  kept_stead place l more (g ∷ given) low are steads =
+  alone_stead place l more [] over low are steads = (refl, (LeftAlone refl over, steads))
+  alone_stead place l more (g ∷ given) over low are steads =
       let other = later_number l.record_number (numbers_of more) g given are low in (
         given_other l.record_number (numbers_of more) g given other ∙ are,
-        subst (Steads place (l ∷ more)) (sym (head_other l.record_number (numbers_of more) g given other)) (inl refl, steads),
+        subst (Steads place (l ∷ more)) (sym (head_other l.record_number (numbers_of more) g given other))
+            (LeftAlone refl over, steads),
       )
 
-  -- one in whose place other nodes are
-  added_stead : (place : ℕ) (l : Listed) (more : List Listed) (g : GivenStead) (given : List GivenStead)
-      → IsAddition (property_blocks records) (record_texts records) (map listed_of changes) excluded place l g
+  -- this is given for it
+  given_stead : (place : ℕ) (l : Listed) (more : List Listed) (g : GivenStead) (given : List GivenStead)
+      → g.number ≡ l.record_number
+      → IsSteadAt blocks texts listed excluded place l (record { nodes = g.nodes; own = own_form g.keeps })
       → are_given_for (numbers_of more) given ≡ true → Steads (suc place) more (steads_for (numbers_of more) given)
       → (are_given_for (numbers_of (l ∷ more)) (g ∷ given) ≡ true)
       × Steads place (l ∷ more) (steads_for (numbers_of (l ∷ more)) (g ∷ given))
-  added_stead place l more g given a are steads =
-      let number = eq-eqb g.number l.record_number (ap (λ (x : GivenStead). x.number) a.given) in (
+  given_stead place l more g given number_is own are steads =
+      let number = eq-eqb g.number l.record_number number_is in (
         given_same l.record_number (numbers_of more) g given number ∙ are,
-        subst (Steads place (l ∷ more)) (sym (head_same l.record_number (numbers_of more) g given number))
-            (inr (g, a, ap (λ b. record { nodes = g.nodes; own = own_form b }) (ap (λ (x : GivenStead). x.keeps) a.given)), steads),
+        subst (Steads place (l ∷ more)) (sym (head_same l.record_number (numbers_of more) g given number)) (own, steads),
       )
 
-  pub steads_are : (place : ℕ) (ls : List Listed) (given : List GivenStead) → Additions place ls given
-      → rise (numbers_of ls) ≡ true
+  pub steads_are : (place : ℕ) (ls : List Listed) (given : List GivenStead)
+      → AreAdditionsFrom blocks texts listed excluded place ls given → rise (numbers_of ls) ≡ true
       → (are_given_for (numbers_of ls) given ≡ true) × Steads place ls (steads_for (numbers_of ls) given)
   steads_are place _ _ (NoChange _) up = (refl, refl)
-  steads_are place _ _ (Kept _ l more given none rest) up =
+  steads_are place _ _ (Kept _ l more given none over rest) up =
       let parts = and_parts (list_all (λ m. nat_lt l.record_number m) (numbers_of more)) (rise (numbers_of more)) up in
       let its = steads_are (suc place) more given rest parts.1 in
-      kept_stead place l more given parts.0 its.0 its.1
+      alone_stead place l more given over parts.0 its.0 its.1
+  steads_are place _ _ (Cleared _ l more g given none over (w, deletes, is) rest) up =
+      let parts = and_parts (list_all (λ m. nat_lt l.record_number m) (numbers_of more)) (rise (numbers_of more)) up in
+      let its = steads_are (suc place) more given rest parts.1 in
+      given_stead place l more g given (ap (λ (x : GivenStead). x.number) is)
+      (ClearedFirst w (ap (λ (x : GivenStead). record { nodes = x.nodes; own = own_form x.keeps }) is) deletes over) its.0 its.1
   steads_are place _ _ (Added _ l more g given a rest) up =
       let parts = and_parts (list_all (λ m. nat_lt l.record_number m) (numbers_of more)) (rise (numbers_of more)) up in
       let its = steads_are (suc place) more given rest parts.1 in
-      added_stead place l more g given a its.0 its.1
+      given_stead place l more g given (ap (λ (x : GivenStead). x.number) a.given)
+      (InPlace g a (ap (λ b. record { nodes = g.nodes; own = own_form b }) (ap (λ (x : GivenStead). x.keeps) a.given))) its.0 its.1

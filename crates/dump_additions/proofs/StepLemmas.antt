@@ -1,5 +1,5 @@
 -- The changes of an index, one after the other, and what is in their place.
-use Rattle.std.proofs.Common.{◌≡◌, ℕ, suc, ◌+◌, ◌-◌, ◌<◌, ◌≤◌, true, false, List, [], ◌∷◌, ◌++◌, length, map, get_or, Option, Some, None, arith, refl, sym, ap, ◌∙◌, subst, append_assoc, append-nil}
+use Rattle.std.proofs.Common.{◌≡◌, ℕ, suc, ◌+◌, ◌-◌, ◌<◌, ◌≤◌, true, false, List, [], ◌∷◌, ◌++◌, length, map, get_or, Option, Some, None, arith, refl, sym, ap, ◌∙◌, subst, append_assoc, append-nil, inl, inr}
 use Rattle.std.specs.Prelude.{Err, IsNone, Ok, slice_get, take}
 use Rattle.std.specs.List.{list_all}
 use Rattle.std.proofs.lemmas.Bool.{and_from}
@@ -16,8 +16,8 @@ use Rattle.dump_changes.specs.FileTexts.{ToldText}
 use Rattle.dump_expansion.specs.GivenSteads.{GivenStead}
 use Rattle.dump_expansion.specs.steps.Given.{given_of}
 use Rattle.dump_expansion.specs.declared.expanding.Stead as code
-use Rattle.dump_additions.specs.Additions.{Added, AreAdditionsFrom, BringsNone, IsAddition, Kept, NoChange}
-use Rattle.dump_additions.specs.FirstNotAdded.{CannotBeAdded, IsFirstNotAdded}
+use Rattle.dump_additions.specs.Additions.{Added, AreAdditionsFrom, BringsNone, Cleared, Kept, NoChange, copies_over}
+use Rattle.dump_additions.specs.FirstNotAdded.{CannotStay, IsFirstNotAdded}
 use Rattle.dump_additions.specs.steps.Nodes.{IsAdditionOr}
 use Rattle.dump_additions.specs.declared.not_added.Reason.{Reason}
 
@@ -39,10 +39,9 @@ module _ (blocks : List (List ℕ)) (texts : List ToldText) (listed : List Liste
   pub going_on : IsGoingOn 0 []
   going_on = record { goes_on = λ rest more are. are; written = refl }
 
-  -- where nothing is in place of the change, nothing comes back with it
+  -- where nothing is in place of the change, nothing comes back with it, and it is over nothing
   pub nothing_back : (at : ℕ) (l : Listed) (found : Option code.Stead) → ((s : code.Stead) → found ≡ Some s → ⊥)
-      → IsAdditionOr blocks texts listed excluded at l (Ok found)
-      → BringsNone blocks texts listed excluded (names_of l.path) l.made
+      → IsAdditionOr blocks texts listed excluded at l (Ok found) → IsAdditionOr blocks texts listed excluded at l (Ok None)
   nothing_back at l None none is = is
   nothing_back at l (Some s) none is = absurd (none s refl)
 
@@ -65,24 +64,35 @@ module _ (blocks : List (List ℕ)) (texts : List ToldText) (listed : List Liste
     plus : place + 1 ≡ suc place
     plus = omega arith
 
-    pub kept_next : BringsNone blocks texts listed excluded (names_of here.path) here.made → IsGoingOn (place + 1) done
-    kept_next none = record {
+    back_one : (place + 1) - 1 ≡ place
+    back_one = omega arith
+
+    pub kept_next : BringsNone blocks texts listed excluded (names_of here.path) here.made
+        → copies_over listed place here ≡ false → IsGoingOn (place + 1) done
+    kept_next none over = record {
       goes_on = λ rest more are.
           subst (λ ls. AreAdditionsFrom blocks texts listed excluded 0 ls (done ++ more)) (sym (next rest))
           (going.goes_on (here ∷ rest) more
-          (Kept place here rest more none (subst (λ n. AreAdditionsFrom blocks texts listed excluded n rest more) plus are)));
+          (Kept place here rest more none over (subst (λ n. AreAdditionsFrom blocks texts listed excluded n rest more) plus are)));
       written = going.written;
     }
 
-    pub added_next : (g : GivenStead) → IsAddition blocks texts listed excluded place here g
-        → list_all can_be_written g.nodes ≡ true → IsGoingOn (place + 1) (done ++ g ∷ [])
-    added_next g addition ok = record {
+    pub none_next : IsAdditionOr blocks texts listed excluded ((place + 1) - 1) here (Ok None) → IsGoingOn (place + 1) done
+    none_next (none, over) = kept_next none (subst (λ n. copies_over listed n here ≡ false) back_one over)
+
+    -- this may be in place of the change, or before it
+    abbrev MayFollow : GivenStead → Type 0
+    MayFollow g = (rest : List Listed) (more : List GivenStead)
+        → AreAdditionsFrom blocks texts listed excluded (suc place) rest more
+        → AreAdditionsFrom blocks texts listed excluded place (here ∷ rest) (g ∷ more)
+
+    added_next : (g : GivenStead) → MayFollow g → list_all can_be_written g.nodes ≡ true → IsGoingOn (place + 1) (done ++ g ∷ [])
+    added_next g follows ok = record {
       goes_on = λ rest more are.
           subst (AreAdditionsFrom blocks texts listed excluded 0 (take (place + 1) listed ++ rest)) (sym (append_assoc done (g ∷ []) more))
           (subst (λ ls. AreAdditionsFrom blocks texts listed excluded 0 ls (done ++ g ∷ more)) (sym (next rest))
           (going.goes_on (here ∷ rest) (g ∷ more)
-          (Added place here rest g more addition
-          (subst (λ n. AreAdditionsFrom blocks texts listed excluded n rest more) plus are))));
+          (follows rest more (subst (λ n. AreAdditionsFrom blocks texts listed excluded n rest more) plus are))));
       written =
           list_all-append (λ (x : GivenStead). list_all can_be_written x.nodes) done (g ∷ [])
           ∙ and_from _ _ going.written (and_from _ _ ok refl);
@@ -90,7 +100,7 @@ module _ (blocks : List (List ℕ)) (texts : List ToldText) (listed : List Liste
 
     pub stopped : (reason : Reason) → IsAdditionOr blocks texts listed excluded ((place + 1) - 1) here (Err reason)
         → IsFirstNotAdded blocks texts listed excluded place reason
-    stopped reason (back, why) = record {
+    stopped reason why = record {
       before = done;
       are_before =
           subst (λ ls. AreAdditionsFrom blocks texts listed excluded 0 ls done) (append-nil (take place listed))
@@ -98,21 +108,23 @@ module _ (blocks : List (List ℕ)) (texts : List ToldText) (listed : List Liste
           (going.goes_on [] [] (NoChange place)));
       change = here;
       is_at = ap (λ ls. slice_get ls place) (sym xs_are) ∙ listed_at xs place d low;
-      comes_back = back;
-      why = subst (λ n. CannotBeAdded blocks texts listed excluded n here reason)
-          (let same : (place + 1) - 1 ≡ place = omega arith in same) why;
+      why = subst (λ n. CannotStay blocks texts listed excluded n here reason) back_one why;
     }
 
     pub going_further : (s : code.Stead) (new : List code.Stead) (old : List code.Stead) → done ≡ map given_of old
         → new ≡ old ++ s ∷ [] → IsAdditionOr blocks texts listed excluded ((place + 1) - 1) here (Ok (Some s))
         → IsGoingOn (place + 1) (map given_of new)
-    going_further s new old done_is new_is (addition, ok) =
+    going_further s new old done_is new_is found =
         subst (IsGoingOn (place + 1))
         (ap (λ (gs : List GivenStead). gs ++ given_of s ∷ []) done_is
         ∙ (sym (map-append given_of old (s ∷ [])) ∙ ap (map given_of) (sym new_is)))
-        (added_next (given_of s)
-        (subst (λ n. IsAddition blocks texts listed excluded n here (given_of s)) (let same : (place + 1) - 1 ≡ place = omega arith in same) addition)
-        ok)
+        (elim (subst (λ n. IsAdditionOr blocks texts listed excluded n here (Ok (Some s))) back_one found) [
+          | inl (addition, ok) ↦
+              added_next (given_of s) (λ rest more are. Added place here rest (given_of s) more addition are) ok
+          | inr (none, clears) ↦
+              added_next (given_of s)
+              (λ rest more are. Cleared place here rest (given_of s) more none clears.0 clears.1 are) clears.2
+        ])
 
   pub all_done : (xs : List NodeChange) → map listed_of xs ≡ listed → (place : ℕ) → length xs ≤ place → (done : List GivenStead)
       → IsGoingOn place done → AreAdditionsFrom blocks texts listed excluded 0 listed done

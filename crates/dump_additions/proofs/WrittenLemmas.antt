@@ -93,12 +93,12 @@ once name (other ∷ names) (less, all) =
         absurd (let bad : true ≡ false = sym ((bytes_eq-Decides name name).1 refl)
         ∙ (texts_ties name name ∙ ap is_eq (ap (λ n. slice_cmp nat_cmp name n) (sym same) ∙ less)) in cc)
 
-head_once : (name : List ℕ) (names : List (List ℕ)) → IsStrictlySortedBy (slice_cmp nat_cmp) (name ∷ names)
+pub head_once : (name : List ℕ) (names : List (List ℕ)) → IsStrictlySortedBy (slice_cmp nat_cmp) (name ∷ names)
     → is_child_named names name ≡ false
 unfolding IsStrictlySortedBy
 head_once name names ordered = once name names ordered.0
 
-tail_ordered : (name : List ℕ) (names : List (List ℕ)) → IsStrictlySortedBy (slice_cmp nat_cmp) (name ∷ names)
+pub tail_ordered : (name : List ℕ) (names : List (List ℕ)) → IsStrictlySortedBy (slice_cmp nat_cmp) (name ∷ names)
     → IsStrictlySortedBy (slice_cmp nat_cmp) names
 unfolding IsStrictlySortedBy
 tail_ordered name names ordered = ordered.1

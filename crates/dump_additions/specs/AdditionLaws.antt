@@ -1,5 +1,5 @@
 -- A dump in which other nodes are in place of the copies with which something excluded comes back.
-use Rattle.std.specs.Prelude.{◌≡◌, ℕ, List, [], ◌∷◌, map, IsTrue}
+use Rattle.std.specs.Prelude.{◌≡◌, ℕ, List, [], ◌∷◌, map, IsTrue, IsFalse}
 use Rattle.dump_text.specs.PropertyList.{Property}
 use Rattle.dump_records.specs.DumpText.{Ending, HasRecords}
 use Rattle.dump_records.specs.RecordText.{DumpRecord}
@@ -9,6 +9,7 @@ use Rattle.dump_trees.specs.Changes.{Change}
 use Rattle.dump_trees.specs.Expansions.{AllRevisionsExpand}
 use Rattle.dump_trees.specs.Paths.{NodePath}
 use Rattle.dump_trees.specs.Trees.{Tree, root_alone}
+use Rattle.dump_history.specs.CopiesOver.{some_copies_over}
 use Rattle.dump_history.specs.DumpChanges.{HaveRevisionProperties, LoadsAs}
 use Rattle.dump_history.specs.ExpandedText.{made_in_stead}
 use Rattle.dump_history.specs.RecordChanges.{Patching}
@@ -22,7 +23,7 @@ use Rattle.dump_expansion.specs.GivenSteads.{GivenStead, IsExpandedBy, steads_in
 use Rattle.dump_additions.specs.Additions.{AreAdditionsFrom}
 
 -- the dump loads into an empty repository, an index lists its changes, and these are in place of those with which something
--- excluded comes back
+-- excluded comes back, and before copies over something
 pub record HasAdditions (patched : Patching) (dump : List ℕ) (records : List DumpRecord) (changes : List NodeChange)
     (revisions : List (List Change)) (trees : List Tree) (excluded : List NodePath) (given : List GivenStead) : Type 0 where
   pub has : HasRecords dump records Ending.Whole
@@ -50,3 +51,10 @@ AdditionsLoadTheSame = (patched : Patching) (dump text : List ℕ) (records : Li
     × LoadsAs patched root_alone again (made_in_stead records (steads_in 0 records given) revisions) trees
     × (revision_numbers again ≡ revision_numbers records)
     × ((props : List (List Property)) → HaveRevisionProperties records props → HaveRevisionProperties again props)
+
+-- and no copy in it is over what its own revision changed
+abbrev pub AdditionsCopyOverNothing : Type 0
+AdditionsCopyOverNothing = (patched : Patching) (dump : List ℕ) (records : List DumpRecord) (changes : List NodeChange)
+    (revisions : List (List Change)) (trees : List Tree) (excluded : List NodePath) (given : List GivenStead)
+    (path : NodePath) → HasAdditions patched dump records changes revisions trees excluded given
+    → IsFalse (some_copies_over path (made_in_stead records (steads_in 0 records given) revisions))

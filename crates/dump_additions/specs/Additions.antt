@@ -1,8 +1,9 @@
--- What is written in place of the copies of a dump with which something excluded comes back.
-use Rattle.std.specs.Prelude.{◌≡◌, ℕ, suc, false, List, [], ◌∷◌, ◌++◌, Option, Some, None, is_some, ⊤}
+-- What is written in place of the copies of a dump with which something excluded comes back, and before copies over something.
+use Rattle.std.specs.Prelude.{◌≡◌, ℕ, suc, Bool, true, false, not, ◌&&◌, List, [], ◌∷◌, ◌++◌, Option, Some, None, is_some, IsTrue, IsFalse, ⊤}
 use Rattle.std.specs.List.{AllZip}
 use Rattle.dump_text.specs.PropertyList.{Property}
-use Rattle.dump_trees.specs.Changes.{Made}
+use Rattle.dump_trees.specs.Changes.{Made, is_copied}
+use Rattle.dump_trees.specs.ExpansionCases.{deletion_of}
 use Rattle.dump_trees.specs.Looking.{end_of}
 use Rattle.dump_trees.specs.Paths.{NodePath, names_of}
 use Rattle.dump_trees.specs.WritingOut.{copy_of, file_of, folder_of}
@@ -39,6 +40,15 @@ abbrev pub SaysKind : Option NodeKind → WrittenNode → Type 0
 SaysKind None w = ⊤
 SaysKind (Some kinds.Folder) w = kind_said w ≡ Some format.NodeKind.Dir
 SaysKind (Some kinds.File) w = kind_said w ≡ Some format.NodeKind.File
+
+-- whether the change at this place copies over something that exists before it, and doesn't delete it first
+abbrev pub copies_over : List Listed → ℕ → Listed → Bool
+copies_over listed place l = is_copied l.made && not l.deletes && is_some (kind_look listed place (names_of l.path))
+
+-- before the change, which stays, is a node that deletes what exists at its path
+abbrev pub IsCleared : Listed → GivenStead → Type 0
+IsCleared l g = (w : WrittenNode) × (written_change w ≡ deletion_of (names_of l.path))
+    × (g ≡ record { number = l.record_number; nodes = w ∷ []; keeps = true })
 
 module _ (blocks : List (List ℕ)) (texts : List ToldText) (listed : List Listed) (excluded : List NodePath) (number : ℕ)
     (path source : NodePath) where
@@ -106,11 +116,15 @@ module _ (blocks : List (List ℕ)) (texts : List ToldText) (listed : List Liste
   BringsNone path (Some Made.NewFile) = ⊤
   BringsNone path (Some (Made.Copied number source)) = TakesWhole listed excluded number path source []
 
-  -- of the changes from this place on, those with which something comes back have these in their place, in order
+  -- of the changes from this place on, those with which something comes back have these in their place, and the others that copy
+  -- over something have these before them, in order. So svnadmin load takes a copy over what is written in place of an earlier one
   pub data AreAdditionsFrom : ℕ → List Listed → List GivenStead → Type 0 where
     NoChange : (place : ℕ) → AreAdditionsFrom place [] []
     Kept : (place : ℕ) (l : Listed) (more : List Listed) (given : List GivenStead) → BringsNone (names_of l.path) l.made
-        → AreAdditionsFrom (suc place) more given → AreAdditionsFrom place (l ∷ more) given
+        → IsFalse (copies_over listed place l) → AreAdditionsFrom (suc place) more given → AreAdditionsFrom place (l ∷ more) given
+    Cleared : (place : ℕ) (l : Listed) (more : List Listed) (g : GivenStead) (given : List GivenStead)
+        → BringsNone (names_of l.path) l.made → IsTrue (copies_over listed place l) → IsCleared l g
+        → AreAdditionsFrom (suc place) more given → AreAdditionsFrom place (l ∷ more) (g ∷ given)
     Added : (place : ℕ) (l : Listed) (more : List Listed) (g : GivenStead) (given : List GivenStead)
         → IsAddition place l g → AreAdditionsFrom (suc place) more given
         → AreAdditionsFrom place (l ∷ more) (g ∷ given)

@@ -1,5 +1,5 @@
 -- Which copy can't be written as other nodes, and why.
-use Rattle.std.specs.Prelude.{◌≡◌, ◌≢◌, ◌⊎◌, ℕ, suc, false, List, [], ◌∷◌, ◌++◌, Option, Some, None, slice_get, take}
+use Rattle.std.specs.Prelude.{◌≡◌, ◌≢◌, ◌⊎◌, ℕ, suc, false, List, [], ◌∷◌, ◌++◌, Option, Some, None, slice_get, take, IsTrue}
 use Rattle.std.specs.List.{Contains, list_all}
 use Rattle.dump_trees.specs.Changes.{Made}
 use Rattle.dump_trees.specs.Looking.{end_of}
@@ -10,7 +10,7 @@ use Rattle.dump_index.specs.declared.change.NodeKind.TheVariants as kinds
 use Rattle.dump_index.specs.declared.change.Setting.TheVariants.{Keeps}
 use Rattle.dump_changes.specs.FileTexts.{IsStoredAt, TextStored, ToldText}
 use Rattle.dump_expansion.specs.GivenSteads.{GivenStead}
-use Rattle.dump_additions.specs.Additions.{AreAdditionsFrom, IsAddition}
+use Rattle.dump_additions.specs.Additions.{AreAdditionsFrom, BringsNone, IsAddition, IsCleared, copies_over}
 use Rattle.dump_additions.specs.Parts.{ArePartsOf, PartMeant, TakesSomeBack, kind_in}
 use Rattle.dump_additions.specs.declared.not_added.Reason.{Reason}
 use Rattle.dump_additions.specs.declared.not_added.Reason.TheVariants.{Delta, NoLoad, NotWritable}
@@ -60,11 +60,22 @@ module _ (blocks : List (List ℕ)) (texts : List ToldText) (listed : List Liste
   BringsSome path (Some Made.NewFile) = ⊥
   BringsSome path (Some (Made.Copied number source)) = TakesSomeBack listed excluded number path source []
 
-  -- the change at this place is the first with which something comes back that can't be written
+  -- the change at this place copies over something, and a node that deletes it isn't read as it is meant
+  abbrev pub CannotBeCleared : ℕ → Listed → Reason → Type 0
+  CannotBeCleared place l reason = BringsNone blocks texts listed excluded (names_of l.path) l.made
+      × IsTrue (copies_over listed place l) × (reason ≡ NotWritable)
+      × ((g : GivenStead) × IsCleared l g × (list_all can_be_written g.nodes ≡ false))
+
+  -- the change at this place can't be in the dump with additions: something comes back with it that can't be written, or what it
+  -- copies over can't be deleted
+  abbrev pub CannotStay : ℕ → Listed → Reason → Type 0
+  CannotStay place l reason = (BringsSome (names_of l.path) l.made × CannotBeAdded place l reason)
+      ⊎ CannotBeCleared place l reason
+
+  -- it is the first such change
   pub record IsFirstNotAdded (place : ℕ) (reason : Reason) : Type 0 where
     pub before : List GivenStead
     pub are_before : AreAdditionsFrom blocks texts listed excluded 0 (take place listed) before
     pub change : Listed
     pub is_at : slice_get listed place ≡ Some change
-    pub comes_back : BringsSome (names_of change.path) change.made
-    pub why : CannotBeAdded place change reason
+    pub why : CannotStay place change reason

@@ -1,6 +1,7 @@
-//! What is written in place of the copies with which something excluded comes back.
+//! What is written in place of the copies with which something excluded comes back, and before copies over something.
 ghost use Rattle.std.specs.Prelude.{◌≡◌, ◌<◌, ◌-◌, ◌++◌, ◌∷◌, [], List, IfOk, IsTrue, map, Some};
 ghost use Rattle.std.specs.List.{list_all};
+ghost use Rattle.dump_trees.specs.Changes.{is_copied};
 ghost use Rattle.dump_trees.specs.Paths.{NodePath, names_of};
 ghost use Rattle.dump_trees.specs.Siblings.{has_node_names};
 ghost use Rattle.dump_trees.specs.WritingOut.{copy_of};
@@ -13,7 +14,7 @@ ghost use Rattle.dump_expansion.specs.steps.NewNodes.{written_of};
 ghost use Rattle.dump_additions.specs.Additions.{SaysKind};
 ghost use Rattle.dump_additions.specs.Parts.{ArePartsOf, kind_in};
 ghost use Rattle.dump_additions.specs.declared.parts.Form.TheVariants as forms;
-ghost use Rattle.dump_additions.specs.steps.Nodes.{AddsNodes, AreAdditions, IsAdditionOr, IsDirectoryNode, IsNodeOrDelta, IsRootOr, IsRootText, IsSteadOr, given_found};
+ghost use Rattle.dump_additions.specs.steps.Nodes.{AddsNodes, AreAdditions, IsAdditionOr, IsClearingOr, IsDirectoryNode, IsNodeOrDelta, IsRootOr, IsRootText, IsSteadFor, IsSteadOr, given_found};
 ghost use Rattle.dump_additions.specs.steps.Parts.{part_meant};
 
 use crate::not_added::{NotAdded, Reason};
@@ -227,6 +228,25 @@ fn root_node<'a>(
     }
 }
 
+/// These nodes for this change, which follows them or doesn't. Or that one of them can't be written.
+fn stead_for<'a>(
+    change: &NodeChange<'_>,
+    nodes: Vec<NewNode<'a>>,
+    keeps: bool,
+) -> Result<Stead<'a>, Reason>
+    ensures { IsSteadFor change.now.record_number (map written_of nodes.entry.items) keeps result }
+{
+    let stead = Stead {
+        record_number: change.record_number,
+        nodes,
+        keeps,
+    };
+    if !stead.can_be_written() {
+        return Err(Reason::NotWritable);
+    }
+    Ok(stead)
+}
+
 /// What is written in place of this change, the last of so many, which copies something in this form. These are the parts in
 /// it. Or why nothing can be written.
 fn stead_of<'a>(
@@ -259,19 +279,37 @@ fn stead_of<'a>(
     if let Some(place) = push_nodes(alloc, table, texts, index, path, source, inside, &mut nodes)? {
         return Ok(Err(Reason::Delta(place)));
     }
-    let stead = Stead {
-        record_number: change.record_number,
-        nodes,
-        keeps: false,
-    };
-    if !stead.can_be_written() {
-        return Ok(Err(Reason::NotWritable));
-    }
-    Ok(Ok(stead))
+    Ok(stead_for(change, nodes, false))
 }
 
-/// What is written in place of this change, the last of so many, which is a copy; none, if nothing excluded comes back with
-/// it. Or why nothing can be written.
+/// What is written before this change, the last of so many, which is a copy: a node that deletes what exists at its path, if
+/// something does, and the change doesn't delete it itself. Or why that can't be written.
+fn clearing_of<'a>(
+    alloc: Global,
+    index: &ChangeIndex<'_>,
+    count: usize,
+    change: &NodeChange<'_>,
+) -> Result<Result<Option<Stead<'a>>, Reason>, Memory>
+    requires index { IsTrue (list_all has_named_paths index.now) }
+    requires named { IsTrue (has_named_paths (listed_of change.now)) }
+    requires count { 0 < count }
+    requires copies { IsTrue (is_copied (listed_of change.now).made) }
+    ensures { IfOk result (IsClearingOr index.now (count - 1) (listed_of change.now)) }
+{
+    if change.deletes || index.kind_at(alloc, change.path, count - 1)?.is_none() {
+        return Ok(Ok(None));
+    }
+    let path = Vec::from_slice(alloc, change.path)?;
+    let mut nodes = Vec::new(alloc);
+    nodes.push(NewNode::Deletion { path })?;
+    match stead_for(change, nodes, true) {
+        Ok(clearing) => Ok(Ok(Some(clearing))),
+        Err(reason) => Ok(Err(reason)),
+    }
+}
+
+/// What is written in place of this change, the last of so many, which is a copy, if something excluded comes back with it, and
+/// else before it, if it is over something. Or why nothing can be written.
 fn addition_of<'a>(
     alloc: Global,
     table: &PropertyTable<'a>,
@@ -294,7 +332,7 @@ fn addition_of<'a>(
     };
     let form = top.form;
     if let Form::Copy = form {
-        return Ok(Ok(None));
+        return clearing_of(alloc, index, count, change);
     }
     match stead_of(
         alloc, table, texts, index, count, change, source, form, inside,
@@ -305,8 +343,9 @@ fn addition_of<'a>(
 }
 
 /// What is written in place of each copy with which something excluded comes back: the directory or the file that it makes,
-/// with the directories and files in it that come back, and copies of all else. An error is the first such copy in whose
-/// place nothing can be written, with the reason. Both tables and the index have to be of one dump.
+/// with the directories and files in it that come back, and copies of all else. Before each other copy over something is a node
+/// that deletes this: `svnadmin load` rejects a copy over what the same revision added. An error is the first copy for which
+/// nothing can be written, with the reason. Both tables and the index have to be of one dump.
 pub fn additions<'a>(
     alloc: Global,
     table: &PropertyTable<'a>,

@@ -57,6 +57,19 @@ Node-path: g\nNode-kind: file\nNode-action: replace\n\
 Prop-content-length: 36\nText-content-length: 3\nContent-length: 39\n\n\
 K 14\nsvn:executable\nV 1\n*\nPROPS-END\nhi\n\n\n";
 
+/// A file, and in the next revision a copy of another one over it.
+const COPY_OVER: &str =
+    "Node-path: g\nNode-kind: file\nNode-action: add\n\n\nRevision-number: 4\n\n\
+Node-path: g\nNode-kind: file\nNode-action: add\n\
+Node-copyfrom-rev: 1\nNode-copyfrom-path: old/sub/f\n\n\n";
+
+/// The same, if nothing comes back with the copy.
+const FILE_DELETED: &str =
+    "Node-path: g\nNode-kind: file\nNode-action: add\n\n\nRevision-number: 4\n\n\
+Node-path: g\nNode-action: delete\n\n\n\
+Node-path: g\nNode-kind: file\nNode-action: add\n\
+Node-copyfrom-rev: 1\nNode-copyfrom-path: old/sub/f\n\n\n";
+
 /// What is in place of the copy, if `new/readme` and `new/sub/f` are excluded too.
 const ADDED: &str = "Node-path: new\nNode-kind: dir\nNode-action: add\nProp-content-length: 22\n\
 Content-length: 22\n\nK 1\np\nV 1\nx\nPROPS-END\n\n\n\
@@ -174,6 +187,12 @@ fn directories_are_added(rt: HostRuntime) -> Result<(), Fail> {
 fn files_are_added(rt: HostRuntime) -> Result<(), Fail> {
     assert!(rt; expands(rt.alloc(), COPY, &[b"old/sub/f"], FILE_ADDED)?);
     assert!(rt; expands(rt.alloc(), FILE_COPY, &[b"old"], FILE_REPLACED)?);
+    Ok(())
+}
+
+#[test]
+fn what_a_copy_is_over_is_deleted(rt: HostRuntime) -> Result<(), Fail> {
+    assert!(rt; expands(rt.alloc(), COPY_OVER, &[b"new"], FILE_DELETED)?);
     Ok(())
 }
 

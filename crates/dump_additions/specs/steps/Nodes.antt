@@ -1,5 +1,5 @@
 -- Nodes that are added to others, and why some can't be.
-use Rattle.std.specs.Prelude.{◌≡◌, ◌≢◌, ℕ, suc, true, List, ◌++◌, map, Option, Some, None, Result, Ok, Err}
+use Rattle.std.specs.Prelude.{◌≡◌, ◌≢◌, ◌⊎◌, ℕ, suc, Bool, true, false, List, ◌++◌, map, Option, Some, None, Result, Ok, Err, IsTrue, IsFalse}
 use Rattle.std.specs.Global.{Vec}
 use Rattle.std.specs.List.{list_all}
 use Rattle.dump_text.specs.PropertyList.{Property}
@@ -8,7 +8,6 @@ use Rattle.dump_trees.specs.Paths.{NodePath, names_of}
 use Rattle.dump_trees.specs.WritingOut.{folder_of}
 use Rattle.dump_history.specs.WrittenNodes.{WrittenNode, can_be_written, written_change}
 use Rattle.dump_index.specs.Listed.{Listed, all_placed}
-use Rattle.dump_index.specs.declared.change.NodeKind.TheVariants as kinds
 use Rattle.dump_index.specs.declared.change.Setting.TheVariants.{Keeps}
 use Rattle.dump_changes.specs.FileTexts.{IsStoredAt, TextStored, ToldText}
 use Rattle.dump_changes.specs.NodeProperties.{ArePropertiesAt}
@@ -19,8 +18,8 @@ use Rattle.dump_expansion.specs.steps.Given.{given_of}
 use Rattle.dump_expansion.specs.steps.NewNodes.{written_of}
 use Rattle.dump_expansion.specs.declared.expanding.Stead as code
 use Rattle.dump_expansion.specs.declared.written_node.NewNode.{NewNode}
-use Rattle.dump_additions.specs.Additions.{AreAdditionsFrom, AreNodesOf, BringsNone, IsAddition, IsNodeOf, IsRootOf}
-use Rattle.dump_additions.specs.FirstNotAdded.{BringsSome, CannotBeAdded, HasDelta, IsDeltaIn, IsFirstNotAdded}
+use Rattle.dump_additions.specs.Additions.{AreAdditionsFrom, AreNodesOf, BringsNone, IsAddition, IsCleared, IsNodeOf, IsRootOf, copies_over}
+use Rattle.dump_additions.specs.FirstNotAdded.{CannotBeAdded, CannotStay, HasDelta, IsDeltaIn, IsFirstNotAdded}
 use Rattle.dump_additions.specs.Parts.{PartMeant}
 use Rattle.dump_additions.specs.declared.not_added.NotAdded.{NotAdded}
 use Rattle.dump_additions.specs.declared.not_added.Reason.{Reason}
@@ -64,6 +63,21 @@ module _ (blocks : List (List ℕ)) (texts : List ToldText) (listed : List Liste
       × AreNodesOf blocks texts listed excluded number path source parts more
   AddsNodes parts old new (Some at) = HasDelta blocks texts listed excluded number path source parts at
 
+-- these nodes are for the node of this number; or one of them can't be written
+abbrev pub IsSteadFor : ℕ → List WrittenNode → Bool → Result code.Stead Reason → Type 0
+IsSteadFor number nodes keeps (Ok stead) = (given_of stead ≡ record { number = number; nodes = nodes; keeps = keeps })
+    × (list_all can_be_written nodes ≡ true)
+IsSteadFor number nodes keeps (Err reason) = (reason ≡ NotWritable) × (list_all can_be_written nodes ≡ false)
+
+-- what is before the change at this place, with which nothing comes back; or that it can't be written
+abbrev pub IsClearingOr : List Listed → ℕ → Listed → Result (Option code.Stead) Reason → Type 0
+IsClearingOr listed place l (Ok None) = IsFalse (copies_over listed place l)
+IsClearingOr listed place l (Ok (Some stead)) = IsTrue (copies_over listed place l)
+    × IsCleared l (given_of stead)
+    × (list_all can_be_written (given_of stead).nodes ≡ true)
+IsClearingOr listed place l (Err reason) = IsTrue (copies_over listed place l) × (reason ≡ NotWritable)
+    × ((g : GivenStead) × IsCleared l g × (list_all can_be_written g.nodes ≡ false))
+
 module _ (blocks : List (List ℕ)) (texts : List ToldText) (listed : List Listed) (excluded : List NodePath) where
   -- the node writes what the change at this place makes at its path; or its text is why none does
   abbrev pub IsRootOr : ℕ → Listed → Form → Result NewNode Reason → Type 0
@@ -76,13 +90,15 @@ module _ (blocks : List (List ℕ)) (texts : List ToldText) (listed : List Liste
       × (list_all can_be_written (given_of stead).nodes ≡ true)
   IsSteadOr place l (Err reason) = CannotBeAdded blocks texts listed excluded place l reason
 
-  -- so where nothing is in its place, nothing comes back with it
+  -- what is in place of the change at this place, or before it, or why it can't stay
   abbrev pub IsAdditionOr : ℕ → Listed → Result (Option code.Stead) Reason → Type 0
   IsAdditionOr place l (Ok None) = BringsNone blocks texts listed excluded (names_of l.path) l.made
+      × IsFalse (copies_over listed place l)
   IsAdditionOr place l (Ok (Some stead)) = IsSteadOr place l (Ok stead)
-  IsAdditionOr place l (Err reason) = BringsSome blocks texts listed excluded (names_of l.path) l.made × CannotBeAdded blocks texts listed excluded place l reason
+      ⊎ (BringsNone blocks texts listed excluded (names_of l.path) l.made × IsClearingOr listed place l (Ok (Some stead)))
+  IsAdditionOr place l (Err reason) = CannotStay blocks texts listed excluded place l reason
 
-  -- what is in place of all such changes; or the first one that can't be written
+  -- what is in place of all such changes, or before them; or the first one that can't stay
   abbrev pub AreAdditions : Result (List GivenStead) NotAdded → Type 0
   AreAdditions (Ok given) = AreAdditionsFrom blocks texts listed excluded 0 listed given
       × (list_all (λ (g : GivenStead). list_all can_be_written g.nodes) given ≡ true)

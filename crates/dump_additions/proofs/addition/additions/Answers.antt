@@ -1,13 +1,14 @@
 use Rattle.std.proofs.Common.{◌≡◌, ◌==◌, ◌+◌, ◌-◌, List, Some, get_or, map, option_map, ap, ◌∙◌, sym, subst}
 use Rattle.std.specs.List.{list_all}
 use Rattle.std.specs.Prelude.{Ok}
+use Rattle.std.proofs.lemmas.Bool.{and_left}
 use Rattle.dump_index.specs.Listed.{listed_of}
 use Rattle.dump_cut.specs.NamedPaths.{has_named_paths}
 use Rattle.dump_cut.specs.steps.ExcludedPaths.{paths_of}
 use Rattle.dump_cut.proofs.CheckLemmas.{named_at}
 use Rattle.dump_expansion.specs.steps.Given.{given_of}
 use Rattle.dump_additions.specs.steps.Nodes.{IsAdditionOr}
-use Rattle.dump_additions.proofs.StepLemmas.{all_done, going_further, kept_next, no_change, no_copy, none_of, nothing_back, stopped}
+use Rattle.dump_additions.proofs.StepLemmas.{all_done, going_further, kept_next, no_change, none_next, no_copy, none_of, nothing_back, stopped}
 use Rattle.dump_additions.proofs.addition.additions.Goals as goal
 
 pub loop-place-preserved-in_default : goal.loop-place-preserved-in_default
@@ -17,6 +18,7 @@ loop-place-preserved-in_default c =
     c.loop-place.invariant
     (no_copy c.args.table.now c.args.texts.now c.args.index.now (paths_of c.args.excluded.now) _ _
     (c.source_of.ensures.none (none_of c.source_of.result c.in_default.not-Some)))
+    (and_left _ _ (and_left _ _ (c.source_of.ensures.none (none_of c.source_of.result c.in_default.not-Some))))
 
 pub addition_of-requires-clause-named : goal.addition_of-requires-clause-named
 addition_of-requires-clause-named c =
@@ -33,7 +35,7 @@ returns-in-Err c =
 
 pub loop-place-preserved-in_default-found : goal.loop-place-preserved-in_default-found
 loop-place-preserved-in_default-found c =
-    kept_next c.args.table.now c.args.texts.now c.args.index.now (paths_of c.args.excluded.now) c.changes-change-items.result.now
+    none_next c.args.table.now c.args.texts.now c.args.index.now (paths_of c.args.excluded.now) c.changes-change-items.result.now
     c.changes-change-items.ensures c.loop-place.place no_change c.loop-place-test.true (map given_of c.loop-place.steads.items)
     c.loop-place.invariant
     (nothing_back c.args.table.now c.args.texts.now c.args.index.now (paths_of c.args.excluded.now) (c.loop-place.place + 1 - 1)

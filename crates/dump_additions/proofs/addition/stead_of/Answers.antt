@@ -1,10 +1,10 @@
-use Rattle.std.proofs.Common.{◌-◌, ◌∷◌, ◌++◌, [], map, option_map, ap, ◌∙◌, sym, subst}
+use Rattle.std.proofs.Common.{◌-◌, ◌∷◌, ◌++◌, [], map, option_map, ap, ◌∙◌, subst}
 use Rattle.dump_trees.specs.Paths.{names_of}
 use Rattle.dump_index.specs.Listed.{listed_made, listed_of}
 use Rattle.dump_expansion.specs.steps.NewNodes.{written_of}
 use Rattle.dump_additions.specs.steps.Nodes.{AddsNodes, IsRootOr}
 use Rattle.dump_additions.specs.steps.Parts.{part_meant}
-use Rattle.dump_additions.proofs.NodeLemmas.{all_added, inside_refused, not_written, root_refused, stead_made}
+use Rattle.dump_additions.proofs.NodeLemmas.{all_added, inside_refused, root_refused, stead_made, stead_or}
 use Rattle.dump_additions.proofs.addition.stead_of.Goals as goal
 
 pub returns-in-Err : goal.returns-in-Err
@@ -24,11 +24,11 @@ returns-in-Some c = λ excluded are.
     (names_of c.args.change.now.path.now) (names_of c.args.source.path.now) (map part_meant c.args.inside.now)
     (map written_of c.push.new.self.items) (map written_of c.push_nodes.new.nodes.items)) c.in-Some.is (c.in_ok-place.ensures excluded))
 
-pub returns-then-not-can_be_written : goal.returns-then-not-can_be_written
-returns-then-not-can_be_written c = λ excluded are.
-    not_written c.args.table.now c.args.texts.now c.args.index.now excluded (c.args.count - 1) (listed_of c.args.change.now)
+pub returns : goal.returns
+returns c = λ excluded are.
+    stead_or c.args.table.now c.args.texts.now c.args.index.now excluded (c.args.count - 1) (listed_of c.args.change.now)
     c.args.source.revision (names_of c.args.source.path.now) (ap (option_map listed_made) c.requires.copies) c.args.form
-    (map part_meant c.args.inside.now) are _
+    (map part_meant c.args.inside.now) are (map written_of c.push_nodes.new.nodes.items)
     (stead_made c.args.table.now c.args.texts.now c.args.index.now excluded (c.args.count - 1) (listed_of c.args.change.now)
     c.args.source.revision (names_of c.args.source.path.now) (ap (option_map listed_made) c.requires.copies) c.args.form
     (map part_meant c.args.inside.now) are
@@ -41,21 +41,4 @@ returns-then-not-can_be_written c = λ excluded are.
     (names_of c.args.change.now.path.now) (names_of c.args.source.path.now) (map part_meant c.args.inside.now)
     (map written_of c.push.new.self.items) (map written_of c.push_nodes.new.nodes.items) c.in_ok-place.field-0
     c.in_default.not-Some (c.in_ok-place.ensures excluded)))
-    (sym c.can_be_written.ensures ∙ c.if-not-can_be_written.true)
-
-pub returns : goal.returns
-returns c = λ excluded are. (
-  stead_made c.args.table.now c.args.texts.now c.args.index.now excluded (c.args.count - 1) (listed_of c.args.change.now)
-      c.args.source.revision (names_of c.args.source.path.now) (ap (option_map listed_made) c.requires.copies) c.args.form
-      (map part_meant c.args.inside.now) are
-      (written_of c.in-Ok.root)
-      (subst (IsRootOr c.args.table.now c.args.texts.now c.args.index.now excluded (c.args.count - 1) (listed_of c.args.change.now)
-      c.args.form) c.in-Ok.is (c.in_ok-root.ensures excluded))
-      (map written_of c.push.new.self.items) (map written_of c.push_nodes.new.nodes.items)
-      (ap (map written_of) (c.in_ok-push-in-Ok.ensures.items ∙ ap (λ ns. ns ++ c.in-Ok.root ∷ []) c.new-nodes.ensures.items))
-      (all_added c.args.table.now c.args.texts.now c.args.index.now excluded c.args.source.revision
-      (names_of c.args.change.now.path.now) (names_of c.args.source.path.now) (map part_meant c.args.inside.now)
-      (map written_of c.push.new.self.items) (map written_of c.push_nodes.new.nodes.items) c.in_ok-place.field-0
-      c.in_default.not-Some (c.in_ok-place.ensures excluded)),
-  sym c.can_be_written.ensures ∙ c.if-not-can_be_written.false,
-)
+    c.stead_for.result c.stead_for.ensures
