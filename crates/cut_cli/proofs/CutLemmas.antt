@@ -35,6 +35,7 @@ use Rattle.dump_filter.specs.Groups.{is_pad, revision_numbers}
 use Rattle.dump_history.specs.CutDumps.{FiltersExpansion, LoadsNew, LoadsNumbered, TreeRestricts, leaves_no_gap}
 use Rattle.dump_history.specs.DumpChanges.{HaveRevisionProperties, LoadsAs, MakeRevisions, counts_from}
 use Rattle.dump_history.specs.ExpandedText.{made_in_stead}
+use Rattle.dump_history.specs.CopiesOver.{some_copies_over}
 use Rattle.dump_history.specs.KeptChanges.{ChangesComeOfKept}
 use Rattle.dump_history.specs.TrimmedDumps.{FiltersRenumbered, FiltersTrimmed}
 use Rattle.dump_history.proofs.cuts.CutLaws.{excluded_dump_loads}
@@ -67,7 +68,7 @@ use Rattle.dump_cut.proofs.TrimLaw.{trimmed_copies_load}
 use Rattle.dump_expansion.specs.GivenSteads.{GivenStead, IsExpandedBy, steads_in}
 use Rattle.dump_additions.specs.AdditionLaws.{HasAdditions}
 use Rattle.dump_additions.specs.Additions.{AreAdditionsFrom}
-use Rattle.dump_additions.proofs.AdditionLaw.{additions_load}
+use Rattle.dump_additions.proofs.AdditionLaw.{additions_load, additions_over}
 use Rattle.cut_cli.specs.Cuts.{AreChangesOf, AreCopiesTaken, AreKnownAs, AreListedButNumbers, BringsNothingBack, CutLoads, ExcludesAsAsked, FiltersOrTrims, FollowsAsAsked, HasPartIf, IsAskedBy, IsClosureOf, IsCutAsAsked, IsCutText, IsObstacleTo, IsReadFor, IsReadyFor, IsSetUp, IsTrimmedIf, LeadsNowhere, MergeinfoStaysByCut, text_read, writes_additions}
 use Rattle.cut_cli.specs.Drive.{CleanTextsAreCuts, CutsDump, CutsInput, WritesBoth, WritesIfAsked, obstacle_status}
 use Rattle.cut_cli.specs.Words.{CutMeaning, asked_map}
@@ -309,14 +310,15 @@ module _ (m : CutMeaning) (dump : List ℕ) (settings : Settings) (records : Lis
         asked.cover_mergeinfo;
   }
 
--- what the filter reads of a dump loads to its trees, and these are its changes
-record LoadsRead (patched : Patching) (records again : List DumpRecord) (changes : List NodeChange) (trees : List Tree)
-    : Type 0 where
+-- what the filter reads of a dump with these revisions loads to its trees, and these are its changes
+record LoadsRead (patched : Patching) (records again : List DumpRecord) (changes : List NodeChange)
+    (revisions : List (List Change)) (trees : List Tree) : Type 0 where
   made : List (List Change)
   reads : LoadsAs patched root_alone again made trees
   listed : AreListed changes (placed_from 1 made)
   numbers : revision_numbers again ≡ revision_numbers records
   properties : (props : List (List Property)) → HaveRevisionProperties records props → HaveRevisionProperties again props
+  over : (path : NodePath) → some_copies_over path made ≡ true → some_copies_over path revisions ≡ true
 
 -- revisions with the properties of others have those of which these have them
 of_records : (patched : Patching) (Relates : Tree → Tree → Type 0) (records again : List DumpRecord) (trees : List Tree)
@@ -330,7 +332,7 @@ of_records patched Relates records again trees text same (parts, written, others
 added_read : (patched : Patching) (dump text : List ℕ) (records again : List DumpRecord) (changes read : List NodeChange)
     (revisions : List (List Change)) (trees : List Tree) (excluded : List NodePath) (given : List GivenStead)
     → HasAdditions patched dump records changes revisions trees excluded given → IsExpandedBy given dump text
-    → HasRecords text again Ending.Whole → AreListedIn again read → LoadsRead patched records again read trees
+    → HasRecords text again Ending.Whole → AreListedIn again read → LoadsRead patched records again read revisions trees
 added_read patched dump text records again changes read revisions trees excluded given has expanded whole listed =
     let (found, found_whole, loads, numbers, properties) =
     additions_load patched dump text records changes revisions trees excluded given has expanded in
@@ -344,6 +346,8 @@ added_read patched dump text records again changes read revisions trees excluded
       listed = subst (AreListed read) (nodes_are patched again made placed reads.makes nodes) zip;
       numbers = ap revision_numbers (sym are) ∙ numbers;
       properties = λ props have. subst (λ rs. HaveRevisionProperties rs props) are (properties props have);
+      over = λ path is. absurd (let bad : false ≡ true =
+          sym (additions_over patched dump records changes revisions trees excluded given path has) ∙ is in cc);
     }
 
 module _ (m : CutMeaning) (dump : List ℕ) (settings : Settings) (deletes : Option Deletes) (expansion : Option (List ℕ))
@@ -380,7 +384,7 @@ module _ (m : CutMeaning) (dump : List ℕ) (settings : Settings) (deletes : Opt
       → LoadsAs patched root_alone records revisions trees → AreListed its.changes (placed_from 1 revisions)
       → (e : Option (List ℕ)) → IsReadFor m dump are.listed excluded e read
       → HasRecords (text_read e dump) again Ending.Whole → AreListedIn again others.changes
-      → LoadsRead patched records again others.changes trees
+      → LoadsRead patched records again others.changes revisions trees
   loads_read patched revisions trees loads listed None same has listed_in =
       let one = one_list dump records again whole has in
       let (placed, nodes, zip) = listed_in patched in
@@ -391,6 +395,7 @@ module _ (m : CutMeaning) (dump : List ℕ) (settings : Settings) (deletes : Opt
         listed = subst (AreListed others.changes) (nodes_are patched again revisions placed reads.makes nodes) zip;
         numbers = ap revision_numbers (sym one);
         properties = λ props have. subst (λ rs. HaveRevisionProperties rs props) one have;
+        over = λ path is. is;
       }
   loads_read patched revisions trees loads listed (Some t) (adds, some, has) has_again listed_in =
       let same = one_list dump has.records records has.whole whole in
@@ -417,7 +422,7 @@ module _ (m : CutMeaning) (dump : List ℕ) (settings : Settings) (deletes : Opt
 
   cut_of : (patched : Patching) (revisions : List (List Change)) (trees : List Tree)
       → LoadsAs patched root_alone records revisions trees → AreListed its.changes (placed_from 1 revisions)
-      → LoadsRead patched records again others.changes trees
+      → LoadsRead patched records again others.changes revisions trees
       → CutLoads patched m settings deletes excluded (text_read expansion dump) records again revisions text
   cut_of patched revisions trees loads listed reads =
       let others_listed : map listed_of others.changes ≡ read =
@@ -440,6 +445,7 @@ module _ (m : CutMeaning) (dump : List ℕ) (settings : Settings) (deletes : Opt
         nothing_back = written.nothing_back;
         filters = written.filters;
         kept = written.kept;
+        over = reads.over;
         numbered = λ stays fit. of_records patched (TreeRestricts settings again) records again trees text reads.properties
             (written.numbered stays fit);
         renumbered = written.renumbered;

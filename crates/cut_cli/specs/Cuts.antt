@@ -24,6 +24,7 @@ use Rattle.dump_trees.specs.Siblings.{ExcludesPaths, has_node_names, is_in_cut}
 use Rattle.dump_trees.specs.Trees.{Tree, root_alone}
 use Rattle.dump_history.specs.CutDumps.{FiltersExpansion, LoadsNew, LoadsNumbered, TreeRestricts}
 use Rattle.dump_history.specs.DumpChanges.{HaveRevisionProperties, LoadsAs, MakeRevisions}
+use Rattle.dump_history.specs.CopiesOver.{some_copies_over}
 use Rattle.dump_history.specs.KeptChanges.{ChangesComeOfKept}
 use Rattle.dump_history.specs.RecordChanges.{MakesChange, Patching}
 use Rattle.dump_history.specs.TrimmedDumps.{FiltersRenumbered, FiltersTrimmed}
@@ -377,7 +378,8 @@ IsCutAsAsked Include m settings records trees revisions excluded = LeavesNamed m
 -- the same numbers and properties. So does what is written: each revision has its own number and properties, and the tree
 -- that it had, without the excluded paths. If the call drops revisions that lose all of their nodes, this is true of the
 -- others under their new numbers. The excluded paths are what the call asks for; nothing that is kept came from there. And all
--- that is written comes of changes at paths that aren't excluded, also where no revision shows it
+-- that is written comes of changes at paths that aren't excluded, also where no revision shows it. A copy in what the filter
+-- reads, and so in what is written, is over what its own revision changed only where the dump has such a copy
 pub record CutLoads (patched : Patching) (m : CutMeaning) (settings : Settings) (deletes : Option (List (List (List ℕ))))
     (excluded : List NodePath) (read : List ℕ) (records again : List DumpRecord) (revisions : List (List Change))
     (text : List ℕ) : Type 0 where
@@ -392,6 +394,7 @@ pub record CutLoads (patched : Patching) (m : CutMeaning) (settings : Settings) 
   pub nothing_back : NothingComesBack settings trees made
   pub filters : LengthsFit settings again → FiltersOrTrims deletes m.drop patched settings read again made trees text
   pub kept : LengthsFit settings again → ChangesComeOfKept patched settings again made text
+  pub over : (path : NodePath) → IsTrue (some_copies_over path made) → IsTrue (some_copies_over path revisions)
   pub numbered : m.drop ≡ false → LengthsFit settings again
       → LoadsNumbered patched (TreeRestricts settings again) records trees text
   pub renumbered : m.drop ≡ true → LengthsFit settings again

@@ -360,7 +360,7 @@ fn prepare_expanded<E: Write>(
     };
     match found {
         Ok(mut ready) => {
-            ready.counts.written = report_replaced(index, &expansion, call, errors);
+            ready.counts.written = report_replaced(index, excluded, &expansion, call, errors);
             ready.expansion = Some(expansion);
             Ok(Some(Ok(ready)))
         }

@@ -15,11 +15,11 @@ use dump_expansion::{Stead, expanded};
 use dump_index::ChangeIndex;
 use std::alloc::Global;
 
-/// A node of the dump in place of which others are written.
+/// A node of the dump in place of which others are written, or before which one is.
 #[derive(Clone, Copy, Debug, PartialEq, Eq)]
 pub struct Replaced {
     pub record_number: u64,
-    /// How many nodes are in its place.
+    /// How many nodes are in its place, with itself if it is kept.
     pub nodes: usize,
 }
 
@@ -27,13 +27,13 @@ pub struct Replaced {
 #[derive(Drop)]
 pub struct Expansion {
     pub text: Vec<u8>,
-    /// Which nodes are replaced, in the order of the dump.
+    /// Which nodes these are, in the order of the dump.
     pub replaced: Vec<Replaced>,
 }
 
 impl Expansion {
     /// The number of the record of the dump to which the record of the text with this number belongs: the same record, or the
-    /// one that is replaced.
+    /// one in whose place it is.
     pub fn given_number(&self, number: u64) -> u64 {
         let mut more: u64 = 0;
         for one in &self.replaced {
@@ -51,13 +51,13 @@ impl Expansion {
     }
 }
 
-/// Which nodes are replaced, and by how many.
+/// In place of which nodes others are, and how many.
 fn replaced_by(alloc: Global, steads: &[Stead<'_>]) -> Result<Vec<Replaced>, Memory> {
     let mut replaced = Vec::new(alloc);
     for stead in steads {
         replaced.push(Replaced {
             record_number: stead.record_number,
-            nodes: stead.nodes.len(),
+            nodes: stead.nodes.len().saturating_add(usize::from(stead.keeps)),
         })?;
     }
     Ok(replaced)
@@ -76,8 +76,8 @@ pub fn returns_of<'e>(
     all_followed(alloc, index, excluded, Way::ToCopies)
 }
 
-/// The dump with additions in place of each copy with which something excluded comes back; or the first of these that can't be
-/// written so, and why.
+/// The dump with additions in place of each copy with which something excluded comes back, and deletes before the other copies
+/// over something; or the first copy for which these can't be written, and why.
 pub fn with_additions(
     alloc: Global,
     dump: &[u8],

@@ -125,10 +125,11 @@ pub fn report_written<E: Write>(
     Ok(())
 }
 
-/// Lists the copies in place of which other nodes are written. The result is how many there are, and how many nodes are in
-/// their place; none if there is none.
+/// Lists the copies that aren't excluded in place of which other nodes are written, or before which one is. The result is how
+/// many there are, and how many nodes are in their place; none if there is none.
 pub fn report_replaced<E: Write>(
     index: &ChangeIndex<'_>,
+    excluded: &Excluded,
     expansion: &Expansion,
     call: &Call<'_>,
     errors: &mut E,
@@ -145,7 +146,7 @@ pub fn report_replaced<E: Write>(
             continue;
         }
         left = others;
-        if place < first {
+        if place < first || excluded.covers(change.path) {
             continue;
         }
         copies = copies.saturating_add(1);
