@@ -27,9 +27,10 @@ where the first part differs. Which paths are kept in the end, what copies bring
 computed here, from the original's trees and copies as docs/CUT.md says: the status and the lists have to be as computed.
 Nothing may be written but with status 0. What is written then is loaded into an empty repository, with svnadmin's checks of
 properties. It has to have each revision of the original with its number and its properties, and its tree with the kept paths
-alone, and no text that only excluded files have. The same is done with parts of each history, and with dumps whose numbers
-have gaps, which svndumpfilter makes: there the original is what svnadmin loads of them, and nothing may be written of a dump
-that it rejects. If it rejects the mergeinfo alone, the cut is not judged.
+alone, and no text that only excluded files have. The same is done with parts of each history, with dumps whose numbers have
+gaps, which svndumpfilter makes, and with dumps in which copies are made over what exists, with no node that deletes it before:
+there the original is what svnadmin loads of them, and nothing may be written of a dump that it rejects. If it rejects the
+mergeinfo alone, the cut is not judged.
 
 The files of a failed run are kept in build/loaded_trees. Where Subversion is not installed, the test is left out and says
 so. The last line is 'N passed, M failed'.
@@ -57,8 +58,9 @@ REPOSITORIES, COMMITS, RUNS = 8, 18, 40
 PARTS, PART_RUNS = 3, 5
 # a repository doesn't grow above so many paths
 PATHS = 80
-# of each repository so many sets of paths are cut out, and so many parts and dumps with gaps are offered to svndumpcut
-CUTS, CUT_PARTS, CUT_GAPS = 70, 6, 6
+# of each repository so many sets of paths are cut out, and so many parts, dumps with gaps and dumps with copies over something
+# are offered to svndumpcut
+CUTS, CUT_PARTS, CUT_GAPS, CUT_OVERS = 70, 6, 6, 12
 OPTIONS = [
     ["--drop-empty-revs", "--renumber-revs"],
     ["--drop-empty-revs", "--renumber-revs", "--skip-missing-merge-sources"],
@@ -292,6 +294,13 @@ class Life:
             change = self.chance.choice([["rm", f"{target}/{one}"], ["put", self.text(), f"{target}/{one}"]])
             self.commit("cp", "HEAD", source, target, *change)
 
+    def replaced_in_branch(self):
+        source, other = self.any_folder(), self.any_path()
+        inside = [it[len(source) + 1 :] for it in self.trees[-1] if it.startswith(source + "/") and len(it) > len(source) + 1]
+        if inside:
+            target, one = f"tags/{self.name()}", self.chance.choice(inside).rstrip("/")
+            self.commit("cp", "HEAD", source, target, "rm", f"{target}/{one}", "cp", "HEAD", other, f"{target}/{one}")
+
     def set_mergeinfo(self):
         lines = {}
         for _ in range(self.chance.randrange(1, 3)):
@@ -331,7 +340,8 @@ class Life:
             *[self.edit, self.create, self.set_property, self.branch] * 2,
             *[self.branch_all, self.rename, self.rename_top, self.rename_back, self.delete, self.delete_property],
             *[self.replace_by_new, self.replace_by_copy, self.replace_by_older, self.copy_older, self.bring_back],
-            *[self.changed_copy, self.changed_branch, self.set_mergeinfo, self.merge, self.change_revision],
+            *[self.changed_copy, self.changed_branch, self.replaced_in_branch, self.set_mergeinfo, self.merge],
+            self.change_revision,
         ]
         for _ in range(COMMITS):
             grows = len(self.trees[-1]) < PATHS
@@ -912,6 +922,8 @@ class Cut(Trial):
         here = Excluded([place.source]), Excluded([place.target])
         some = {it for it in back if it._replace(source=b"", target=b"") == place._replace(source=b"", target=b"")}
         some = [it for it in some if not here[0].keeps(it.source) and not here[1].keeps(it.target)]
+        # another copy of the same revision can be inside this one
+        some = [it for it in some if it.source.removeprefix(place.source) == it.target.removeprefix(place.target)]
         texts = [self.original.trees[it.number][it.source].text for it in some]
         files = [len(it) for it in texts if it is not None]
         if not files:
@@ -1244,6 +1256,10 @@ def cut_runs(name, original, dumps, chance):
         side = chance.choice(["exclude", "include"])
         words = [side, *chance.choice([[], ["--follow-copies"]]), *cut_prefixes(original, chance)]
         runs.append(CutOther(f"{name}-other-{place}", original, dump, words))
+    for place, (dump, copy) in enumerate(dumps_copied_over(dumps, chance)):
+        near = [os.path.dirname(copy.target).decode() or "/", copy.source.decode()]
+        words = chance.choice([["include", *near], ["include", *near], ["exclude", *cut_prefixes(original, chance)]])
+        runs.append(CutOther(f"{name}-over-{place}", original, dump, words))
     return runs
 
 
@@ -1263,6 +1279,28 @@ def dumps_with_gaps(original, dumps, chance):
         it = ran(program, *words, given=chance.choice(dumps))
         if it.returncode == 0:
             yield it.stdout
+
+
+def dumps_copied_over(dumps, chance):
+    """Dumps in which copies are made over what exists, without the nodes before them that delete it; and one such copy."""
+    for _ in range(CUT_OVERS):
+        dump, left, overs = chance.choice(dumps), [], []
+        placed = [*placed_records(dump), (None, None)]
+        for (place, record), (after, following) in zip(placed, placed[1:]):
+            if following and is_delete(record) and is_copy_to(following, record.headers[b"Node-path"]):
+                overs.append(copy_of(following, None))
+            else:
+                left.append(dump[place:after])
+        if overs:
+            yield dump[: placed[0][0]] + b"".join(left), chance.choice(overs)
+
+
+def is_delete(record):
+    return record.headers.get(b"Node-action") == b"delete"
+
+
+def is_copy_to(record, path):
+    return record.headers.get(b"Node-path") == path and b"Node-copyfrom-path" in record.headers
 
 
 def main(words):
