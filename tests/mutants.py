@@ -6,13 +6,15 @@
 A mutant is a file wrong/SENTENCE.edit of a crate. Its lines are 'file: src/FILE', 'function: PATH', where PATH is the
 changed function as the check names it, and pairs 'old: TEXT' and 'new: TEXT'. The file has TEXT once, and further pairs apply
 to what the earlier ones made. Callers see only contracts, so mutants of different functions do not affect each other: those
-of a crate are put together in as few rounds as their functions allow. A round is one check of a copy of the crate. It begins
-with the work that earlier checks kept, and with the libraries that were built last, also by rt ci. Where no work was kept,
-the first round of a crate proves the rest of the crate too, and the other rounds begin with that.
+of a crate are put together in as few rounds as their functions allow. A round is one check, of these functions and of what
+they call, in a copy of the crate. It begins with the work that earlier checks kept, and with the libraries that were built
+last, also by rt ci. Where no work was kept, the first round of a crate proves what these functions call too, and the other
+rounds begin with that.
 
-A round passes if every edit could be applied, each function that is named is refused by a goal of its own, and no function
-is refused but those and their callers. The goals of a caller are not tried: if a mutant's function calls a refused one, it is
-tried again in a later round. The script names what fails. The last line is 'N passed, M failed', of mutants.
+A round passes if every edit could be applied, each function that is named is refused by a goal of its own, and of what the
+check looks at nothing else is refused but their callers. The goals of a caller are not tried: if a mutant's function calls a
+refused one, it is tried again in a later round. The script names what fails. The last line is 'N passed, M failed', of
+mutants.
 
 With --fit it tries none and looks whether each mutant fits the sources as they are, and each of crates/*/must-fail: that
 takes no time.
@@ -38,7 +40,7 @@ SEARCHED = re.compile(r"`\w+` did not prove (`[^`]+`)")
 # no goal: the proof names what the edit took away
 NAMES = re.compile(r"has no field|is not in scope|has no `|was not admitted")
 # a check that came to the prover
-IS_JUDGED = re.compile(r"^logic=(not-)?proved", re.MULTILINE)
+IS_JUDGED = re.compile(r"^only=\d+ ", re.MULTILINE)
 # a function that meets its own goals and calls one that doesn't
 IS_CALLER = re.compile(r"it (calls|passes) |a call of ")
 
@@ -119,7 +121,7 @@ class Copy:
         for file, text in texts.items():
             with open(os.path.join(self.home, file), "w", encoding="utf-8") as it:
                 it.write(text)
-        words = ["rt", "check", "--jobs", str(jobs)]
+        words = ["rt", "check", "--jobs", str(jobs), *(word for it in mutants for word in ("--only", it.function))]
         ran = subprocess.run(words, cwd=self.home, stdout=subprocess.PIPE, stderr=subprocess.STDOUT, errors="replace")
         for file in texts:
             shutil.copy(path("crates", self.crate, file), os.path.join(self.home, file))
