@@ -1,4 +1,4 @@
--- What arguments mean, by the side at their front and by what clap finds behind it.
+-- What arguments mean, by the side at their front and by what clap finds after it.
 use Rattle.std.specs.Prelude.{◌≡◌, ℕ, Bool, true, false, List, [], Option, Some, None, Result, Ok, Err, ⊤, codes, slice_get, unwrap_or, if◌then◌else◌}
 use Rattle.std.specs.Option.{option_and_then, option_map_or}
 use Rattle.std.specs.Str.{bytes_eq}
@@ -37,11 +37,11 @@ empty_of true false = Some DropEmptied
 empty_of false true = Some DropAll
 empty_of true true = None
 
--- the same, by the rows behind a side
+-- the same, by the rows after a side
 abbrev pub empty_in : List Row → Option Empty
 empty_in rows = empty_of (is_set (codes "drop-empty-revs") rows) (is_set (codes "drop-all-empty-revs") rows)
 
--- the settings of the filter that a side and its rows give, where it is known what becomes of empty revisions
+-- the settings of the filter that a side and its rows give, if it is known what becomes of empty revisions
 abbrev pub settings_with : Option Empty → Side → List Row → Result Settings Usage
 settings_with None side rows = Err BothDrops
 settings_with (Some empty) side rows = Ok (record {
@@ -57,7 +57,7 @@ settings_with (Some empty) side rows = Ok (record {
 abbrev pub settings_of : Side → List Row → Result Settings Usage
 settings_of side rows = settings_with (empty_in rows) side rows
 
--- what a line means by the side that it begins with, by whether clap takes the line, and by the rows that it finds, where
+-- what a line means by the side that it begins with, by whether clap takes the line, and by the rows that it finds, if
 -- this is what a side and its rows mean
 abbrev pub meaning_by : {M : Type 0} → (Side → List Row → Result M Usage) → Option Side → Bool → List Row → Result M Usage
 meaning_by means None is_taken rows = Err Words
@@ -74,7 +74,7 @@ Answers meaning_of meaning (Err Words) = meaning ≡ Err Words
 Answers meaning_of meaning (Err BothDrops) = meaning ≡ Err BothDrops
 Answers meaning_of meaning (Err Memory) = ⊤
 
--- the status of arguments that are refused, and that of a failure where reading them is out of memory
+-- the status of arguments that are rejected, and that of a failure if memory runs out while they are read
 abbrev pub refusal_status : ℕ → Usage → ℕ
 refusal_status failed Words = 2
 refusal_status failed BothDrops = 2

@@ -45,6 +45,6 @@ prefixes_of_text text = filter (λ prefix. not (is_empty prefix)) (map prefix_of
 abbrev pub prefixes_of_texts : List (List ℕ) → List Text
 prefixes_of_texts texts = flat_map prefixes_of_text texts
 
--- the files of these names have these texts, where that is known of a file
+-- the files of these names have these texts, as far as that is known of a file
 abbrev pub AreTextsOf : (Text → Option (List ℕ)) → List Text → List (List ℕ) → Type 0
 AreTextsOf text_of names texts = AllZip (λ name text. IfSome (text_of name) (λ known. text ≡ known)) names texts

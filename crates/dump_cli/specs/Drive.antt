@@ -27,7 +27,7 @@ pub record BreaksOff (old new : Option (List ℕ)) (sent : List ℕ) (told : Ans
   pub counted : GrowsBy old new written
   pub told_is : told ≡ Failed failures.Sink written
 
--- a run on the input gave an answer and sent bytes: all of them reached the writer and the answer is told, or the
+-- a run on the input gave an answer and sent bytes: all of them reached the writer and the answer is reported, or the
 -- output broke off
 pub record Ran (settings : Settings) (input : List ℕ) (old new : Option (List ℕ)) (told : Answer) : Type 0 where
   pub answer : Answer
@@ -41,7 +41,7 @@ CarriesOut settings input old new status =
     IfSome input (λ bytes. (told : Answer) × Ran settings bytes old new told × (status ≡ status_of told))
     ⊎ (Keeps old new × (status ≡ 1))
 
--- words that are no order are refused by 2, and an order that is out of memory by 1
+-- words that are no order have the status 2, and an order that is out of memory has the status 1
 abbrev pub Obeys : Result Order Usage → Option (List ℕ) → Option (List ℕ) → Option (List ℕ) → ℕ → Type 0
 Obeys (Err usage) input old new status = Keeps old new × (status ≡ refusal_status 1 usage)
 Obeys (Ok order) input old new status = CarriesOut order.options input old new status

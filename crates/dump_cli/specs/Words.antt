@@ -1,4 +1,4 @@
--- What the program's words mean, by the side and by what clap finds behind it.
+-- What the program's words mean, by the side and by what clap finds after it.
 use Rattle.std.specs.Prelude.{ℕ, Bool, List, Result, Ok, Err, codes, drop}
 use Rattle.clap.specs.Words.{Row, Text}
 use Rattle.dump_rules.specs.Settings.{Settings}

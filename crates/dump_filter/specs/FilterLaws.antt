@@ -12,7 +12,7 @@ use Rattle.dump_filter.specs.RecordOutput.{IsWrittenBlock}
 use Rattle.dump_filter.specs.Written.{is_written, IsWrittenText}
 use Rattle.dump_filter.specs.WholeText.{IsCleanText}
 
--- what is written of the first records of a dump, while more may follow, begins what is written of them and more, where
+-- what is written of the first records of a dump, while more may follow, begins what is written of them and more, if
 -- none of them has a fault
 abbrev pub WrittenOnlyGrows : Type 0
 WrittenOnlyGrows = (settings : Settings) (ended : Bool) (dump : List ℕ) (records more : List DumpRecord)
@@ -42,7 +42,7 @@ keep_all = record {
   skip_missing = false;
 }
 
--- what the filter writes of a clean dump is a clean dump, which it leaves as it is where it keeps everything
+-- what the filter writes of a clean dump is a clean dump, which it leaves as it is if it keeps everything
 abbrev pub KeepsItsOwnText : Type 0
 KeepsItsOwnText = (settings : Settings) (dump text : List ℕ) (records : List DumpRecord) →
     IsCleanText settings dump records text

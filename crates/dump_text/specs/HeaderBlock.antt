@@ -29,18 +29,18 @@ pub record BeginsWithBlock (text : List ℕ) (headers : List line.Header) (rest 
 abbrev pub HasBlock : List ℕ → Type 0
 HasBlock text = (headers : List line.Header) × (rest : List ℕ) × BeginsWithBlock text headers rest
 
--- whether an LF stands first
+-- whether the text begins with an LF
 abbrev pub starts_with_lf : List ℕ → Bool
 starts_with_lf [] = false
 starts_with_lf (b ∷ text) = b == 10
 
--- whether two LFs stand side by side
+-- whether one LF directly follows another
 abbrev pub has_empty_line : List ℕ → Bool
 has_empty_line [] = false
 has_empty_line (b ∷ text) = (b == 10 && starts_with_lf text) || has_empty_line text
 
--- what is wrong with a text that begins with no block: it is cut, where it has no empty line; a text that begins
--- with one is malformed
+-- what is wrong with a text that begins with no block: it is malformed if it begins with an LF or has an empty line, and
+-- otherwise it is cut
 abbrev pub block_fault : List ℕ → FaultKind
 block_fault text =
     if starts_with_lf text then faults.Header
