@@ -1,4 +1,4 @@
--- The names of what stands in a directory after the first changes.
+-- The names of what exists in a directory after the first changes.
 use Rattle.std.specs.Prelude.{◌≡◌, ℕ, Bool, ◌&&◌, List, [], ◌∷◌, ◌++◌, is_some, bytes_eq}
 use Rattle.std.specs.List.{list_any}
 use Rattle.std.specs.List.Sorted.{IsStrictlySortedBy}
@@ -13,12 +13,12 @@ use Rattle.dump_index.specs.Kinds.{kind_look}
 abbrev pub is_child_named : List (List ℕ) → List ℕ → Bool
 is_child_named names name = list_any (λ other. bytes_eq other name) names
 
--- whether something stands by this name right below the path
+-- whether something of this name exists right below the path, after so many of the changes
 abbrev pub stands_in : List Listed → ℕ → NodePath → List ℕ → Bool
 stands_in listed count path name = is_some (kind_look listed count (path ++ name ∷ []))
 
--- each name once, in the order of their bytes: those that can stand right below the path after so many of the changes,
--- where something does stand
+-- each name once, in the order of their bytes: the names that can exist right below the path after so many of the
+-- changes, and by which something does exist there
 pub record AreChildren (listed : List Listed) (count : ℕ) (path : NodePath) (names : List (List ℕ)) : Type 0 where
   pub ordered : IsStrictlySortedBy (slice_cmp nat_cmp) names
   pub all : (name : List ℕ) → is_child_named names name

@@ -1,4 +1,4 @@
--- What changes do at paths, told from texts, and the latest that does so.
+-- What changes do at paths, as determined by texts, and which change is the latest one that does it.
 use Rattle.std.specs.Prelude.{ℕ, zero, suc, Bool, true, false, ◌&&◌, ◌||◌, ◌==◌, List, [], ◌∷◌, Option, Some, None, is_some, slice_get, bytes_eq, if◌then◌else◌}
 use Rattle.dump_trees.specs.Changes.{is_copied}
 use Rattle.dump_index.specs.Listed.{Listed}
@@ -36,14 +36,14 @@ abbrev pub latest_place : (ℕ → Bool) → ℕ → Option ℕ
 latest_place test zero = None
 latest_place test (suc count) = if test count then Some count else latest_place test count
 
--- whether a slash stands in the path right behind this top
+-- whether the path begins with this top and then has a slash
 abbrev pub goes_on : List ℕ → List ℕ → Bool
 goes_on [] [] = false
 goes_on [] (c ∷ path) = c == 47
 goes_on (b ∷ top) [] = false
 goes_on (b ∷ top) (c ∷ path) = (b == c) && goes_on top path
 
--- whether this is the root, or the path goes on behind it
+-- whether the top is the root, or the path begins with the top and then has a slash
 abbrev pub stands_over : List ℕ → List ℕ → Bool
 stands_over path top = bytes_eq top [] || goes_on top path
 
@@ -52,10 +52,10 @@ abbrev pub moves_there : (List ℕ → Bool) → Option Listed → Bool
 moves_there test None = false
 moves_there test (Some l) = has_effect Moving l && test l.path
 
--- whether the change at this place deletes or copies what stands over the path
+-- whether the change at this place deletes or copies, at the root or at a path above this one
 abbrev pub moves_above : List Listed → List ℕ → ℕ → Bool
 moves_above listed path place = moves_there (stands_over path) (slice_get listed place)
 
--- whether the change at this place decides whether something stands at the path, and what
+-- whether the change at this place decides whether something exists at the path, and what
 abbrev pub shapes : List Listed → List ℕ → ℕ → Bool
 shapes listed path place = has_effect_at Shaping listed path place || moves_above listed path place

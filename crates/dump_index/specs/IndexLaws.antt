@@ -1,4 +1,4 @@
--- What is found in an index, and what stands in the repository.
+-- What is found in an index, and what exists in the repository.
 use Rattle.std.specs.Prelude.{◌≡◌, ℕ, List, [], ◌∷◌, ◌++◌, map, Option, Some, None, option_map, option_and_then, is_some, slice_get, IsTrue, ⊤}
 use Rattle.std.specs.List.{AllZip, Contains, list_all}
 use Rattle.dump_text.specs.PropertyList.{Property}
@@ -21,7 +21,7 @@ use Rattle.dump_index.specs.declared.change.Setting.{Setting}
 use Rattle.dump_index.specs.declared.change.Setting.TheVariants.{Keeps, Replaces, Edits, EditsNothing}
 use Rattle.dump_index.specs.declared.trail.Part.TheVariants.{Props, Text}
 
--- that properties are set is said of a change that sets some
+-- a change of a repository sets properties as this setting says
 abbrev pub HasProps : Setting → Option PropertyChange → Type 0
 HasProps Keeps None = ⊤
 HasProps Keeps (Some change) = ⊥
@@ -37,7 +37,7 @@ HasProps EditsNothing (Some (PropertyChange.Replaced entries)) = ⊥
 HasProps EditsNothing (Some (PropertyChange.Edited [])) = ⊤
 HasProps EditsNothing (Some (PropertyChange.Edited (entry ∷ entries))) = ⊥
 
--- that a text is set is said of a change that sets one
+-- a change of a repository sets a text as this setting says; none sets a text by `EditsNothing`
 abbrev pub HasText : Setting → Option TextChange → Type 0
 HasText Keeps None = ⊤
 HasText Keeps (Some change) = ⊥
@@ -49,7 +49,7 @@ HasText Edits (Some (TextChange.Replaced text)) = ⊥
 HasText Edits (Some (TextChange.Patched patch)) = ⊤
 HasText EditsNothing change = ⊥
 
--- what an index says of a change of a repository
+-- what an index says of a change is what this change of a repository does
 pub record IsListed (l : Listed) (p : Placed) : Type 0 where
   pub revision : p.revision ≡ l.revision
   pub path : p.change.path ≡ names_of l.path
@@ -58,11 +58,11 @@ pub record IsListed (l : Listed) (p : Placed) : Type 0 where
   pub props : HasProps l.props p.change.props
   pub text : HasText l.text p.change.text
 
--- an index of these changes says what these changes of a repository are
+-- an index of these changes says what these changes of a repository do, each in turn
 abbrev pub AreListed : List NodeChange → List Placed → Type 0
 AreListed changes placed = AllZip IsListed (map listed_of changes) placed
 
--- where a node stands, an index tells of which kind it is
+-- if a node exists at a path, an index finds of which kind it is
 abbrev pub KindsAreFound : Type 0
 KindsAreFound = (changes : List NodeChange) (placed : List Placed) (count : ℕ) (path : NodePath) (node : Node) →
     IsTrue (are_in_order 0 changes) → AreListed changes placed
@@ -74,7 +74,7 @@ abbrev pub listed_text : Node → List ℕ
 listed_text (Node.Folder props) = []
 listed_text (Node.File props text) = text
 
--- what a change makes of properties and of a text; nothing, where it sets none
+-- what a change makes of properties and of a text; if it sets none, they are the same as before
 abbrev pub props_by : Option PropertyChange → List Property → Option (List Property)
 props_by None old = Some old
 props_by (Some change) old = Some (new_props change old)
@@ -83,7 +83,7 @@ abbrev pub text_by : Option TextChange → List ℕ → Option (List ℕ)
 text_by None old = Some old
 text_by (Some change) old = new_text change old
 
--- what the changes at these places, the latest one first, make of properties and of a text
+-- what the changes at these places, the latest one first, make of no properties and of an empty text
 abbrev pub props_there : Option Placed → List Property → Option (List Property)
 props_there None old = Some old
 props_there (Some p) old = props_by p.change.props old
@@ -100,7 +100,7 @@ abbrev pub text_after : List Placed → List ℕ → Option (List ℕ)
 text_after placed [] = Some []
 text_after placed (place ∷ trail) = option_and_then (text_there (slice_get placed place)) (text_after placed trail)
 
--- where a node stands, its properties are those that the changes of a trail set, from the oldest on
+-- if a node exists at a path, its properties are those that the changes of a trail set, from the oldest on
 abbrev pub PropsAreFound : Type 0
 PropsAreFound = (changes : List NodeChange) (placed : List Placed) (count : ℕ) (path trail : List ℕ) (node : Node) →
     IsTrue (are_in_order 0 changes) → AreListed changes placed
@@ -108,7 +108,7 @@ PropsAreFound = (changes : List NodeChange) (placed : List Placed) (count : ℕ)
     → look root_alone placed count (names_of path) ≡ Some node
     → props_after placed trail ≡ Some (properties_of node)
 
--- and so is its text
+-- and its text is the one that the changes of a trail set
 abbrev pub TextsAreFound : Type 0
 TextsAreFound = (changes : List NodeChange) (placed : List Placed) (count : ℕ) (path trail : List ℕ) (node : Node) →
     IsTrue (are_in_order 0 changes) → AreListed changes placed
@@ -116,7 +116,7 @@ TextsAreFound = (changes : List NodeChange) (placed : List Placed) (count : ℕ)
     → look root_alone placed count (names_of path) ≡ Some node
     → text_after placed trail ≡ Some (listed_text node)
 
--- where a dump loads, an index tells what stands in the tree of each revision, and where nothing does
+-- if a dump loads, an index finds what exists in the tree of each revision, and at which paths nothing does
 abbrev pub KindsAreOfTrees : Type 0
 KindsAreOfTrees = (changes : List NodeChange) (revisions : List (List Change)) (trees : List Tree) (number : ℕ) (tree : Tree)
     (path : NodePath) →
@@ -124,7 +124,7 @@ KindsAreOfTrees = (changes : List NodeChange) (revisions : List (List Change)) (
     → loaded_over root_alone revisions ≡ Some trees → slice_get trees number ≡ Some tree
     → kind_look (map listed_of changes) (end_of (placed_from 1 revisions) number) path ≡ option_map node_kind (tree path)
 
--- and the names of what stands in a directory
+-- and the names that it finds in a directory are those of what exists there
 abbrev pub ChildrenAreOfTrees : Type 0
 ChildrenAreOfTrees = (changes : List NodeChange) (revisions : List (List Change)) (trees : List Tree) (number : ℕ)
     (tree : Tree) (path : NodePath) (names : List (List ℕ)) (name : List ℕ) →
@@ -133,7 +133,7 @@ ChildrenAreOfTrees = (changes : List NodeChange) (revisions : List (List Change)
     → AreChildren (map listed_of changes) (end_of (placed_from 1 revisions) number) path names
     → is_child_named names name ≡ is_some (tree (path ++ name ∷ []))
 
--- where something can stand in a directory at the end of a revision, its name is one of those that ever can
+-- if a name can exist in a directory at the end of a revision, it is one of those that can exist there at some time
 abbrev pub NamesEverAreFound : Type 0
 NamesEverAreFound = (changes : List NodeChange) (revisions : List (List Change)) (number : ℕ) (path : NodePath)
     (names : List (List ℕ)) (name : List ℕ) →
@@ -141,8 +141,8 @@ NamesEverAreFound = (changes : List NodeChange) (revisions : List (List Change))
     → AreNamesEver (map listed_of changes) path names → CanStandBelow revisions number path name
     → IsTrue (is_child_named names name)
 
--- so siblings suffice among which is each one that has such a name, in the root and in the directories above included
--- paths
+-- so siblings suffice if each sibling that has such a name is one of them, in the root and in the directories above
+-- included paths
 abbrev pub NamesEverSuffice : Type 0
 NamesEverSuffice = (changes : List NodeChange) (included siblings : List NodePath) (revisions : List (List Change))
     (trees : List Tree) →

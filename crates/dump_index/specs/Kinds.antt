@@ -1,4 +1,4 @@
--- What stands at a path after the first changes: a folder, a file or nothing.
+-- What exists at a path after the first changes: a directory, a file or nothing.
 use Rattle.std.specs.Prelude.{ℕ, List, Option, option_map}
 use Rattle.dump_trees.specs.Paths.{NodePath}
 use Rattle.dump_trees.specs.Trees.{Node, root_alone}

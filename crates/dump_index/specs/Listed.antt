@@ -1,4 +1,4 @@
--- The changes of an index, and the changes of a repository that they stand for.
+-- The changes of an index, and the changes of a repository that they represent.
 use Rattle.std.specs.Prelude.{ℕ, Bool, List, [], map, Option, Some, None, option_map}
 use Rattle.dump_trees.specs.Paths.{names_of}
 use Rattle.dump_trees.specs.Changes.{Made, PropertyChange, TextChange}
@@ -25,7 +25,7 @@ listed_made Folder = Made.NewFolder
 listed_made File = Made.NewFile
 listed_made (CopyOf source) = Made.Copied source.revision (names_of source.path.now)
 
--- the change that the code's own value tells
+-- the change that a value of the code represents
 abbrev pub listed_of : NodeChange → Listed
 listed_of c = record {
   path = c.path.now;
@@ -37,21 +37,21 @@ listed_of c = record {
   record_number = c.record_number;
 }
 
--- that properties are set; which, an index doesn't say, so here none
+-- whether and how properties are set; an index doesn't say which, so the list has none
 abbrev pub plain_props : Setting → Option PropertyChange
 plain_props Keeps = None
 plain_props Replaces = Some (PropertyChange.Replaced [])
 plain_props Edits = Some (PropertyChange.Edited [])
 plain_props EditsNothing = Some (PropertyChange.Edited [])
 
--- that a text is set; which, an index doesn't say, so here the empty one
+-- whether a text is set; an index doesn't say which, so it is the empty one
 abbrev pub plain_text : Setting → Option TextChange
 plain_text Keeps = None
 plain_text Replaces = Some (TextChange.Replaced [])
 plain_text Edits = Some (TextChange.Replaced [])
 plain_text EditsNothing = Some (TextChange.Replaced [])
 
--- the change of a repository that it stands for
+-- the change of a repository that it represents
 abbrev pub placed_of : Listed → Placed
 placed_of l = record {
   revision = l.revision;
@@ -64,6 +64,6 @@ placed_of l = record {
   };
 }
 
--- the changes of a repository that these stand for
+-- the changes of a repository that these represent
 abbrev pub all_placed : List Listed → List Placed
 all_placed listed = map placed_of listed

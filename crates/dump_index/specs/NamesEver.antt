@@ -1,4 +1,4 @@
--- The names by which something can stand in a directory at some time.
+-- The names by which something can exist in a directory at some time.
 use Rattle.std.specs.Prelude.{◌≡◌, ◌≤◌, ℕ, true, List, length}
 use Rattle.std.specs.List.Sorted.{IsStrictlySortedBy}
 use Rattle.std.specs.Cmp.Lexicographic.{slice_cmp}
@@ -8,12 +8,12 @@ use Rattle.dump_trees.specs.Listing.{names_look}
 use Rattle.dump_index.specs.Listed.{Listed, all_placed}
 use Rattle.dump_index.specs.Children.{is_child_named}
 
--- after some of the first changes, so many, the name can stand right below the path
+-- the name can exist right below the path after some number of the first changes
 abbrev pub CanStandOnce : List Listed → NodePath → List ℕ → Type 0
 CanStandOnce listed path name =
     (count : ℕ) × (count ≤ length listed) × (is_child_named (names_look (all_placed listed) count path) name ≡ true)
 
--- each name once, in the order of their bytes: exactly those that can stand right below the path at some time
+-- each name once, in the order of their bytes: exactly those that can exist right below the path at some time
 pub record AreNamesEver (listed : List Listed) (path : NodePath) (names : List (List ℕ)) : Type 0 where
   pub ordered : IsStrictlySortedBy (slice_cmp nat_cmp) names
   pub each : (name : List ℕ) → is_child_named names name ≡ true → CanStandOnce listed path name

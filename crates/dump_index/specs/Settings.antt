@@ -1,4 +1,4 @@
--- Which changes set the properties or the text of what stands at a path.
+-- Which changes set the properties or the text of what exists at a path.
 use Rattle.std.specs.Prelude.{◌≡◌, ℕ, Bool, true, false, ◌||◌, List, [], ◌∷◌, ◌++◌, Option, Some, None, slice_get, bytes_eq, ◌&&◌}
 use Rattle.dump_trees.specs.Paths.{NodePath, names_of, below}
 use Rattle.dump_trees.specs.Changes.{Made, is_copied}
@@ -35,29 +35,30 @@ sets_at part listed path place = sets_there part path (slice_get listed place)
 abbrev pub latest_for : Part → List Listed → List ℕ → ℕ → Option ℕ
 latest_for part listed path count = latest_place (λ place. shapes listed path place || sets_at part listed path place) count
 
--- the place, where something is set there
+-- the place, if something is set there
 abbrev pub own_place : Bool → ℕ → List ℕ
 own_place true place = place ∷ []
 own_place false place = []
 
--- the part of what stands at the path after so many changes is what the changes at these places set, the latest one
--- first: back up to one that sets the whole part, and from a copy on at its source
+-- these are the places of the changes that set the part of what exists at the path after so many changes, the latest
+-- one first. They go back to one that sets the whole part or makes something new, if there is one; before a copy they
+-- are those at its source
 pub data IsTrail (part : Part) (listed : List Listed) : ℕ → List ℕ → List ℕ → Type 0 where
-  -- nothing sets it, and nothing is made
+  -- no change sets the part or shapes the path
   Unset : (count : ℕ) (path : List ℕ) → latest_for part listed path count ≡ None → IsTrail part listed count path []
   -- a change sets the whole part
   Whole : (count : ℕ) (path : List ℕ) (place : ℕ) (l : Listed) → latest_for part listed path count ≡ Some place
       → slice_get listed place ≡ Some l → sets_at part listed path place ≡ true → is_replacing (setting_of part l) ≡ true
       → IsTrail part listed count path (place ∷ [])
-  -- a change edits what stood there before
+  -- a change sets the part of what is at the path before it
   Edited : (count : ℕ) (path : List ℕ) (place : ℕ) (trail : List ℕ) → latest_for part listed path count ≡ Some place
       → sets_at part listed path place ≡ true → shapes listed path place ≡ false
       → IsTrail part listed place path trail → IsTrail part listed count path (place ∷ trail)
-  -- a change makes something new, and may set the part
+  -- a change that is no copy shapes the path, and may set the part
   NewMade : (count : ℕ) (path : List ℕ) (place : ℕ) (l : Listed) → latest_for part listed path count ≡ Some place
       → slice_get listed place ≡ Some l → shapes listed path place ≡ true → is_copied l.made ≡ false
       → IsTrail part listed count path (own_place (sets_at part listed path place) place)
-  -- a change copies, and may edit the part
+  -- a change copies to the path or to one above it, and may set the part
   Copied : (count : ℕ) (path : List ℕ) (place : ℕ) (l : Listed) (number : ℕ) (source rest : NodePath) (next trail : List ℕ)
       → latest_for part listed path count ≡ Some place
       → slice_get listed place ≡ Some l → shapes listed path place ≡ true → l.made ≡ Some (Made.Copied number source)

@@ -1,4 +1,4 @@
--- What an index tells of kinds, as the laws of a load check ask for it.
+-- What an index says of kinds, in the form that the laws of a load check need.
 use Rattle.std.specs.Prelude.{List, map, option_map}
 use Rattle.dump_trees.specs.Trees.{root_alone}
 use Rattle.dump_trees.specs.Looking.{Placed}
@@ -10,16 +10,16 @@ use Rattle.dump_index.specs.declared.change.NodeChange.{NodeChange}
 use Rattle.dump_index.specs.declared.change.NodeKind.{NodeKind}
 use Rattle.dump_index.specs.declared.change.NodeKind.TheVariants.{Folder, File}
 
--- the kind that the laws speak of
+-- the same kind, as the laws name it
 abbrev pub kind_meant : NodeKind → Kind
 kind_meant Folder = Kind.Directory
 kind_meant File = Kind.File
 
--- what an index tells
+-- the kind that an index finds at a path, after so many of the changes
 abbrev pub kinds_told_by : List Listed → ToldKinds
 kinds_told_by listed count path = option_map kind_meant (kind_look listed count path)
 
--- it tells what exists
+-- an index says what exists
 abbrev pub IndexTellsKinds : Type 0
 IndexTellsKinds = (changes : List NodeChange) (placed : List Placed) → AreListed changes placed
     → TellsKinds (kinds_told_by (map listed_of changes)) root_alone placed

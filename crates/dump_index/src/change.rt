@@ -28,15 +28,15 @@ pub enum NodeMade<'a> {
 pub enum Setting {
     /// They stay as they are.
     Keeps,
-    /// Others take their place.
+    /// Others replace them.
     Replaces,
     /// They are edited, as by a delta.
     Edits,
-    /// A delta of properties has no entry, so it edits nothing. `svnadmin load` takes it where nothing exists, too.
+    /// A delta of properties has no entry, so it edits nothing. `svnadmin load` accepts it even if no node exists.
     EditsNothing,
 }
 
-/// A change that a node of a dump makes. It deletes what stands at its path, makes something there, and sets properties
+/// A change that a node of a dump makes. It deletes what exists at its path, makes something there, and sets properties
 /// and a text, or only some of these, in this order.
 #[derive(Clone, Copy, Debug, PartialEq, Eq)]
 pub struct NodeChange<'a> {
@@ -46,7 +46,7 @@ pub struct NodeChange<'a> {
     pub made: Option<NodeMade<'a>>,
     pub props: Setting,
     pub text: Setting,
-    /// The number of the revision that the node stands in.
+    /// The number of the revision that the node is in.
     pub revision: u64,
     /// Which record of the dump the node is.
     pub record_number: u64,

@@ -28,10 +28,10 @@ use dump_rules::Memory;
 use std::alloc::Global;
 use std::marker::Model;
 
-/// All changes of a dump, and where those at a path are found.
+/// All changes of a dump, in orders in which those at a path are found.
 ///
-/// What an index is asked at a path, it looks up at the path and at the paths above it, each by binary search. It takes
-/// memory for the places of the changes, and time for their sorting, when it is made.
+/// An index answers a question about a path by binary searches for that path and for the paths above it. To make an index takes
+/// memory for the places of the changes, and time to sort them.
 #[derive(Drop)]
 pub struct ChangeIndex<'a> {
     changes: Vec<NodeChange<'a>>,
@@ -54,8 +54,8 @@ impl<'a> Model for ChangeIndex<'a> {
     ghost invariant = { λ index. IsChangeIndex index.changes.items index.shaping index.moving index.props index.texts };
 }
 
-/// The place of the first of the changes that isn't in order: its revision is below that of the one before, its path ends in
-/// a slash, or it is a copy, and that is of no earlier revision, or of a path that ends in a slash.
+/// The place of the first of the changes that isn't in order. Its revision is below that of the one before, or its path ends in
+/// a slash; or it is a copy, and that is of no earlier revision, or of a path that ends in a slash.
 pub fn first_out_of_order(changes: &[NodeChange<'_>]) -> Option<usize>
     ensures { IsFirstOutOfOrder changes.now result }
 {
@@ -71,14 +71,14 @@ pub fn first_out_of_order(changes: &[NodeChange<'_>]) -> Option<usize>
     None
 }
 
-/// Whether the change is in order behind one of this revision.
+/// Whether the change is in order after one of this revision.
 fn comes_in_order(least: u64, change: &NodeChange<'_>) -> bool
     ensures { result ≡ comes_in_order least change.now }
 {
     change.revision >= least && is_from_before(change) && !ends_in_slash(change.path)
 }
 
-/// Whether the change is no copy, or one of an earlier revision, and of a path that doesn't end in a slash.
+/// Whether the change makes no copy, or one of an earlier revision, and of a path that doesn't end in a slash.
 fn is_from_before(change: &NodeChange<'_>) -> bool
     ensures { result ≡ is_from_before change.now.revision change.now.made }
 {
@@ -112,8 +112,8 @@ impl<'a> ChangeIndex<'a> {
         })
     }
 
-    /// The place of the latest of the first changes, so many, that touches the path: it does something there, or deletes
-    /// or copies what stands above.
+    /// The place of the latest of the first `count` changes that touches the path: it does something there, or deletes or
+    /// copies at a path above.
     pub fn latest_touching(&self, path: &[u8], count: usize) -> Option<usize>
         ensures { result ≡ latest (touches_path (names_of path.now)) (all_placed self.now) count }
     {
@@ -125,8 +125,8 @@ impl<'a> ChangeIndex<'a> {
         self.moving.latest_above(path, count, later(shaped, set))
     }
 
-    /// The place of the latest of the first changes, so many, that decides what stands at the path: it deletes or makes
-    /// something there, or deletes or copies what stands above.
+    /// The place of the latest of the first `count` changes that decides what exists at the path: it deletes or makes something
+    /// there, or deletes or copies at a path above.
     fn latest_shaping(&self, path: &[u8], count: usize) -> Option<usize>
         ensures place { result ≡ latest_place (shapes self.now path.now) count }
         ensures looks { kind_look self.now count (names_of path.now)
@@ -168,7 +168,7 @@ impl<'a> ChangeIndex<'a> {
         self.changes.is_empty()
     }
 
-    /// How many of the changes stand in revisions up to this number.
+    /// How many of the changes are in revisions up to this number.
     pub fn end_of(&self, revision: u64) -> usize
         ensures { result ≡ end_of (all_placed self.now) revision }
     {
@@ -185,7 +185,7 @@ impl<'a> ChangeIndex<'a> {
         ChangeIndex::new(alloc, changes)
     }
 
-    /// Where what stands at the path comes from, behind the change that decides that.
+    /// The origin of what exists at the path after the latest change that shapes the path, if there is one.
     fn origin<'p>(&self, path: &'p [u8], shaped: Option<usize>) -> Origin<'p, 'a>
         requires bare { ends_in_slash path.now ≡ false }
         requires shaped { (place : ℕ) → shaped ≡ Some place → shapes self.now path.now place ≡ true }
@@ -201,7 +201,7 @@ impl<'a> ChangeIndex<'a> {
         }
     }
 
-    /// What the change at this place left at the path, if that is known and the path is its own.
+    /// What the change at this place left at the path, if that is known and the path is the change's own.
     fn known_at(
         &self,
         path: &[u8],
@@ -221,7 +221,7 @@ impl<'a> ChangeIndex<'a> {
         }
     }
 
-    /// What stands at the path after the first changes, so many, or where that is looked up.
+    /// What exists at the path after the first `before` changes, or the source of a copy at which that is looked up.
     fn look<'p>(&self, path: &'p [u8], before: usize, known: &[Option<NodeKind>]) -> Look<'p, 'a>
         requires bare { ends_in_slash path.now ≡ false }
         requires known { AreKindsBehind self.now known.now }
@@ -246,9 +246,9 @@ impl<'a> ChangeIndex<'a> {
         }
     }
 
-    /// What stands at the path after the first changes, so many. What some of the first of all changes left at their own
-    /// paths is known, each kind right behind its change, as [`ChangeIndex::kind_behind`] says it. Where a look comes to
-    /// such a path, it follows copies no further.
+    /// What exists at the path after the first `count` changes. The caller gives what some of the first of all changes left at
+    /// their own paths, each kind right after its change, as [`ChangeIndex::kind_behind`] says it. When a look comes to such a
+    /// path, it follows no more copies.
     pub fn kind_known(
         &self,
         alloc: Global,
@@ -276,7 +276,7 @@ impl<'a> ChangeIndex<'a> {
         }
     }
 
-    /// What stands at the path after the first changes, so many.
+    /// What exists at the path after the first `count` changes.
     pub fn kind_at(
         &self,
         alloc: Global,
@@ -289,8 +289,8 @@ impl<'a> ChangeIndex<'a> {
         self.kind_known(alloc, path, count, &[])
     }
 
-    /// What the change at this place leaves at its path, where these kinds of node stand there before it, and at its
-    /// copy's source, if it makes one. At a path with less bytes it changes nothing.
+    /// What the change at this place leaves at its path, if these kinds of node exist there before it, and at the source of the
+    /// copy that it makes. It changes nothing at a path with fewer bytes.
     pub fn kind_behind(
         &self,
         place: usize,
@@ -311,7 +311,7 @@ impl<'a> ChangeIndex<'a> {
         with_text(kind_made(change, here, source), change.text.sets())
     }
 
-    /// The place of the latest of the first changes, so many, that sets the part at the path.
+    /// The place of the latest of the first `count` changes that sets the part at the path.
     fn latest_setting(&self, part: Part, path: &[u8], count: usize) -> Option<usize>
         ensures { result ≡ latest_place (sets_at part self.now path.now) count }
     {
@@ -357,7 +357,7 @@ impl<'a> ChangeIndex<'a> {
         Step::last(own)
     }
 
-    /// What is looked up for the part of what stands at the path after the first changes, so many.
+    /// What is looked up for the part of what exists at the path after the first `before` changes.
     fn step<'p>(&self, part: Part, path: &'p [u8], before: usize) -> Step<'p, 'a>
         requires { ends_in_slash path.now ≡ false }
         ensures { IsTrailStep part self.now before path.now result }
@@ -376,8 +376,8 @@ impl<'a> ChangeIndex<'a> {
         )
     }
 
-    /// The places of the changes that set the part of what stands at the path after the first changes, so many, in their
-    /// order: the first sets the whole part, or is of a new node; each other one edits what the one before left.
+    /// The places of the changes that set the part of what exists at the path after the first `count` changes, in their order.
+    /// The first one sets the whole part, or is of a new node; each other one edits what the one before left.
     pub fn settings_at(
         &self,
         alloc: Global,

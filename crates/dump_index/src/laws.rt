@@ -3,30 +3,30 @@ ghost use Rattle.dump_index.specs.ExistsEver.{ExistingIsFound};
 ghost use Rattle.dump_index.specs.ToldKinds.{IndexTellsKinds};
 ghost use Rattle.dump_index.specs.IndexLaws.{ChildrenAreOfTrees, KindsAreFound, KindsAreOfTrees, NamesEverAreFound, NamesEverSuffice, PropsAreFound, TextsAreFound};
 
-/// Where a node stands in the repository, its kind is what an index finds; and where the dump loads, an index finds what
-/// stands in each tree, and where nothing does.
+/// If a node exists in the repository, an index finds its kind. If the dump loads, an index finds what exists in each tree, and
+/// at which paths nothing does.
 pub fn kinds_are_found()
     ensures node { KindsAreFound }
     ensures trees { KindsAreOfTrees }
     ensures told { IndexTellsKinds }
 {}
 
-/// Where a node stands in the repository, its properties and its text are what the changes make that an index finds.
+/// If a node exists in the repository, its properties and its text are what the changes make that an index finds.
 pub fn settings_are_found()
     ensures props { PropsAreFound }
     ensures text { TextsAreFound }
 {}
 
-/// Where the dump loads, the names that an index finds in a directory are exactly those of what stands in it; and each name
-/// by which something can stand in it at the end of a revision is among those that ever can, so siblings are found by them.
+/// If the dump loads, the names that an index finds in a directory are exactly those of what exists in it. Each name by which
+/// something can exist in it at the end of a revision is among those that ever can, so siblings are found by them.
 pub fn children_are_found()
     ensures trees { ChildrenAreOfTrees }
     ensures ever { NamesEverAreFound }
     ensures siblings { NamesEverSuffice }
 {}
 
-/// Where the dump loads, an index finds that something exists at a path at some time exactly where something exists there
-/// after some of the changes.
+/// If the dump loads, and something exists at a path after some of the changes, an index finds that something exists there at
+/// some time. If the dump has a revision, the reverse holds too.
 pub fn existing_is_found()
     ensures { ExistingIsFound }
 {}

@@ -4,12 +4,12 @@ ghost use Rattle.dump_index.specs.steps.Looks.{is_since};
 
 use crate::change::{NodeKind, Source};
 
-/// What stands at a path, or where that is looked up.
+/// What exists at a path, or the source at which that is looked up.
 #[derive(Clone, Copy)]
 pub(crate) enum Look<'p, 'a> {
-    /// This stands there.
+    /// This exists there.
     Found(Option<NodeKind>),
-    /// What stood at the source, or below it at this rest of the path; and whether a text is set on it since.
+    /// What existed at the source, or below it at this rest of the path; and whether a text is set on it since.
     Copied(Source<'a>, &'p [u8], bool),
 }
 

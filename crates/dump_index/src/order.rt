@@ -17,7 +17,7 @@ use std::marker::Model;
 pub(crate) enum Effect {
     /// It deletes or makes something at its path.
     Shaping,
-    /// It deletes or copies, so what stands below its path changes too.
+    /// It deletes or copies, so what exists below its path changes too.
     Moving,
     /// It sets properties.
     Props,
@@ -59,14 +59,14 @@ pub(crate) struct Key<'a> {
 }
 
 impl Key<'_> {
-    /// How the key stands to that of a path and a place: the path decides, and then the place.
+    /// How the key compares to that of a path and a place: by the paths, and then by the places.
     fn compare(&self, path: &[u8], place: usize) -> Ordering
         ensures { result ≡ key_cmp (key_of self.now) (path.now, place) }
     {
         self.path.cmp(path).then(self.place.cmp(&place))
     }
 
-    /// Whether the key stands before that of a path and a place.
+    /// Whether the key comes before that of a path and a place.
     fn is_before(&self, path: &[u8], place: usize) -> bool
         ensures { result ≡ is_key_before (key_of self.now) (path.now, place) }
     {
@@ -74,7 +74,7 @@ impl Key<'_> {
     }
 }
 
-/// A change at a path right below a directory, by its name and its place in the dump, and which key comes behind its own.
+/// A change at a path right below a directory, by its name and its place in the dump, and which key comes after its own.
 #[derive(Clone, Copy)]
 pub(crate) struct Child<'a> {
     pub(crate) name: &'a [u8],
@@ -195,7 +195,7 @@ impl<'a> PathOrder<'a> {
         Ok(PathOrder { keys })
     }
 
-    /// The place of the latest of the first changes, so many, of this effect at this path.
+    /// The place of the latest of the first `count` changes that has this effect and is at this path.
     pub(crate) fn latest_at(&self, path: &[u8], count: usize) -> Option<usize>
         ensures { (effect : Effect) (listed : List Listed) → HasKeys effect listed self.now
             → result ≡ latest_place (has_effect_at effect listed path.now) count }
@@ -210,7 +210,7 @@ impl<'a> PathOrder<'a> {
         }
     }
 
-    /// The later of a place and that of the latest of the first changes, so many, at the root or at a path above this
+    /// The later of a place and that of the latest of the first `count` changes that is at the root or at a path above this
     /// one. It looks up each part of the path before a slash.
     pub(crate) fn latest_above(
         &self,
@@ -232,7 +232,7 @@ impl<'a> PathOrder<'a> {
     }
 }
 
-/// How many keys come before the first that comes behind all whose paths begin with the front.
+/// How many keys come before the first one that is after all keys whose paths begin with the front.
 fn behind(keys: &[Key<'_>], front: &[u8]) -> usize
     requires { IsSortedKeys keys.now }
     ensures { IsBehind (map key_of keys.now) front.now result }
@@ -249,8 +249,8 @@ impl<'a> PathOrder<'a> {
         self.keys.partition_point(|key| key.is_before(top, 0))
     }
 
-    /// The first change, from this key on, whose path is right below the directory. What stands further below it passes
-    /// over, by a binary search for each directory there.
+    /// The first change, from this key on, whose path is right below the directory. It passes over what is further below, by
+    /// one binary search for each directory there.
     pub(crate) fn next_child(&self, top: &[u8], from: usize) -> Option<Child<'a>>
         requires { AreFrom self.now top.now from }
         ensures { IsNextChildKey self.now top.now from result }

@@ -1,4 +1,4 @@
-//! Where what stands at a path comes from.
+//! The origins of what exists at paths.
 ghost use Rattle.std.specs.Prelude.{◌≡◌, option_map};
 ghost use Rattle.dump_index.specs.Listed.{listed_made};
 ghost use Rattle.dump_index.specs.steps.Looks.{IsMadeBy, kind_with_text};
@@ -7,18 +7,18 @@ ghost use Rattle.dump_index.specs.steps.KnownKinds.{left_kind, made_kind};
 use crate::change::{NodeChange, NodeKind, NodeMade, Source};
 use crate::path_text::rest_behind;
 
-/// Where what a change leaves at a path comes from, where the change decides that.
+/// The origin of what a change leaves at a path, if the change decides what exists there.
 #[derive(Clone, Copy)]
 pub(crate) enum Origin<'p, 'a> {
-    /// Nothing stands there.
+    /// Nothing exists there.
     Nowhere,
     /// It is new.
     New(NodeKind),
-    /// It stood at the source, or below it at this rest of the path.
+    /// It existed at the source, or below it at this rest of the path.
     Copied(Source<'a>, &'p [u8]),
 }
 
-/// Where what the change leaves at the path comes from. The path is the change's own one, or stands below that.
+/// The origin of what the change leaves at the path. The path is the change's own one, or below that.
 pub(crate) fn made_origin<'p, 'a>(change: &NodeChange<'a>, path: &'p [u8]) -> Origin<'p, 'a>
     ensures { IsMadeBy change.now path.now result }
 {
@@ -31,7 +31,7 @@ pub(crate) fn made_origin<'p, 'a>(change: &NodeChange<'a>, path: &'p [u8]) -> Or
     }
 }
 
-/// What is left of a node, where a text is set or not: a folder has none, so no load takes one.
+/// The kind of a node on which a text is set, or none is. No load sets a text on a directory, so that gives nothing.
 pub(crate) fn with_text(kind: Option<NodeKind>, has_text: bool) -> Option<NodeKind>
     ensures { result ≡ kind_with_text has_text kind }
 {
@@ -41,7 +41,7 @@ pub(crate) fn with_text(kind: Option<NodeKind>, has_text: bool) -> Option<NodeKi
     }
 }
 
-/// What the change leaves at its path, but for a text, where these kinds of node stand there before it, and at its copy's
+/// What the change leaves at its path, apart from a text, if these kinds of node exist there before it, and at its copy's
 /// source.
 pub(crate) fn kind_made(
     change: &NodeChange<'_>,

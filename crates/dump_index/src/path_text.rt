@@ -20,7 +20,7 @@ pub fn ends_in_slash(text: &[u8]) -> bool
     ends
 }
 
-/// What the path goes on with behind a top and a slash; nothing, where it doesn't.
+/// The text that follows a top and a slash in the path; nothing, if no text does.
 pub fn rest_behind<'p>(top: &[u8], path: &'p [u8]) -> &'p [u8]
     ensures { result.now ≡ rest_text top.now path.now }
 {
@@ -33,7 +33,7 @@ pub fn rest_behind<'p>(top: &[u8], path: &'p [u8]) -> &'p [u8]
     }
 }
 
-/// The rest of a path, joined to a path above it.
+/// The text of a path and of a rest below it.
 pub fn joined(alloc: Global, top: &[u8], rest: &[u8]) -> Result<Vec<u8>, Memory>
     ensures { IfOk result (λ text. text.items ≡ joined_text top.now rest.now) }
 {
@@ -47,7 +47,7 @@ pub fn joined(alloc: Global, top: &[u8], rest: &[u8]) -> Result<Vec<u8>, Memory>
     Ok(text)
 }
 
-/// What the paths below this one begin with: the path and a slash, but of the root nothing.
+/// The text with which the paths below this one begin: the path and a slash, but nothing for the root.
 pub fn top_of(alloc: Global, path: &[u8]) -> Result<Vec<u8>, Memory>
     ensures { IfOk result (λ text. text.items ≡ top_text path.now) }
 {
@@ -58,7 +58,7 @@ pub fn top_of(alloc: Global, path: &[u8]) -> Result<Vec<u8>, Memory>
     Ok(text)
 }
 
-/// How many bytes stand before the first slash.
+/// How many bytes come before the first slash; all, if there is none.
 fn name_end(text: &[u8]) -> usize
     ensures { result ≡ name_end text.now }
 {
@@ -74,7 +74,7 @@ fn name_end(text: &[u8]) -> usize
     end
 }
 
-/// How a path stands to what the paths below a directory begin with.
+/// How a path compares to the text with which the paths below a directory begin.
 #[derive(Clone, Copy)]
 pub(crate) enum Below<'p> {
     /// It doesn't begin so.
@@ -87,7 +87,7 @@ pub(crate) enum Below<'p> {
     Further(&'p [u8]),
 }
 
-/// How the path stands to this top.
+/// How the path compares to this top.
 pub(crate) fn stand_below<'p>(top: &[u8], path: &'p [u8]) -> Below<'p>
     ensures { StandsSo top.now path.now result }
 {

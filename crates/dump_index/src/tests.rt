@@ -1,4 +1,4 @@
-//! What no clause says: a worked history, asked at each path, and memory that is refused.
+//! What no clause says: a worked history, asked at each path, and allocations that fail.
 use crate::{
     ChangeIndex, Memory, NodeChange, NodeKind, NodeMade, Part, Setting, Source, ends_in_slash,
     first_out_of_order,
@@ -201,7 +201,7 @@ fn directories_are_listed(rt: HostRuntime) -> Result<(), Fail> {
     Ok(())
 }
 
-/// Whether this stands, behind all changes, at the path of the first, where what that leaves there is known. It is a copy.
+/// Whether this exists, after all changes, at the path of the first, if what that leaves there is known. It is a copy.
 fn first_leaves(alloc: Global, index: &ChangeIndex<'_>, kind: NodeKind) -> Result<bool, Memory> {
     let Some(first) = index.get(0) else {
         return Ok(false);
@@ -323,7 +323,7 @@ fn has_first_or_lacks_memory(alloc: Global, index: &ChangeIndex<'_>) -> bool {
     }
 }
 
-/// Run with each allocation refused in turn: the directory is listed, or there is no memory.
+/// Run with each allocation failing in turn: the directory is listed, or there is no memory.
 #[test]
 fn a_directory_or_no_memory(rt: HostRuntime) {
     let alloc = rt.alloc();

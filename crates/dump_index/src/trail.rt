@@ -1,4 +1,4 @@
-//! The changes that set the properties or the text of what stands at a path.
+//! The changes that set the properties or the text of what exists at a path.
 ghost use Rattle.std.specs.Prelude.{◌≡◌, ◌++◌, OnOk, option_to_list};
 ghost use Rattle.dump_index.specs.Listed.{listed_of};
 ghost use Rattle.dump_index.specs.Settings.{is_replacing, own_place, setting_of};
@@ -19,9 +19,9 @@ pub enum Part {
 pub(crate) enum Next<'p, 'a> {
     /// Nothing.
     End,
-    /// What stood there before the change at this place.
+    /// What existed there before the change at this place.
     Before(usize),
-    /// What stood at the source, or below it at this rest of the path.
+    /// What existed at the source, or below it at this rest of the path.
     Copied(Source<'a>, &'p [u8]),
 }
 
@@ -55,7 +55,7 @@ pub(crate) fn replaces(change: &NodeChange<'_>, part: Part) -> bool
     matches!(setting, Setting::Replaces)
 }
 
-/// The place, where something is set there.
+/// The place, if something is set there.
 pub(crate) fn own_place(set: bool, place: usize) -> Option<usize>
     ensures { option_to_list result ≡ own_place set place }
 {

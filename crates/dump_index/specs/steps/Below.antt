@@ -1,4 +1,4 @@
--- How paths stand below a directory, told from their texts, and where those paths come in an order.
+-- Whether paths are below a directory, as determined by their texts, and at which places of an order they are.
 use Rattle.std.specs.Prelude.{◌≡◌, ◌≤◌, ◌<◌, ◌+◌, ℕ, suc, Bool, true, false, not, ◌==◌, List, [], ◌∷◌, ◌++◌, length, take, Option, Some, None, slice_get, if◌then◌else◌}
 use Rattle.std.specs.Cmp.Lexicographic.{slice_cmp}
 use Rattle.std.specs.Ordering.{is_lt, nat_cmp}
@@ -13,18 +13,18 @@ abbrev pub top_text : List ℕ → List ℕ
 top_text [] = []
 top_text (b ∷ path) = (b ∷ path) ++ 47 ∷ []
 
--- how many bytes stand before the first slash
+-- how many bytes come before the first slash; all, if there is none
 abbrev pub name_end : List ℕ → ℕ
 name_end [] = 0
 name_end (b ∷ text) = if b == 47 then 0 else suc (name_end text)
 
--- the path begins with this part, and no path that does so is the top and then a name alone
+-- the path begins with this front, and no path that begins with it is the top and then a name alone
 abbrev pub GoesFurther : List ℕ → List ℕ → List ℕ → Type 0
 GoesFurther top path front =
     ((rest : List ℕ) × (path ≡ front ++ rest))
     × ((rest name : List ℕ) → front ++ rest ≡ top ++ name → is_name name ≡ false)
 
--- how a path stands to what the paths below a directory begin with
+-- how a path compares to the text with which the paths below a directory begin
 abbrev pub StandsSo : List ℕ → List ℕ → Below → Type 0
 StandsSo top path Outside = (rest : List ℕ) → path ≡ top ++ rest → ⊥
 StandsSo top path Itself = path ≡ top
@@ -35,7 +35,7 @@ StandsSo top path (Further front) = GoesFurther top path front.now
 abbrev pub ends_up_to : List ℕ → List ℕ → Bool
 ends_up_to front path = not (is_lt (slice_cmp nat_cmp front (take (length front) path)))
 
--- so many keys come before the first that isn't up to the front
+-- the keys before this point are up to the front, and none from the point on is
 pub record IsBehind (keys : List PathKey) (front : List ℕ) (point : ℕ) : Type 0 where
   pub bound : point ≤ length keys
   pub before : (n : ℕ) (key : PathKey) → n < point → slice_get keys n ≡ Some key → ends_up_to front key.0 ≡ true

@@ -17,14 +17,14 @@ PathKey = List ℕ × ℕ
 abbrev pub key_of : Key → PathKey
 key_of key = (key.path.now, key.place)
 
--- the path decides, and then the place
+-- keys are compared by their paths, and keys of one path by their places
 abbrev pub key_cmp : PathKey → PathKey → Ordering
 key_cmp a b = ordering_then (slice_cmp nat_cmp a.0 b.0) (nat_cmp a.1 b.1)
 
 abbrev pub is_key_before : PathKey → PathKey → Bool
 is_key_before a b = is_lt (key_cmp a b)
 
--- no key stands before the one before it
+-- no key comes before the one that precedes it
 abbrev pub IsSortedKeys : List Key → Type 0
 IsSortedKeys keys = IsSortedBy (λ a b. is_key_before (key_of a) (key_of b)) keys
 

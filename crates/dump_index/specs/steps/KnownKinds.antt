@@ -1,4 +1,4 @@
--- What is known of the changes before, and what a change leaves at its own path.
+-- What is known of earlier changes, and what a change leaves at its own path.
 use Rattle.std.specs.Prelude.{◌≡◌, ◌<◌, ℕ, zero, suc, Bool, true, false, List, Option, Some, None, slice_get, nat_lt, if◌then◌else◌}
 use Rattle.dump_trees.specs.Paths.{names_of}
 use Rattle.dump_trees.specs.Changes.{Made}
@@ -13,12 +13,12 @@ use Rattle.dump_index.specs.declared.look.Look.TheVariants.{Found, Copied}
 use Rattle.dump_index.specs.steps.Touching.{joined_text}
 use Rattle.dump_index.specs.steps.Looks.{kind_with_text}
 
--- how many changes there are up to the one at this place, and with it
+-- how many changes there are up to the one at this place, and with it; none, if there is no place
 abbrev pub count_through : Option ℕ → ℕ
 count_through None = zero
 count_through (Some place) = suc place
 
--- these are the kinds that the first changes leave at their paths, each right behind it
+-- these are the kinds that the first changes leave at their paths, each right after its change
 abbrev pub AreKindsBehind : List Listed → List (Option NodeKind) → Type 0
 AreKindsBehind listed known = (place : ℕ) (kind : Option NodeKind) (l : Listed) →
     slice_get known place ≡ Some kind → slice_get listed place ≡ Some l
@@ -32,19 +32,19 @@ source_look listed revision (Some Made.NewFile) = None
 source_look listed revision (Some (Made.Copied number source)) =
     if nat_lt number revision then kind_look listed (end_of (all_placed listed) number) source else None
 
--- what a change leaves of what stood at its path, once it has deleted
+-- what exists at the path of a change after its deletion, if it deletes
 abbrev pub left_kind : Bool → Option NodeKind → Option NodeKind
 left_kind true here = None
 left_kind false here = here
 
--- and once it has made something, where this stands at a copy's source
+-- and after it makes something, if it does; a copy makes what exists at its source
 abbrev pub made_kind : Option Made → Option NodeKind → Option NodeKind → Option NodeKind
 made_kind None left source = left
 made_kind (Some Made.NewFolder) left source = Some Folder
 made_kind (Some Made.NewFile) left source = Some File
 made_kind (Some (Made.Copied number from)) left source = source
 
--- one step of a look: what stands at the path, or where that is looked up, after less changes
+-- one step of a look: what exists at the path, or the source of a copy at which that is looked up, after fewer changes
 abbrev pub IsLook : List Listed → ℕ → List ℕ → Look → Type 0
 IsLook listed before path (Found kind) = kind_look listed before (names_of path) ≡ kind
 IsLook listed before path (Copied source rest set) =

@@ -1,4 +1,4 @@
--- What is looked up for what stands at a path.
+-- What is looked up to find what exists at a path.
 use Rattle.std.specs.Prelude.{◌≡◌, ◌≤◌, ℕ, zero, suc, Bool, true, false, ◌||◌, ◌==◌, List, [], ◌∷◌, ◌++◌, Option, Some, None, option_map, slice_get, nat_le, ⊤, if◌then◌else◌}
 use Rattle.dump_trees.specs.Paths.{NodePath, names_of, below}
 use Rattle.dump_trees.specs.Trees.{root_alone}
@@ -18,14 +18,14 @@ use Rattle.dump_index.specs.declared.origin.Origin.TheVariants.{Nowhere, New, Co
 use Rattle.dump_index.specs.steps.Keys.{has_effect_at}
 use Rattle.dump_index.specs.steps.Touching.{shapes, rest_text, joined_text}
 
--- what is left where a text is set or not: a folder has none, so no load takes one
+-- the kind of a node on which a text is set, or none is; no load sets a text on a directory, so that gives nothing
 abbrev pub kind_with_text : Bool → Option NodeKind → Option NodeKind
 kind_with_text false kind = kind
 kind_with_text true None = None
 kind_with_text true (Some AFolder) = None
 kind_with_text true (Some AFile) = Some AFile
 
--- what stands where it comes from, behind the change at this place
+-- what exists at the origin of what the change at this place leaves at the path
 abbrev pub came_rest : List Listed → ℕ → NodePath → Listed → Option NodePath → Option NodeKind
 came_rest listed place path l None = None
 came_rest listed place path l (Some rest) =
@@ -37,19 +37,19 @@ came_there listed place path None = None
 came_there listed place path (Some l) =
     came_rest listed place (names_of path) l (below (names_of l.path) (names_of path))
 
--- behind the latest change that shapes the path; without one what stood in the first tree
+-- the same for the latest change that shapes the path; if there is none, what exists in the first tree
 abbrev pub came : List Listed → List ℕ → Option ℕ → Option NodeKind
 came listed path None = option_map node_kind (root_alone (names_of path))
 came listed path (Some place) = came_there listed place path (slice_get listed place)
 
--- whether one of so many changes sets a text at the path, behind the latest that shapes it or in that
+-- whether one of so many changes sets a text at the path, and is the latest that shapes it or comes after that
 abbrev pub text_since : List Listed → List ℕ → ℕ → Bool
 text_since listed path zero = false
 text_since listed path (suc count) =
     if shapes listed path count then has_effect_at Texts listed path count
     else (has_effect_at Texts listed path count || text_since listed path count)
 
--- whether the second place is there, and not before the first
+-- whether there is a second place, and it isn't before the first, if there is one
 abbrev pub is_since : Option ℕ → Option ℕ → Bool
 is_since shaped None = false
 is_since None (Some place) = true
@@ -60,14 +60,14 @@ abbrev pub is_place : Option ℕ → ℕ → Bool
 is_place None other = false
 is_place (Some place) other = place == other
 
--- what stands where it comes from
+-- what exists at the origin
 abbrev pub origin_kind : List Listed → Origin → Option NodeKind
 origin_kind listed Nowhere = None
 origin_kind listed (New kind) = Some kind
 origin_kind listed (Copied source rest) =
     kind_look listed (end_of (all_placed listed) source.revision) (names_of source.path.now ++ names_of rest.now)
 
--- the names that can stand below what stands where it comes from
+-- the names that can exist right below the origin
 abbrev pub origin_names : List Listed → Origin → List (List ℕ)
 origin_names listed Nowhere = []
 origin_names listed (New kind) = []
@@ -80,7 +80,7 @@ abbrev pub made_as : NodeKind → NodeMade
 made_as AFolder = Folder
 made_as AFile = File
 
--- whether nothing is made at the rest of a path
+-- whether nothing is made at this rest of a path: no copy, and nothing new, which is made only at the empty rest
 abbrev pub makes_none : Option NodeMade → List ℕ → Bool
 makes_none None rest = true
 makes_none (Some Folder) [] = false
@@ -89,13 +89,13 @@ makes_none (Some File) [] = false
 makes_none (Some File) (b ∷ rest) = true
 makes_none (Some (CopyOf source)) rest = false
 
--- what the change leaves at the path comes from there
+-- what the change leaves at the path has this origin
 abbrev pub IsMadeBy : NodeChange → List ℕ → Origin → Type 0
 IsMadeBy c path Nowhere = makes_none c.made (rest_text c.path.now path) ≡ true
 IsMadeBy c path (New kind) = (rest_text c.path.now path ≡ []) × (c.made ≡ Some (made_as kind))
 IsMadeBy c path (Copied source rest) = (c.made ≡ Some (CopyOf source)) × (rest.now ≡ rest_text c.path.now path)
 
--- a copy's source is looked up after no more changes than stand before the copy, and its text doesn't end in a slash
+-- a copy's source is looked up after no more changes than come before the copy, and its text doesn't end in a slash
 abbrev pub GoesBack : List Listed → Option ℕ → Origin → Type 0
 GoesBack listed shaped Nowhere = ⊤
 GoesBack listed shaped (New kind) = ⊤

@@ -19,14 +19,14 @@ makes_there (Some l) = is_some l.made
 abbrev pub makes_at : List Listed → ℕ → Bool
 makes_at listed place = makes_there (slice_get listed place)
 
--- whether the key is of this path, and of one of the first changes, so many, that makes something
+-- whether the key is of this path, and of a change that makes something among the first ones, so many
 abbrev pub makes_key : List Listed → ℕ → List ℕ → PathKey → Bool
 makes_key listed count path key = bytes_eq key.0 path && (nat_lt key.1 count && makes_at listed key.1)
 
--- the names are the old ones and those of which the test holds
+-- the new names are the old ones and those of which the test holds
 abbrev pub AddsNames : List (Bor (List ℕ)) → List (Bor (List ℕ)) → (List ℕ → Bool) → Type 0
 AddsNames old new more = (name : List ℕ) → is_child_named (texts_of new) name ≡ (is_child_named (texts_of old) name || more name)
 
--- each can be the name of a node
+-- each of them can be the name of a node
 abbrev pub AreNames : List (Bor (List ℕ)) → Type 0
 AreNames names = (name : List ℕ) → is_child_named (texts_of names) name ≡ true → is_name name ≡ true

@@ -1,15 +1,15 @@
--- Which changes touch a path, told from texts.
+-- Which changes touch a path, as determined by texts.
 use Rattle.std.specs.Prelude.{ℕ, suc, Bool, drop, ◌&&◌, ◌||◌, List, [], ◌∷◌, ◌++◌, length, Option, Some, None, slice_get, bytes_eq, nat_lt, max}
 use Rattle.dump_index.specs.Listed.{Listed}
 pub use Rattle.dump_index.specs.Effects.{goes_on, stands_over, moves_there, moves_above, shapes}
 use Rattle.dump_index.specs.declared.order.Effect.TheVariants.{Shaping, Props, Texts}
 use Rattle.dump_index.specs.steps.Keys.{has_effect_at}
 
--- the same, where the top has less bytes than this
+-- the same as `stands_over`, for the root and for tops with fewer bytes than this
 abbrev pub stands_over_within : ℕ → List ℕ → List ℕ → Bool
 stands_over_within bound path top = bytes_eq top [] || (goes_on top path && nat_lt (length top) bound)
 
--- the same for tops with less bytes than this
+-- the same as `moves_above`, for the root and for tops with fewer bytes than this
 abbrev pub moves_within : ℕ → List Listed → List ℕ → ℕ → Bool
 moves_within bound listed path place = moves_there (stands_over_within bound path) (slice_get listed place)
 
@@ -26,12 +26,12 @@ later None other = other
 later (Some place) None = Some place
 later (Some place) (Some other) = Some (max place other)
 
--- the text of what the path goes on with behind a top and a slash
+-- the text that follows a top and a slash in the path; if the top is the root, the whole path
 abbrev pub rest_text : List ℕ → List ℕ → List ℕ
 rest_text [] path = path
 rest_text (b ∷ top) path = drop (suc (length (b ∷ top))) path
 
--- the text of a path below another one
+-- the text of a path and of a rest below it: with a slash between them, if neither is empty
 abbrev pub joined_text : List ℕ → List ℕ → List ℕ
 joined_text top [] = top
 joined_text [] (b ∷ rest) = b ∷ rest

@@ -1,4 +1,4 @@
-//! The names of what stands in a directory.
+//! The names of what exists in a directory.
 ghost use Rattle.std.specs.Prelude.{◌≡◌, false, true, IfOk, OnOk, filter, map};
 ghost use Rattle.dump_trees.specs.Paths.{names_of};
 ghost use Rattle.dump_trees.specs.Listing.{names_look, names_made};
@@ -27,7 +27,7 @@ fn makes_at(changes: &[NodeChange<'_>], place: usize) -> bool
     }
 }
 
-/// Adds the name of each of the first changes, so many, that makes something right below the path.
+/// Adds the name of each of the first `count` changes that makes something right below the path.
 fn push_made<'a>(
     alloc: Global,
     changes: &[NodeChange<'a>],
@@ -54,8 +54,8 @@ fn push_made<'a>(
 }
 
 impl<'a> ChangeIndex<'a> {
-    /// Adds the names that can stand right below the path after the first changes, so many: those of what is made there,
-    /// and those at the source of a copy.
+    /// Adds the names that can exist right below the path after the first `count` changes: those of what is made there, and
+    /// those at the source of a copy.
     fn push_names(
         &self,
         alloc: Global,
@@ -84,7 +84,7 @@ impl<'a> ChangeIndex<'a> {
         }
     }
 
-    /// Those of the names by which something stands right below the path after the first changes, so many.
+    /// Those of the names by which something exists right below the path after the first `count` changes.
     fn standing(
         &self,
         alloc: Global,
@@ -108,8 +108,8 @@ impl<'a> ChangeIndex<'a> {
         Ok(kept)
     }
 
-    /// The names of what stands in the directory at the path after the first changes, so many, each once and in the order
-    /// of their bytes; none, where no directory stands there.
+    /// The names of what exists in the directory at the path after the first `count` changes, each once and in the order of
+    /// their bytes. There are none if no directory exists there.
     pub fn children(
         &self,
         alloc: Global,
@@ -126,8 +126,8 @@ impl<'a> ChangeIndex<'a> {
         self.standing(alloc, path, count, &names)
     }
 
-    /// The names by which something can stand right below the path at some time, each once and in the order of their
-    /// bytes: those of what is made there, and those at the source of each copy of the path or of a directory above.
+    /// The names by which something can exist right below the path at some time, each once and in the order of their bytes.
+    /// They are those of what is made there, and those at the source of each copy of the path or of a directory above.
     pub fn names_ever(&self, alloc: Global, path: &[u8]) -> Result<Vec<&'a [u8]>, Memory>
         requires { ends_in_slash path.now ≡ false }
         ensures { IfOk result (λ names. AreNamesEver self.now (names_of path.now) (texts_of names.items)) }
