@@ -19,8 +19,9 @@ abbrev pub is_covered_by_one : (paths others : List NodePath) → NodePath → B
 is_covered_by_one paths others path =
     (is_covered paths path && not (is_covered others path)) || (is_covered others path && not (is_covered paths path))
 
--- where two cuts of a dump with these changes differ, which exclude these paths: at each path that one of them excludes alone and
--- at which something exists at some time, and at each path that mergeinfo names and one of them excludes alone
+-- the paths at which two cuts of a dump with these changes differ; one excludes these paths, and one the others. They are each
+-- excluded path that the other cut doesn't exclude and at which something exists at some time, and each path that mergeinfo
+-- names and one cut excludes alone
 pub record AreDifferences (dump : List ℕ) (listed : List Listed) (paths others differences : List NodePath) : Type 0 where
   pub names : List NodePath
   pub are_names : AreMergePaths dump names

@@ -49,8 +49,8 @@ abbrev pub FiltersWriteAlike : Type 0
 FiltersWriteAlike = (settings others : Settings) (dump text : List ℕ) (records : List DumpRecord) →
     AreFilteredAlike settings others records → IsCleanText settings dump records text → IsCleanText others dump records text
 
--- so the first part of what the filter with the one set of options writes of a dump is what the filter with the other one writes of
--- the first part of the dump, if they keep the same of that, and no revision is dropped or renumbered
+-- so the first part of what the filter with the one set of options writes of a dump is what the filter with the other one
+-- writes of the first part of the dump. This holds if they keep the same of that part, and no revision is dropped or renumbered
 abbrev pub FirstPartsGoOn : Type 0
 FirstPartsGoOn = (settings others : Settings) (number : ℕ) (dump text first part : List ℕ) (records firsts : List DumpRecord) →
     IsCleanText settings dump records text → LengthsFit settings records
@@ -77,8 +77,8 @@ AlikeCutsCoverTheSame = (dump : List ℕ) (changes : List NodeChange) (revisions
     → loaded_over root_alone revisions ≡ Some trees → AreCutAlike dump (map listed_of changes) paths others
     → (path : NodePath) → ExistsOnce revisions path → is_covered paths path ≡ is_covered others path
 
--- so filters that exclude these paths keep the same of the dump, if it loads, each of its changes does something, and mergeinfo and
--- the sources of copies are as svnadmin writes them
+-- so filters that exclude these paths keep the same of the dump, if it loads, each of its changes does something, and mergeinfo
+-- and the sources of copies are as svnadmin writes them
 abbrev pub AlikeCutsAreFilteredAlike : Type 0
 AlikeCutsAreFilteredAlike = (patched : Patching) (settings others : Settings) (dump : List ℕ) (records : List DumpRecord)
     (changes : List NodeChange) (revisions : List (List Change)) (trees : List Tree) (paths their_paths : List NodePath) →
@@ -91,8 +91,8 @@ AlikeCutsAreFilteredAlike = (patched : Patching) (settings others : Settings) (d
     → settings.skip_missing ≡ others.skip_missing
     → AreCutAlike dump (map listed_of changes) paths their_paths → AreFilteredAlike settings others records
 
--- the siblings of the same included paths, as they are found in a dump and in the changes of its first revisions, exclude the same of
--- what exists after some change of these
+-- the siblings of the same included paths, as they are found in a dump and in the changes of its first revisions, exclude the
+-- same of what exists after some change of these
 abbrev pub FirstSiblingsCoverTheSame : Type 0
 FirstSiblingsCoverTheSame = (changes : List NodeChange) (revisions : List (List Change)) (number : ℕ)
     (included siblings first_siblings : List NodePath) →
@@ -101,8 +101,8 @@ FirstSiblingsCoverTheSame = (changes : List NodeChange) (revisions : List (List 
     → (path : NodePath) → ExistsOnce (take number revisions) path
     → is_covered siblings path ≡ is_covered first_siblings path
 
--- so filters that exclude them keep the same of the first part of a dump that loads, if each of its changes does something, and
--- mergeinfo and the sources of copies are as svnadmin writes them
+-- so filters that exclude them keep the same of the first part of a dump that loads. This holds if each change of that part
+-- does something, and its mergeinfo and the sources of its copies are as svnadmin writes them
 abbrev pub FirstSiblingsFilterAlike : Type 0
 FirstSiblingsFilterAlike = (patched : Patching) (settings others : Settings) (number : ℕ) (dump first : List ℕ)
     (records firsts : List DumpRecord) (changes : List NodeChange) (revisions : List (List Change)) (trees : List Tree)

@@ -18,7 +18,7 @@ FirstPartsAreFiltered = (settings : Settings) (number : ℕ) (dump text first pa
     → IsFirstPart number dump first → IsFirstPart number text part
     → (firsts : List DumpRecord) × IsCleanText settings first firsts part
 
--- with deletes behind its nodes, the first part of a dump is the first part of the dump with these deletes
+-- with deletes after its nodes, the first part of a dump is the first part of the dump with these deletes
 abbrev pub FirstPartsAreTrimmed : Type 0
 FirstPartsAreTrimmed = (number : ℕ) (deletes : List (List (List ℕ))) (dump text first part : List ℕ)
     (records : List DumpRecord) →

@@ -14,14 +14,13 @@ use Rattle.dump_index.specs.Listed.{Listed, listed_of}
 use Rattle.dump_index.specs.ToldKinds.{kinds_told_by}
 use Rattle.dump_index.specs.declared.change.NodeChange.{NodeChange}
 
--- an index of these changes tells what exists in this history, which loads to these trees
+-- an index of these changes says what exists in this history, which loads to these trees
 pub record IsIndexOf (listed : List Listed) (revisions : List (List Change)) (trees : List Tree) : Type 0 where
   pub lists : AllZip IsListed listed (placed_from 1 revisions)
   pub tells : TellsKinds (kinds_told_by listed) root_alone (placed_from 1 revisions)
   pub loads : loaded_over root_alone revisions ≡ Some trees
 
--- then the last paths come of the first ones by these additions, one after the other, each of them one to which a copy is
--- followed
+-- then these additions, one after the other, make the last paths of the first ones. To each of them a copy is followed
 abbrev pub ComeByFollowing : Way → List Listed → List NodePath → List NodePath → List NodePath → Type 0
 ComeByFollowing way listed tops additions last = (revisions : List (List Change)) (trees : List Tree) →
     IsIndexOf listed revisions trees → AreFollowed way trees revisions tops additions last

@@ -11,7 +11,7 @@ use Rattle.dump_index.specs.Listed.{Listed, listed_of}
 use Rattle.dump_index.specs.NamesEver.{CanStandOnce}
 use Rattle.dump_index.specs.declared.change.NodeChange.{NodeChange}
 
--- these are siblings, and each sibling whose name can stand in its directory at some time is one of them
+-- these are siblings, and each sibling whose name can exist in its directory at some time is one of them
 pub record AreFoundSiblings (listed : List Listed) (included siblings : List NodePath) : Type 0 where
   pub each : IsTrue (list_all (is_sibling included) siblings)
   pub all : (path : NodePath) (name : List ℕ) → IsTrue (is_above_included included path)

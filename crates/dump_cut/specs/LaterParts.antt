@@ -1,5 +1,4 @@
--- The part of a dump after a revision. Where a repository has the revisions up to there, a load of the part goes on with the
--- others.
+-- The part of a dump after a revision. If a repository has the revisions up to there, a load of the part adds the others.
 use Rattle.std.specs.Prelude.{◌≡◌, ℕ, suc, ◌<◌, ◌≤◌, Bool, true, false, ◌&&◌, nat_lt, List, [], ◌∷◌, ◌++◌, length, take, drop, Option, Some, None, slice_get, if◌then◌else◌, IsTrue}
 use Rattle.std.specs.List.{AllZip}
 use Rattle.dump_text.specs.PropertyList.{Property}
@@ -16,7 +15,7 @@ use Rattle.dump_changes.specs.ListedDumps.{are_numbered}
 use Rattle.dump_cut.specs.declared.later.NoPart.{NoPart}
 use Rattle.dump_cut.specs.declared.later.NoPart.TheVariants.{NotNumbered, NoRevision}
 
--- the byte at which the first such record begins; this one if there is none
+-- the byte at which the first such record begins; the given end, if there is none
 abbrev pub place_of_first : (DumpRecord → Bool) → ℕ → List DumpRecord → ℕ
 place_of_first is_such end [] = end
 place_of_first is_such end (r ∷ records) = if is_such r then r.place else place_of_first is_such end records
@@ -47,8 +46,8 @@ abbrev pub IsLaterPart : ℕ → List ℕ → List ℕ → Type 0
 IsLaterPart number dump part = (records : List DumpRecord) → HasRecords dump records Ending.Whole
     → part ≡ head_part dump records ++ part_from number dump records
 
--- why a dump with these records has no part after this revision, if it has none: its revisions aren't numbered 0, 1, 2 and so on,
--- or this isn't one of them
+-- why a dump with these records has no part after this revision, if it has none: its revisions aren't numbered 0, 1, 2 and so
+-- on, or this isn't one of them
 abbrev pub IsWhyNoPart : ℕ → List DumpRecord → Option NoPart → Type 0
 IsWhyNoPart number records None = (are_numbered records ≡ true) × (number < length (revision_numbers records))
 IsWhyNoPart number records (Some NotNumbered) = are_numbered records ≡ false
@@ -68,7 +67,7 @@ pub record LoadsOn (patched : Patching) (trees : List Tree) (records : List Dump
   pub is_youngest : slice_get trees last ≡ Some youngest
   pub loads : loaded trees youngest revisions ≡ Some all
 
--- the version in force before the first such record, where this one is in force before all of them
+-- the format version in force before the first such record, if this one is in force before all records
 abbrev pub version_before_first : (DumpRecord → Bool) → ℕ → List DumpRecord → ℕ
 version_before_first is_such version [] = version
 version_before_first is_such version (r ∷ records) =
@@ -79,8 +78,8 @@ abbrev pub KeepsVersion : ℕ → List DumpRecord → Type 0
 KeepsVersion number records =
     version_before_first (is_later_revision number) 0 records ≡ version_before_first is_revision_record 0 records
 
--- both parts of a dump that loads: the first one loads into a new repository, to the trees that the dump has up to this revision;
--- and the later one loads into that, to all trees of the dump. Each revision has the properties that it has in the dump
+-- the two parts of a dump that loads. The first one loads into a new repository, to the trees that the dump has up to this
+-- revision. The later one loads into that, to all trees of the dump. Each revision has the properties that it has in the dump
 pub record LoadsInParts (patched : Patching) (number : ℕ) (records : List DumpRecord) (revisions : List (List Change))
     (trees : List Tree) (first later : List ℕ) : Type 0 where
   pub firsts : List DumpRecord

@@ -19,31 +19,31 @@ abbrev pub reason_there : ToldKinds → List Placed → ℕ → Option Placed �
 reason_there told placed place None = None
 reason_there told placed place (Some p) = refused_for p.change (kinds_told told placed place p)
 
--- it rejects none of the first changes, so many
+-- a load rejects none of the first changes, so many
 abbrev pub NoneRefused : ToldKinds → List Placed → ℕ → Type 0
 NoneRefused told placed count = (place : ℕ) → place < count
     → reason_there told placed place (slice_get placed place) ≡ None
 
--- it takes the changes before this place, and rejects the one there for this reason
+-- a load accepts the changes before this place, and rejects the one there for this reason
 pub record IsRefusedFirst (told : ToldKinds) (placed : List Placed) (place : ℕ) (reason : Refusal) : Type 0 where
   pub before : NoneRefused told placed place
   pub there : reason_there told placed place (slice_get placed place) ≡ Some reason
 
--- this is the first change that a load rejects, of all changes of which an index says this; or it rejects none
+-- of all changes that these can represent, this is the first that a load rejects; or it rejects none
 abbrev pub IsFirstRefused : List Listed → Option Refused → Type 0
 IsFirstRefused listed found = (placed : List Placed) → AllZip IsListed listed placed
     → MatchOption found (NoneRefused (kinds_told_by listed) placed (length placed))
     (λ (r : Refused). IsRefusedFirst (kinds_told_by listed) placed r.place r.refusal)
 
--- where none is rejected, and each text delta applies, the dump loads into an empty repository
+-- if a load rejects no change, and each text delta applies, the dump loads into an empty repository
 abbrev pub UnrefusedLoads : Type 0
 UnrefusedLoads = (changes : List NodeChange) (revisions : List (List Change)) →
     AreListed changes (placed_from 1 revisions) → IsFirstRefused (map listed_of changes) None
     → IsTrue (all_apply root_alone (placed_from 1 revisions) (length (placed_from 1 revisions)))
     → IsTrue (is_some (loaded_over root_alone revisions))
 
--- where one is, and each delta before it applies, the load stops at this change: it takes those before it, and with it
--- nothing loads
+-- if a load rejects this change first, and each text delta before it applies, the changes before it load. The same
+-- changes with this one don't load, and the dump doesn't
 abbrev pub RefusedIsFirst : Type 0
 RefusedIsFirst = (changes : List NodeChange) (revisions : List (List Change)) (r : Refused) (p : Placed) →
     AreListed changes (placed_from 1 revisions) → IsFirstRefused (map listed_of changes) (Some r)

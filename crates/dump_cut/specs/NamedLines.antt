@@ -16,21 +16,21 @@ use Rattle.dump_trees.specs.Siblings.{is_in_cut}
 abbrev pub is_left_by : List NodePath → List NodePath → NodePath → Bool
 is_left_by included siblings path = is_in_cut included path || is_covered siblings path
 
--- it is so with the path of each line of the value, as a load reads it
+-- this holds for the path of each line of the value, as a load reads it
 abbrev pub CoverValue : List NodePath → List NodePath → List ℕ → Type 0
 CoverValue included siblings value = (lines : List MergeLine) (line : MergeLine) → IsMergeinfo value lines
     → Contains lines line → IsTrue (is_left_by included siblings (canonical_path line.path))
 
--- with those of the mergeinfo among the properties; the name may occur more than once
+-- it holds for each value of mergeinfo among the properties; the name may occur more than once
 abbrev pub CoverProperties : List NodePath → List NodePath → List Property → Type 0
 CoverProperties included siblings ps = (p : Property) → Contains ps p → IsTrue (is_mergeinfo p)
     → CoverValue included siblings (value_of p)
 
--- with those of the record
+-- it holds for the properties of the record
 abbrev pub CoverLinesOf : List NodePath → List NodePath → DumpRecord → Type 0
 CoverLinesOf included siblings r = (ps : List Property) → HasPropertyList r ps → CoverProperties included siblings ps
 
--- and with those of all records of the dump
+-- it holds for all records of the dump
 abbrev pub CoverMergeinfo : List NodePath → List NodePath → List ℕ → Type 0
 CoverMergeinfo included siblings dump = (records : List DumpRecord) (ending : Ending) (r : DumpRecord) →
     HasRecords dump records ending → Contains records r → CoverLinesOf included siblings r

@@ -1,5 +1,5 @@
--- Copies that the filter takes as they are, told by excluded paths and by what exists at the sources; and dumps that it
--- takes as they are, since it takes all of their copies.
+-- Copies that the filter takes as they are, as determined by excluded paths and by what exists at the sources; and dumps that
+-- it takes as they are, since it takes all of their copies.
 use Rattle.std.specs.Prelude.{◌≡◌, ℕ, ◌<◌, Bool, true, false, ◌&&◌, ◌||◌, ◌==◌, List, [], ◌∷◌, length, map, Option, Some, None, slice_get, IsTrue, IsFalse}
 use Rattle.std.specs.List.{list_all}
 use Rattle.dump_records.specs.DumpText.{Ending, HasRecords}
@@ -29,15 +29,15 @@ use Rattle.dump_cut.specs.NamedPaths.{has_named_paths}
 
 -- copies
 
--- whether a copy to this path is taken as it is: the path is excluded; or nothing that is excluded at the source comes
--- with the copy, and nothing that it brings is excluded at the path alone
+-- whether a copy to this path is taken as it is: the path is excluded, or nothing that is copied is excluded at the source
+-- alone or at the path alone
 abbrev pub is_copy_taken : List NodePath → ToldKinds → List Placed → ℕ → NodePath → NodePath → Bool
 is_copy_taken excluded told placed number path source =
     is_covered excluded path
     || ((length (followed_told Way.ToCopies excluded told placed number path source) == 0)
     && (length (followed_told Way.ToSources excluded told placed number path source) == 0))
 
--- whether what a change makes is; what is made anew is taken always
+-- whether what a change makes is taken; what is new is always taken
 abbrev pub is_made_taken : List NodePath → ToldKinds → List Placed → NodePath → Option Made → Bool
 is_made_taken excluded told placed path None = true
 is_made_taken excluded told placed path (Some Made.NewFolder) = true
@@ -45,17 +45,17 @@ is_made_taken excluded told placed path (Some Made.NewFile) = true
 is_made_taken excluded told placed path (Some (Made.Copied number source)) =
     is_copy_taken excluded told placed number path source
 
--- whether the change at a place is
+-- whether the change at a place is taken; if there is none, it is
 abbrev pub is_taken_at : List NodePath → ToldKinds → List Placed → Option Placed → Bool
 is_taken_at excluded told placed None = true
 is_taken_at excluded told placed (Some p) = is_made_taken excluded told placed p.change.path p.change.made
 
--- each of the first changes is, so many
+-- each of the first changes, so many, is taken
 abbrev pub AllTaken : List NodePath → ToldKinds → List Placed → ℕ → Type 0
 AllTaken excluded told placed count = (place : ℕ) → place < count
     → IsTrue (is_taken_at excluded told placed (slice_get placed place))
 
--- the change at this place is the first that isn't; or each one is
+-- the change at this place is the first that isn't taken; or each one is taken
 abbrev pub IsFirstNotTaken : List NodePath → ToldKinds → List Placed → Option ℕ → Type 0
 IsFirstNotTaken excluded told placed None = AllTaken excluded told placed (length placed)
 IsFirstNotTaken excluded told placed (Some place) =
@@ -66,7 +66,7 @@ abbrev pub emptied_by : Bool → Empty
 emptied_by true = DropEmptied
 emptied_by false = Pad
 
--- where each change of a dump that loads is taken, the filter's cut separates each
+-- if each change of a dump that loads is taken, each of them is separated
 abbrev pub TakenRevisionsSeparate : Type 0
 TakenRevisionsSeparate = (settings : Settings) (excluded : List NodePath) (told : ToldKinds)
     (revisions : List (List Change)) (trees : List Tree) →
@@ -88,8 +88,8 @@ SeparatedDumpIsItsExpansion = (patched : Patching) (settings : Settings) (dump f
     → IsCleanText settings dump records filtered → LengthsFit settings records
     → FiltersExpansion patched settings dump records revisions trees records filtered
 
--- so a dump that loads, of which each change is taken as it is, is filtered to the dump of the repository that is meant:
--- each revision has its own number and properties, and its tree is the old one without the excluded paths
+-- so if each change of a dump that loads is taken, what the filter writes of it loads. Each revision has its own number and
+-- properties, and its tree is the old one without the excluded paths
 abbrev pub TakenDumpLoads : Type 0
 TakenDumpLoads = (patched : Patching) (settings : Settings) (excluded : List NodePath) (dump filtered : List ℕ)
     (records : List DumpRecord) (changes : List NodeChange) (revisions : List (List Change)) (trees : List Tree) →

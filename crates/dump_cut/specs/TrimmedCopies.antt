@@ -1,5 +1,5 @@
--- Copies to directories of which a part is excluded at the copy alone: the filter takes each as it is, and behind it stand
--- deletes of that part.
+-- Copies to directories of which a part is excluded at the copy alone: the filter takes each as it is, and deletes of that part
+-- follow it.
 use Rattle.std.specs.Prelude.{◌≡◌, ℕ, Bool, true, false, not, List, [], ◌∷◌, ◌++◌, filter, length, map, slice_get, Some, if◌then◌else◌, IsTrue, IsFalse}
 use Rattle.std.specs.List.{list_all}
 use Rattle.dump_records.specs.DumpText.{Ending, HasRecords}
@@ -41,17 +41,17 @@ lost_paths excluded told placed p =
 abbrev pub kept_changes : List NodePath → List Placed → List Placed
 kept_changes excluded placed = filter (λ (p : Placed). not (is_covered excluded p.change.path)) placed
 
--- whether a load reads all these texts as they stand, as paths of nodes
+-- whether a load reads all these texts unchanged, as paths of nodes
 abbrev pub are_plain : List (List (List ℕ)) → Bool
 are_plain deletes = list_all (λ texts. list_all is_plain_path texts) deletes
 
--- these are the paths to delete behind each kept change of a dump, as such texts
+-- these are the paths to delete after each kept change of a dump, as such texts
 pub record AreDeletes (excluded : List NodePath) (told : ToldKinds) (placed : List Placed) (deletes : List (List (List ℕ)))
     : Type 0 where
   pub paths : map (λ texts. map path_of texts) deletes ≡ map (lost_paths excluded told placed) (kept_changes excluded placed)
   pub plain : IsTrue (are_plain deletes)
 
--- the change at this place is kept, and takes something to a path that a load doesn't read as it stands
+-- the change at this place is kept, and takes something to a path that a load doesn't read unchanged
 pub record HasOddDelete (excluded : List NodePath) (told : ToldKinds) (placed : List Placed) (place : ℕ) : Type 0 where
   pub at : Placed
   pub there : slice_get placed place ≡ Some at
@@ -66,7 +66,7 @@ pub record HasOddDelete (excluded : List NodePath) (told : ToldKinds) (placed : 
 abbrev pub delete_nodes : List (List ℕ) → List WrittenNode
 delete_nodes paths = map WrittenNode.Deletion paths
 
--- behind the nodes among the records stand deletes of these paths, in order
+-- the deletes that follow each record: after a node those of the next list of these paths, if there is one; else none
 abbrev pub deletes_behind : List DumpRecord → List (List (List ℕ)) → List (List WrittenNode)
 deletes_behind [] deletes = []
 deletes_behind (r ∷ records) [] = [] ∷ deletes_behind records []
@@ -74,13 +74,13 @@ deletes_behind (r ∷ records) (paths ∷ deletes) =
     if is_node r then delete_nodes paths ∷ deletes_behind records deletes
     else [] ∷ deletes_behind records (paths ∷ deletes)
 
--- the text is a dump, with these deletes behind its nodes
+-- the text is the dump with these deletes after its nodes
 abbrev pub IsTrimmedBy : List (List (List ℕ)) → List ℕ → List ℕ → Type 0
 IsTrimmedBy deletes dump text = (records : List DumpRecord) → HasRecords dump records Ending.Whole
     → IsTrimmedText records (deletes_behind records deletes) text
 
--- where nothing comes back of what is excluded, what the filter writes with these deletes is trimmed: each revision of it
--- has its own number, or those that lose all nodes are dropped, and the others are renumbered
+-- if nothing excluded comes back, what the filter writes is trimmed with these deletes. Each of its revisions has its own
+-- number, or the filter renumbers them
 pub record TrimsDump (patched : Patching) (settings : Settings) (excluded : List NodePath) (dump filtered text : List ℕ)
     (records : List DumpRecord) (changes : List NodeChange) (revisions : List (List Change)) (trees : List Tree)
     (deletes : List (List (List ℕ))) : Type 0 where

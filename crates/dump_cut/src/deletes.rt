@@ -1,4 +1,4 @@
-//! What copies take to excluded paths, and so has to be deleted behind them.
+//! What copies take to excluded paths, and so has to be deleted after them.
 ghost use Rattle.std.specs.Prelude.{◌≡◌, ◌++◌, IfOk, IsTrue, List, map, option_map};
 ghost use Rattle.std.specs.List.{AllZip, list_all};
 ghost use Rattle.dump_history.specs.WrittenNodes.{is_plain_path};
@@ -27,14 +27,14 @@ use dump_writer::{Memory as NoMemory, Piece};
 use std::alloc::Global;
 use std::marker::Model;
 
-/// Whether `svnadmin load` reads the text as it is, where it is the path of a node.
+/// Whether `svnadmin load` reads the text unchanged, as the path of a node.
 fn is_plain_path(path: &[u8]) -> bool
     ensures { result ≡ is_plain_path path.now }
 {
     !path.contains(&b'\n') && !path.contains(&0) && is_canonical(path)
 }
 
-/// Whether it reads each of them so.
+/// Whether it reads each of these texts unchanged.
 fn are_plain_paths(paths: &[Vec<u8>]) -> bool
     ensures { result ≡ list_all (λ path. is_plain_path path.items) paths.now }
 {
@@ -68,7 +68,7 @@ fn lost_paths(
 }
 
 /// For each change of a dump at a path that isn't excluded, and so for each node that the filter keeps, the paths to delete
-/// behind it.
+/// after it.
 #[derive(Drop)]
 pub struct Deletes {
     behind: Vec<Vec<Vec<u8>>>,
@@ -87,9 +87,9 @@ impl Model for Deletes {
 }
 
 impl Deletes {
-    /// Those of a copy are the topmost excluded paths to which it takes what isn't excluded at its source: with them the
-    /// copy can stay as it is. Another change has none. An error is the place of a copy with a path that no line of a dump
-    /// can hold.
+    /// The paths of a copy are the topmost excluded paths to which it takes what isn't excluded at its source: with these
+    /// deletes the copy can stay as it is. Another change has no paths. An error is the place of a copy with a path that no
+    /// line of a dump can hold.
     pub fn find(
         alloc: Global,
         index: &ChangeIndex<'_>,
@@ -114,14 +114,14 @@ impl Deletes {
         Ok(Ok(Deletes { behind }))
     }
 
-    /// The paths to delete behind each of these changes.
+    /// The paths to delete after each of these changes.
     pub fn behind(&self) -> &[Vec<Vec<u8>>]
         ensures { delete_texts_of result.now ≡ self.now }
     {
         self.behind.as_slice()
     }
 
-    /// A whole dump, with these deletes behind its nodes.
+    /// A whole dump, with these deletes after its nodes.
     pub fn write_behind<'t>(&self, alloc: Global, dump: &'t [u8]) -> Result<Piece<'t>, NoMemory>
         ensures { IfOk result (λ piece. IsTrimmedBy self.now dump.now piece) }
     {

@@ -1,4 +1,4 @@
-//! Where two cuts of a dump differ.
+//! At which paths two cuts of a dump differ.
 ghost use Rattle.std.specs.Prelude.{◌≡◌, ◌++◌, IfOk, IsTrue, List, OnOk, filter, map};
 ghost use Rattle.std.specs.List.{list_all};
 ghost use Rattle.dump_trees.specs.Paths.{names_of};
@@ -31,8 +31,9 @@ fn push_alone(
     Ok(())
 }
 
-/// Where two cuts of a dump differ, which exclude these paths and the others: at each path that one of them excludes alone and at
-/// which something exists at some time, and at each path that mergeinfo names and one of them excludes alone.
+/// The paths at which two cuts of a dump differ; one excludes these paths, and one the others. They are each excluded path that
+/// the other cut doesn't exclude and at which something exists at some time, and each path that mergeinfo names and one cut
+/// excludes alone.
 pub fn cut_differences(
     alloc: Global,
     dump: &[u8],

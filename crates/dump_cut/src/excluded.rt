@@ -23,7 +23,7 @@ use std::alloc::Global;
 use std::collections::BTreeSet;
 use std::marker::Model;
 
-/// The byte that comes behind a slash: texts that begin with a path and a slash come before the path and this byte.
+/// The byte after that of a slash: texts that begin with a path and a slash come before the path and this byte.
 const BEHIND_SLASH: u8 = b'0';
 
 /// Paths in canonical form, without a leading slash. Each of them is excluded, with all that is below it. None of them is
@@ -44,7 +44,7 @@ impl Model for Excluded {
     ghost invariant = { λ excluded. AreExcluded (map (λ path. path.items) excluded.paths.keys) };
 }
 
-/// The path, and this byte behind it.
+/// The path, with this byte after it.
 fn with_byte(alloc: Global, path: &[u8], byte: u8) -> Result<Vec<u8>, Memory>
     ensures { IfOk result (λ text. text.items ≡ path.now ++ byte ∷ []) }
 {
@@ -144,7 +144,7 @@ impl Excluded {
         Ok(rests)
     }
 
-    /// The rests of paths at or below the top from which on they cover what is there: all of it, where they cover the top.
+    /// The rests of paths at or below the top from which on they cover what is there: all of it, if they cover the top.
     pub fn rests_covered(&self, alloc: Global, top: &[u8]) -> Result<Vec<&[u8]>, Memory>
         ensures rests { IfOk result (λ rests. map (λ rest. names_of rest.now) rests.items
             ≡ rests_covered (names_of top.now) (paths_of self.now)) }
@@ -189,7 +189,7 @@ impl Excluded {
         Ok(directories)
     }
 
-    /// Adds a path, in place of those below it. A path that they cover adds nothing. Whether it is added.
+    /// Adds a path, and removes those below it. A path that they cover adds nothing. Gives whether the path is added.
     pub fn add(&mut self, alloc: Global, path: &[u8]) -> Result<bool, Memory>
         requires { IsTrue (has_node_names (names_of path.now)) }
         ensures new { IfOk result (λ added. added ≡ not (is_covered (paths_of self.old) (names_of path.now))) }
@@ -235,9 +235,9 @@ impl Excluded {
         Ok(prefixes)
     }
 
-    /// The options of the filter that excludes these paths. Under them lines of mergeinfo go whose paths are excluded. Each
-    /// revision stays, with its own number and properties; or those that lose all of their nodes are dropped, and the
-    /// others are renumbered and keep their properties.
+    /// The options of the filter that excludes these paths. Under them the filter omits lines of mergeinfo whose paths are
+    /// excluded. Each revision is kept, with its own number and properties; or those that lose all of their nodes are dropped,
+    /// and the others are renumbered and keep their properties.
     pub fn filter_options(&self, alloc: Global, drops: bool) -> Result<Options, Memory>
         ensures excludes { IfOk result (λ options. ExcludesPaths options (paths_of self.now)) }
         ensures revisions { IfOk result (λ options. (options.empty ≡ emptied_by drops) × (options.renumber ≡ drops)

@@ -26,7 +26,7 @@ struct OpenRevision {
 }
 
 impl OpenRevision {
-    /// What becomes of it, where it has no more nodes.
+    /// What becomes of it, if it has no more nodes.
     fn fate(self, options: &Options) -> RevisionFate
         ensures { result ≡ open_fate options.now self }
     {
@@ -42,7 +42,7 @@ impl OpenRevision {
     }
 }
 
-/// Adds what becomes of the open revision, where it has no more nodes.
+/// Adds what becomes of the open revision, if it has no more nodes.
 fn push_ended(
     fates: &mut Vec<RevisionFate>,
     present: Option<OpenRevision>,
@@ -56,7 +56,7 @@ fn push_ended(
     Ok(())
 }
 
-/// The same, where this record isn't one more node of it.
+/// The same, if this record isn't one more node of it.
 fn push_before(
     fates: &mut Vec<RevisionFate>,
     present: Option<OpenRevision>,
@@ -71,7 +71,7 @@ fn push_before(
     Ok(())
 }
 
-/// The open revision behind this record.
+/// The open revision after this record.
 fn open_after(
     present: Option<OpenRevision>,
     item: &Record<'_>,

@@ -1,4 +1,4 @@
-//! What kind of node exists at the paths that a change asks for.
+//! What kind of node exists at the paths on which a change depends.
 use dump_index::NodeKind;
 
 /// What kind of node exists at the path of a change, at the directory that it is in, and at the source of its copy, if it

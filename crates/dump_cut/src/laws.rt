@@ -9,24 +9,24 @@ ghost use Rattle.dump_cut.specs.Refusals.{RefusedIsNotAllowed};
 ghost use Rattle.dump_cut.specs.TakenCopies.{SeparatedDumpIsItsExpansion, TakenDumpLoads, TakenRevisionsSeparate};
 ghost use Rattle.dump_cut.specs.TrimmedCopies.{TrimmedCopiesLoad};
 
-/// Where no change is rejected, a dump whose text deltas apply loads into an empty repository. Where one is, the load takes
-/// the changes before it, and stops there.
+/// If a load rejects no change, a dump whose text deltas apply loads into an empty repository. If it rejects one, it accepts
+/// the changes before this one, and stops there.
 pub fn loads_are_decided()
     ensures kinds { RefusedIsNotAllowed }
     ensures loads { UnrefusedLoads }
     ensures stops { RefusedIsFirst }
 {}
 
-/// Where each change of a dump is taken as it is, what the filter writes of the dump loads into an empty repository, and
-/// each revision has the tree that it had, without the excluded paths.
+/// If each change of a dump is taken as it is, what the filter writes of the dump loads into an empty repository. Each revision
+/// has the tree that it had, without the excluded paths.
 pub fn taken_dumps_are_cut()
     ensures separated { TakenRevisionsSeparate }
     ensures expansion { SeparatedDumpIsItsExpansion }
     ensures loads { TakenDumpLoads }
 {}
 
-/// Where nothing comes back of what is excluded, each copy can stay: what the filter writes, with deletes behind the copies of
-/// what they take to excluded paths alone, is the dump of the repository that is meant.
+/// If nothing excluded comes back, each copy can stay. What the filter writes is then the cut, if deletes after the copies
+/// remove what these take to excluded paths alone.
 pub fn lost_parts_are_deleted()
     ensures { TrimmedCopiesLoad }
 {}
@@ -37,20 +37,20 @@ pub fn followed_paths_are_least()
     ensures { FollowedIsLeast }
 {}
 
-/// The siblings that are found are all at which something ever exists. So what is left without them is what is at or below
-/// an included path, and the directories above.
+/// Each sibling at which something ever exists is found. So what is kept without the siblings is what is at or below an
+/// included path, and the directories above.
 pub fn siblings_are_found()
     ensures { FoundSiblingsAreAll }
 {}
 
-/// A dump that loads, and in which the format version stays the same, can be cut after each revision: the part up to there
-/// loads into an empty repository, and the records before the first revision with those after the cut load into that.
+/// A dump that loads, and in which the format version stays the same, can be divided after each revision. The part up to there
+/// loads into an empty repository. The records before the first revision, with those after that part, load into the result.
 pub fn dumps_load_in_parts()
     ensures { DumpsLoadInParts }
 {}
 
-/// What the filter writes of the first part of a dump, up to a revision, is the first part of what it writes of the dump, if
-/// no revision is dropped or renumbered. So it is with deletes behind the nodes.
+/// What the filter writes of the first part of a dump, up to a revision, is the first part of what it writes of the dump, if no
+/// revision is dropped or renumbered. The same holds with deletes after the nodes.
 pub fn first_parts_are_cut()
     ensures filtered { FirstPartsAreFiltered }
     ensures trimmed { FirstPartsAreTrimmed }
@@ -64,8 +64,8 @@ pub fn filters_write_alike()
     ensures first_parts { FirstPartsGoOn }
 {}
 
-/// Two cuts of a dump that don't differ exclude the same of what ever exists in it, and filters that exclude these paths keep the
-/// same of its records.
+/// Two cuts of a dump that don't differ exclude the same of what ever exists in it, and filters that exclude these paths keep
+/// the same of its records.
 pub fn alike_cuts_filter_alike()
     ensures covered { AlikeCutsCoverTheSame }
     ensures filtered { AlikeCutsAreFilteredAlike }

@@ -19,8 +19,8 @@
 //! let not_taken = first_not_taken(alloc, &index, &excluded)?;
 //! ```
 //!
-//! `tests::brings` runs this. [`Deletes`] are what copies take to excluded paths. With these deletes behind its nodes, what
-//! the filter writes is the dump that is meant:
+//! `tests::brings` runs this. [`Deletes`] are what copies take to excluded paths. With these deletes after its nodes, what the
+//! filter writes is the cut, if nothing excluded comes back:
 //!
 //! ```
 //! let Ok(deletes) = Deletes::find(alloc, &index, &excluded)? else {
@@ -38,7 +38,7 @@
 //! let additions = follow(alloc, &index, &mut excluded, way)?;
 //! ```
 //!
-//! `tests::follows` runs this. [`find_siblings`] are what is excluded so that included paths are left, and the directories
+//! `tests::follows` runs this. [`find_siblings`] finds what is excluded so that included paths are kept, and the directories
 //! above them:
 //!
 //! ```
@@ -60,7 +60,7 @@
 //! let fates = revision_fates(alloc, &dump, &options)?;
 //! ```
 //!
-//! `tests::drops` runs this. [`later_part`] is what a dump has after a revision, with what is before its first one:
+//! `tests::drops` runs this. [`later_part`] is what a dump has after a revision, with what is before its first revision:
 //!
 //! ```
 //! let part = later_part(dump, number);

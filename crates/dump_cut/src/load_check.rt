@@ -1,4 +1,4 @@
-//! Whether `svnadmin load` takes a dump, and where it would stop.
+//! Whether `svnadmin load` accepts a dump, and at which change it would stop.
 ghost use Rattle.std.specs.Prelude.{◌≡◌, IfOk, IsTrue, length, option_and_then, option_map};
 ghost use Rattle.std.specs.List.{list_all};
 ghost use Rattle.dump_trees.specs.Paths.{names_of, parent_of};
@@ -27,7 +27,7 @@ pub struct Refused {
     pub refusal: Refusal,
 }
 
-/// What exists at the directory that the path is in, behind the changes that are known.
+/// What exists at the directory that the path is in, after the changes that are known.
 fn parent_kind(
     alloc: Global,
     index: &ChangeIndex<'_>,
@@ -73,7 +73,7 @@ fn source_kind(
     index.kind_known(alloc, source.path, end, known)
 }
 
-/// What exists where the change behind those that are known asks for it, before it is made.
+/// What exists at the paths on which the change depends, after the changes that are known and before it is made.
 fn kinds_before(
     alloc: Global,
     index: &ChangeIndex<'_>,
@@ -96,8 +96,8 @@ fn kinds_before(
     })
 }
 
-/// The first change of the index that `svnadmin load` would reject, and why; none where it would take them all. Only what
-/// exists at paths is asked: whether a text delta fits the old text isn't.
+/// The first change of the index that `svnadmin load` would reject, and why; none if it would accept them all. It checks only
+/// what exists at paths, not whether a text delta applies to the old text.
 pub fn first_refused(alloc: Global, index: &ChangeIndex<'_>) -> Result<Option<Refused>, Memory>
     requires { IsTrue (list_all has_named_paths index.now) }
     ensures { IfOk result (λ found. IsFirstRefused index.now found) }

@@ -35,8 +35,8 @@ fn add_on_way(
     Ok(())
 }
 
-/// Adds the siblings of included paths that the mergeinfo in a dump names, so that lines go which name paths beside the cut:
-/// the filter keeps those of paths that aren't excluded, whether something exists there or not.
+/// Adds the siblings of included paths that the mergeinfo in a dump names, so that the filter omits lines that name paths
+/// outside of the cut. It keeps those of paths that aren't excluded, whether something exists there or not.
 pub fn add_named_siblings(
     alloc: Global,
     dump: &[u8],

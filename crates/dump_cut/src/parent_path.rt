@@ -11,7 +11,7 @@ pub(crate) fn is_root(path: &[u8]) -> bool
     path.is_empty()
 }
 
-/// The text before the last slash of the path; no bytes where it has none.
+/// The text before the last slash of the path; no bytes, if it has none.
 pub(crate) fn parent_text(path: &[u8]) -> &[u8]
     ensures { result.now ≡ parent_text path.now }
 {

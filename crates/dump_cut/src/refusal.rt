@@ -47,7 +47,7 @@ fn deletion_refused(change: &NodeChange<'_>, here: Option<NodeKind>) -> Option<R
     }
 }
 
-/// What exists at the path once the change has deleted.
+/// What exists at the path after the change has deleted, if it deletes.
 fn left_by(change: &NodeChange<'_>, here: Option<NodeKind>) -> Option<NodeKind>
     ensures { option_map kind_meant result ≡ kind_left change.now.deletes (option_map kind_meant here) }
 {
@@ -64,7 +64,7 @@ fn parent_refused(parent: Option<NodeKind>) -> Option<Refusal>
     }
 }
 
-/// Why a load would reject something new, where this is left at its path.
+/// Why a load would reject something new, if this is left at its path.
 fn new_refused(at_root: bool, left: Option<NodeKind>, parent: Option<NodeKind>) -> Option<Refusal>
     ensures { result ≡ new_refused at_root (option_map kind_meant left) (option_map kind_meant parent) }
 {
@@ -94,7 +94,7 @@ fn copying_refused(
     }
 }
 
-/// Why a load would reject what the change makes, where this is left at its path.
+/// Why a load would reject what the change makes, if this is left at its path.
 fn making_refused(change: &NodeChange<'_>, left: Option<NodeKind>, kinds: &Kinds) -> Option<Refusal>
     ensures { result ≡ making_refused (option_map listed_made change.now.made) (is_root (names_of change.now.path.now))
         (option_map kind_meant left) (kinds_meant kinds.now) }
@@ -111,7 +111,7 @@ fn making_refused(change: &NodeChange<'_>, left: Option<NodeKind>, kinds: &Kinds
     }
 }
 
-/// What exists at the path once the change has made something, where this is left there and exists at its copy's source.
+/// What exists at the path after the change has made something, if this is left there and exists at its copy's source.
 fn made_by(
     change: &NodeChange<'_>,
     left: Option<NodeKind>,
@@ -172,8 +172,8 @@ fn setting_refused(change: &NodeChange<'_>, made: Option<NodeKind>) -> Option<Re
     }
 }
 
-/// Why `svnadmin load` would reject the change, where these kinds of node exist; none where it takes it. Whether a text
-/// delta fits the old text isn't asked.
+/// Why `svnadmin load` would reject the change, if these kinds of node exist; none if it accepts the change. Whether a text
+/// delta applies to the old text isn't checked.
 pub fn refusal_of(change: &NodeChange<'_>, kinds: &Kinds) -> Option<Refusal>
     ensures { (p : Placed) → IsListed (listed_of change.now) p → result ≡ refused_for p.change (kinds_meant kinds.now) }
 {

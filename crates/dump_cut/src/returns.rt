@@ -1,4 +1,4 @@
-//! What copies bring back of excluded paths, and where they would be followed to.
+//! What copies bring back of excluded paths, and to which paths they would be followed.
 ghost use Rattle.std.specs.Prelude.{◌≡◌, ◌<◌, ◌++◌, ◌&&◌, not, false, is_some, length, map, List, IfOk, IsTrue, OnOk, option_map};
 ghost use Rattle.std.specs.List.{AllZip, list_all};
 ghost use Rattle.dump_trees.specs.Following.{followed_told, from_of, to_of};
@@ -36,7 +36,7 @@ pub enum Way {
 pub struct PlacedRest<'e> {
     /// Which change of the dump the copy is, from 0 on.
     pub place: usize,
-    /// The path below that of the copy, and below its source; empty, where it is all that is copied.
+    /// The path below that of the copy, and below its source; empty, if it is all that is copied.
     pub rest: &'e [u8],
 }
 
@@ -51,7 +51,7 @@ impl Way {
         }
     }
 
-    /// The place of the change whose copy is followed at this turn of a pass over so many changes.
+    /// The place of the change whose copy is followed at this turn of a pass over `count` changes.
     pub(crate) fn place_at_turn(self, turn: usize, count: usize) -> usize
         requires { turn < count }
         ensures place { result ≡ place_at_turn (way_meant self) turn count }
@@ -74,8 +74,8 @@ impl Way {
     }
 }
 
-/// Whether something exists at this rest of the source after the first changes, so many, and the paths don't cover the rest
-/// where the copy is followed to.
+/// Whether something exists at this rest of the source after the first `count` changes, and the paths don't cover this rest at
+/// the path to which the copy is followed.
 fn is_new_there(
     alloc: Global,
     index: &ChangeIndex<'_>,

@@ -48,7 +48,7 @@ pub(crate) fn kind_seen(seen: &Seen<'_>, path: &[u8]) -> Option<Option<NodeKind>
     }
 }
 
-/// The one of the directories that were seen that isn't this one; where neither is, the last.
+/// Of the directories that were seen, the one that isn't this one; if neither is this one, the last.
 fn seen_beside<'a>(seen: &Seen<'a>, path: &[u8]) -> Option<SeenParent<'a>>
     ensures { (listed : List Listed) (count : ℕ) → AreSeen listed count seen.now → IsSeen listed count result }
 {
@@ -71,7 +71,7 @@ fn seen_above<'a>(seen: Option<SeenParent<'a>>, path: &[u8]) -> Option<SeenParen
     }
 }
 
-/// The directory that the change is in, where this exists there; the root is in none.
+/// The directory that the change is in, and at which this exists; the root is in none.
 fn seen_parent<'a>(change: &NodeChange<'a>, kind: Option<NodeKind>) -> Option<SeenParent<'a>>
     ensures { MatchOption result (is_root (names_of change.now.path.now) ≡ true) (IsParentOf change.now kind) }
 {
@@ -82,7 +82,7 @@ fn seen_parent<'a>(change: &NodeChange<'a>, kind: Option<NodeKind>) -> Option<Se
     Some(SeenParent { path, kind })
 }
 
-/// The directories that were seen, behind a change that is in a directory where this exists.
+/// The directories that were seen, after a change that is in a directory at which this exists.
 pub(crate) fn seen_behind<'a>(
     seen: &Seen<'a>,
     change: &NodeChange<'a>,

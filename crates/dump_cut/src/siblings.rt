@@ -1,4 +1,4 @@
-//! What is excluded so that included paths are left, and the directories above them.
+//! What is excluded so that included paths are kept, and the directories above them.
 ghost use Rattle.std.specs.Prelude.{◌≡◌, ◌++◌, ◌∷◌, [], ℕ, List, IfOk, IsTrue, OnOk, map};
 ghost use Rattle.std.specs.List.{list_all};
 ghost use Rattle.dump_trees.specs.Paths.{names_of};
@@ -47,7 +47,7 @@ fn add_siblings(
 }
 
 /// The siblings of included paths: what ever exists in a directory above one of them, and isn't in the cut itself. What
-/// is left without them is what is at or below an included path, and the directories above.
+/// is kept without them is what is at or below an included path, and the directories above.
 pub fn find_siblings(
     alloc: Global,
     index: &ChangeIndex<'_>,

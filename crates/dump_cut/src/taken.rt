@@ -61,9 +61,9 @@ fn is_made_taken(
     }
 }
 
-/// The first change of the index that the filter doesn't take as it is, where these paths are excluded: a copy with which
-/// something comes back, or one that would bring what is excluded at its path alone. Where there is none, the filter
-/// writes what was meant of the dump as it is.
+/// The first change of the index that the filter doesn't take as it is, if these paths are excluded. It is a copy with which
+/// something comes back, or one that would bring what is excluded at its path alone. If there is none, the filter writes the
+/// cut of the dump as it is.
 pub fn first_not_taken(
     alloc: Global,
     index: &ChangeIndex<'_>,

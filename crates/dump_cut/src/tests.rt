@@ -19,7 +19,7 @@ const HEAD: &str = "SVN-fs-dump-format-version: 3\n\nRevision-number: 0\n\nRevis
 Node-path: d\nNode-kind: dir\nNode-action: add\n\n\n\
 Node-path: d/f\nNode-kind: file\nNode-action: add\n\n\nRevision-number: 2\n\n";
 
-/// The index of the changes of a dump; None where it can't be read.
+/// The index of the changes of a dump; None if it can't be read.
 fn index_of<'a>(alloc: Global, dump: &'a [u8]) -> Result<Option<ChangeIndex<'a>>, Memory>
     ensures { IfOk result (λ read. IfSome read (λ index. IsTrue (list_all has_named_paths index))) }
 {
@@ -31,7 +31,7 @@ fn index_of<'a>(alloc: Global, dump: &'a [u8]) -> Result<Option<ChangeIndex<'a>>
     Ok(Some(index))
 }
 
-/// What a dump is refused for; None where it can't be read.
+/// What a dump is rejected for; None if it can't be read.
 fn refused(alloc: Global, dump: &[u8]) -> Result<Option<Option<Refused>>, Memory> {
     match index_of(alloc, dump)? {
         Some(index) => Ok(Some(first_refused(alloc, &index)?)),
@@ -47,7 +47,7 @@ fn dump_with(alloc: Global, node: &str) -> Result<Vec<u8>, Memory> {
     Ok(dump)
 }
 
-/// Whether the node is the first to be refused, for this reason; or none is.
+/// Whether the node is the first to be rejected, for this reason; or none is.
 fn is_refused(alloc: Global, node: &str, refusal: Option<Refusal>) -> Result<bool, Memory> {
     let dump = dump_with(alloc, node)?;
     let found = refused(alloc, &dump)?;
@@ -128,8 +128,8 @@ fn is_rest(found: &[PlacedRest<'_>], rest: Option<&[u8]>) -> bool {
     }
 }
 
-/// Whether the copy of `d` to `e` brings this rest back, where these prefixes are excluded, and this change is the first
-/// that isn't taken.
+/// Whether the copy of `d` to `e` brings this rest back, if these prefixes are excluded, and this change is the first that
+/// isn't taken.
 fn brings(
     alloc: Global,
     prefixes: &[&[u8]],
@@ -217,7 +217,7 @@ fn paths_or_no_memory(rt: HostRuntime) {
     assert!(rt; matches!(answer, Ok(true) | Err(Memory)));
 }
 
-/// Whether one of these two is excluded where this prefix is included, and the other one is left, if `e` is a copy of `d`.
+/// Whether one of these two is excluded if this prefix is included, and the other one is kept, if `e` is a copy of `d`.
 fn leaves(alloc: Global, prefix: &[u8], excluded: &[u8], left: &[u8]) -> Result<bool, Memory> {
     let dump = dump_with(alloc, COPY)?;
     let Some(index) = index_of(alloc, &dump)? else {
@@ -285,7 +285,7 @@ fn the_filter_excludes_the_paths(rt: HostRuntime) -> Result<(), Fail> {
     Ok(())
 }
 
-/// Whether these deletes stand behind the copy of `d` to `e`, where this prefix is excluded.
+/// Whether these deletes follow the copy of `d` to `e`, if this prefix is excluded.
 fn deletes(alloc: Global, prefix: &[u8], nodes: &str) -> Result<bool, Memory> {
     let dump = dump_with(alloc, COPY)?;
     let Some(index) = index_of(alloc, &dump)? else {
@@ -324,7 +324,7 @@ fn deletes_or_no_memory(rt: HostRuntime) {
     assert!(rt; matches!(answer, Ok(true) | Err(Memory)));
 }
 
-/// Whether revision 2, which copies `d` to `e`, is the one that is dropped where this prefix is excluded.
+/// Whether revision 2, which copies `d` to `e`, is the one that is dropped if this prefix is excluded.
 fn drops(alloc: Global, prefix: &[u8]) -> Result<bool, Memory> {
     let dump = dump_with(alloc, COPY)?;
     let excluded = Excluded::of(alloc, &[prefix])?;

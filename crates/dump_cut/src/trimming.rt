@@ -1,4 +1,4 @@
-//! Deletes behind the nodes of a dump.
+//! Deletes after the nodes of a dump.
 ghost use Rattle.std.specs.Prelude.{◌≡◌, IfOk, IsTrue, map};
 ghost use Rattle.std.specs.List.{list_all};
 ghost use Rattle.dump_history.specs.WrittenNodes.{is_plain_path};
@@ -9,7 +9,7 @@ use dump_records::{Cut, Cutter};
 use dump_writer::{Chunk, Memory, Piece};
 use std::alloc::Global;
 
-/// The nodes that delete these paths, each behind a line feed.
+/// The nodes that delete these paths, each after a line feed.
 fn delete_nodes(alloc: Global, paths: &[Vec<u8>]) -> Result<Vec<u8>, Memory>
     ensures { IfOk result (λ text. text.items ≡ delete_texts (map (λ path. path.items) paths.now)) }
 {
@@ -22,8 +22,8 @@ fn delete_nodes(alloc: Global, paths: &[Vec<u8>]) -> Result<Vec<u8>, Memory>
     Ok(text)
 }
 
-/// A whole dump, with deletes of these paths behind its nodes: those of the first behind the first node, and so on. Behind
-/// further nodes there are none.
+/// A whole dump, with deletes of these paths after its nodes: the first paths after the first node, and so on. After further
+/// nodes there are none.
 pub fn trimmed<'t>(
     alloc: Global,
     dump: &'t [u8],

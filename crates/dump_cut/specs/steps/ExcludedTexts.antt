@@ -15,6 +15,6 @@ AreExcluded texts = IsTrue (list_all has_node_names (paths_of texts)) × IsTrue 
 abbrev pub is_text_below : List ℕ → List ℕ → Bool
 is_text_below top text = stands_over text top && not (bytes_eq top text)
 
--- what those of the texts go on with that are below the top
+-- for each of the texts that is below the top, its rest after the top
 abbrev pub texts_below : List ℕ → List (List ℕ) → List (List ℕ)
 texts_below top texts = map (rest_text top) (filter (is_text_below top) texts)

@@ -20,7 +20,7 @@ use Rattle.dump_cut.specs.FollowedCopies.{ComeByFollowing, IsIndexOf}
 abbrev pub added_paths : List Addition → List NodePath
 added_paths additions = map (λ (addition : Addition). names_of addition.path.items) additions
 
--- the copy at this place is followed to the path, where these paths are what there is so far
+-- the copy at this place is followed to the path, if these are the paths so far
 pub record IsFollowedTo (way : Way) (trees : List Tree) (revisions : List (List Change)) (tops : List NodePath) (place : ℕ)
     (to : NodePath) : Type 0 where
   pub path : NodePath
@@ -31,17 +31,17 @@ pub record IsFollowedTo (way : Way) (trees : List Tree) (revisions : List (List 
   pub there : Contains (followed way tops old path source) rest
   pub at : to ≡ to_of way path source ++ rest
 
--- in each history that an index of these changes tells of, the copy at this place is followed to each of the paths
+-- in each history of which these changes are an index, the copy at this place is followed to each of the paths
 abbrev pub AreFollowedTo : Way → List Listed → List NodePath → ℕ → List NodePath → Type 0
 AreFollowedTo way listed tops place paths = (revisions : List (List Change)) (trees : List Tree) (path : NodePath) →
     IsIndexOf listed revisions trees → Contains paths path → IsFollowedTo way trees revisions tops place path
 
--- what came by following still does, with more additions
+-- if the old paths come by following of some first ones, the new paths come of these too, with more additions
 abbrev pub KeepsFollowing : Way → List Listed → List NodePath → List NodePath → List NodePath → List NodePath → Type 0
 KeepsFollowing way listed old additions new more = (first : List NodePath) →
     ComeByFollowing way listed first additions old → ComeByFollowing way listed first more new
 
--- the path is added, if these paths don't cover it, and is one more addition then
+-- the path is added if these paths don't cover it, and then it is one more addition
 pub record AddsPath (old before : List NodePath) (added : NodePath) (new after : List NodePath) : Type 0 where
   pub is_new : Bool
   pub outside : is_new ≡ not (is_covered old added)
@@ -53,7 +53,7 @@ abbrev pub AddsOne : ℕ → NodePath → List Addition → List Addition → Ty
 AddsOne place path old new = (new ≡ old)
     ⊎ ((added : Addition) × (new ≡ old ++ added ∷ []) × (added.place ≡ place) × (names_of added.path.items ≡ path))
 
--- the copy at this place leads to the path: it is below the path to which the copy is followed
+-- the copy at this place leads to the path: it is at or below the path to which the copy is followed
 pub record LeadsTo (way : Way) (trees : List Tree) (placed : List Placed) (place : ℕ) (to : NodePath) : Type 0 where
   pub path : NodePath
   pub source : NodePath
@@ -62,7 +62,7 @@ pub record LeadsTo (way : Way) (trees : List Tree) (placed : List Placed) (place
   pub copy : PlacedCopy trees placed place path source old
   pub at : to ≡ to_of way path source ++ rest
 
--- in each history that an index of these changes tells of, each addition is of a path to which the copy at its place leads
+-- in each history of which these changes are an index, each addition is of a path to which the copy at its place leads
 abbrev pub ArePlaced : Way → List Listed → List Addition → Type 0
 ArePlaced way listed additions = (revisions : List (List Change)) (trees : List Tree) → IsIndexOf listed revisions trees
     → All (λ (a : Addition). LeadsTo way trees (placed_from 1 revisions) a.place (names_of a.path.items)) additions
@@ -75,17 +75,17 @@ paths_made way tops told placed path (Some Made.NewFile) = []
 paths_made way tops told placed path (Some (Made.Copied number source)) =
     map (λ rest. to_of way path source ++ rest) (followed_told way tops told placed number path source)
 
--- nothing is excluded more, since these paths cover all of those
+-- no path is added, since the old ones cover all these paths
 abbrev pub IsIdle : List NodePath → List NodePath → List NodePath → Type 0
 IsIdle old paths new = (new ≡ old) × IsTrue (list_all (is_covered old) paths)
 
--- nothing is excluded more, since the copy of the change at this place, if it makes one, isn't followed to any other path
+-- no path is added, since the copy of the change at this place, if it makes one, isn't followed to any other path
 abbrev pub IsIdleAt : Way → List Listed → List NodePath → ℕ → List NodePath → Type 0
 IsIdleAt way listed old place new = (new ≡ old) × ((placed : List Placed) → AllZip IsListed listed placed
     → rests_at way new (kinds_told_by listed) placed (slice_get placed place) ≡ [])
 
--- the place whose turn it is in a pass over so many changes: the last one comes first, if copies are followed to their
--- sources
+-- the place to which a pass over so many changes comes at this turn: from the first one on, or from the last one back if copies
+-- are followed to their sources
 abbrev pub place_at_turn : Way → ℕ → ℕ → ℕ
 place_at_turn Way.ToCopies turn count = turn
 place_at_turn Way.ToSources turn count = count - 1 - turn

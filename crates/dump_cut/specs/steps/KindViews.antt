@@ -1,4 +1,4 @@
--- Kinds as an index finds them, and as the laws of loading speak of them.
+-- Kinds as an index finds them, and as the laws of loading name them.
 use Rattle.std.specs.Prelude.{Bool, true, false, option_map}
 use Rattle.dump_trees.specs.LoadCheck as LoadCheck
 use Rattle.dump_index.specs.ToldKinds.{kind_meant}
@@ -6,7 +6,7 @@ use Rattle.dump_index.specs.declared.change.Setting.{Setting}
 use Rattle.dump_index.specs.declared.change.Setting.TheVariants.{Keeps, Replaces, Edits, EditsNothing}
 use Rattle.dump_cut.specs.declared.kinds.Kinds.{Kinds}
 
--- the kinds that were found
+-- the kinds that were found, as these laws name them
 abbrev pub kinds_meant : Kinds → LoadCheck.Kinds
 kinds_meant kinds = record {
   here = option_map kind_meant kinds.here;

@@ -1,4 +1,4 @@
--- What exists where a change asks for it, before it is made, as an index finds it.
+-- What exists at the paths on which a change depends, before it is made, as an index finds it.
 use Rattle.std.specs.Prelude.{◌≡◌, ℕ, false, List, Option, Some, None, option_and_then, ⊤}
 use Rattle.dump_trees.specs.Paths.{names_of, parent_of}
 use Rattle.dump_trees.specs.Restriction.{is_root}
@@ -18,7 +18,7 @@ pub record AreKindsBefore (listed : List Listed) (count : ℕ) (l : Listed) (kin
   pub parent : kinds.parent ≡ option_and_then (kind_look listed count) (parent_of (names_of l.path))
   pub source : kinds.source ≡ source_look listed l.revision l.made
 
--- it is the directory that the change is in, and this exists there
+-- this is the directory that the change is in, and this exists there
 pub record IsParentOf (c : NodeChange) (kind : Option NodeKind) (seen : SeenParent) : Type 0 where
   pub below : is_root (names_of c.path.now) ≡ false
   pub path : seen.path.now ≡ parent_text c.path.now
@@ -29,7 +29,7 @@ abbrev pub IsSeen : List Listed → ℕ → Option SeenParent → Type 0
 IsSeen listed count None = ⊤
 IsSeen listed count (Some seen) = seen.kind ≡ kind_look listed count (names_of seen.path.now)
 
--- so do both
+-- this holds for both of the directories that were seen
 pub record AreSeen (listed : List Listed) (count : ℕ) (seen : Seen) : Type 0 where
   pub last : IsSeen listed count seen.last
   pub other : IsSeen listed count seen.other

@@ -19,18 +19,18 @@ abbrev pub IsInLine : List ℕ → NodePath → Type 0
 IsInLine line path = (text ranges : List ℕ) × (line ≡ text ++ codes ":" ++ ranges) × IsFalse (has_byte 58 ranges)
     × (path ≡ canonical_path text)
 
--- one of the lines does
+-- one of the lines names the path
 abbrev pub IsInLines : List (List ℕ) → NodePath → Type 0
 IsInLines lines path = (line : List ℕ) × Contains lines line × IsInLine line path
 
--- a line of the value does
+-- a line of the value names the path
 abbrev pub IsInValue : List ℕ → NodePath → Type 0
 IsInValue value path = IsInLines (slice_split (λ c. c == 10) value) path
 
--- the value of mergeinfo among the properties does
+-- a value of mergeinfo among the properties names the path
 abbrev pub IsInProperties : List Property → NodePath → Type 0
 IsInProperties ps path = (p : Property) × Contains ps p × IsTrue (is_mergeinfo p) × IsInValue (value_of p) path
 
--- the mergeinfo of the record does
+-- the mergeinfo of the record names the path
 abbrev pub IsInRecord : DumpRecord → NodePath → Type 0
 IsInRecord r path = (ps : List Property) × HasPropertyList r ps × IsInProperties ps path

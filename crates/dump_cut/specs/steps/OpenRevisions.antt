@@ -9,19 +9,19 @@ use Rattle.dump_cut.specs.RevisionFates.{fates_of_groups}
 use Rattle.dump_cut.specs.declared.fates.OpenRevision.{OpenRevision}
 use Rattle.dump_cut.specs.declared.fates.RevisionFate.{RevisionFate}
 
--- what becomes of a revision, where it has no more nodes
+-- what becomes of a revision, if it has no more nodes
 abbrev pub open_fate : Settings → OpenRevision → RevisionFate
 open_fate settings p = record {
   number = p.number;
   stays = p.number == 0 || p.kept || keeps_empty settings.empty p.bare;
 }
 
--- the open revision, where it has no more nodes
+-- what becomes of the open revision, if there is one, and it has no more nodes
 abbrev pub ended_fates : Settings → Option OpenRevision → List RevisionFate
 ended_fates settings None = []
 ended_fates settings (Some p) = open_fate settings p ∷ []
 
--- the same, where this record comes next
+-- the same, if this record comes next; a node is one more node of the open revision
 abbrev pub fates_before : Settings → Option OpenRevision → DumpRecord → List RevisionFate
 fates_before settings present r = if is_node r then [] else ended_fates settings present
 
@@ -30,7 +30,7 @@ abbrev pub open_with : Bool → Option OpenRevision → Option OpenRevision
 open_with kept None = None
 open_with kept (Some p) = Some (record { number = p.number; bare = false; kept = p.kept || kept })
 
--- the open revision behind this record
+-- the open revision after this record
 abbrev pub open_after : Settings → Option OpenRevision → DumpRecord → Option OpenRevision
 open_after settings present r =
     if is_revision_record r then Some (record { number = revision_number r; bare = true; kept = false })

@@ -1,4 +1,4 @@
--- The directory that a path is in, told from the text of the path.
+-- The directory that a path is in, as determined by the text of the path.
 use Rattle.std.specs.Prelude.{ℕ, ◌==◌, List, [], ◌∷◌, reverse, if◌then◌else◌}
 
 -- what comes after the first slash
@@ -6,6 +6,6 @@ abbrev pub after_slash : List ℕ → List ℕ
 after_slash [] = []
 after_slash (b ∷ text) = if b == 47 then text else after_slash text
 
--- the path before its last slash; the root, where it has none
+-- the path before its last slash; the root, if it has none
 abbrev pub parent_text : List ℕ → List ℕ
 parent_text path = reverse (after_slash (reverse path))

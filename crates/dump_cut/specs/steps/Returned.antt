@@ -7,12 +7,12 @@ use Rattle.dump_cut.specs.declared.returns.PlacedRest.{PlacedRest}
 use Rattle.dump_cut.specs.declared.returns.Way.{Way}
 use Rattle.dump_cut.specs.declared.returns.Way.TheVariants.{ToCopies, ToSources}
 
--- the way that the laws of following speak of
+-- the same way, as the laws of following name it
 abbrev pub way_meant : Way → Following.Way
 way_meant ToCopies = Following.Way.ToCopies
 way_meant ToSources = Following.Way.ToSources
 
--- the rest that they speak of
+-- the same rest, as these laws name it
 abbrev pub rest_meant : PlacedRest → FollowedRests.PlacedRest
 rest_meant found = record { place = found.place; rest = names_of found.rest.now }
 
