@@ -19,13 +19,13 @@ use Rattle.dump_index.specs.declared.trail.Part.TheVariants.{Text}
 use Rattle.dump_changes.specs.ListedDumps.{AreListedIn}
 use Rattle.dump_changes.specs.NodeProperties.{HaveNodeNumbers, ListNodes}
 
--- a text, and the digests that are told of it
+-- a text, and the digests that are given for it
 pub record ToldText : Type 0 where
   pub text : List ℕ
   pub md5 : Option (List ℕ)
   pub sha1 : Option (List ℕ)
 
--- the text of a record, with the digests that its own lines tell of it
+-- the text of a record, with the digests that its own lines give
 abbrev pub told_text : DumpRecord → ToldText
 told_text r = record {
   text = r.text;
@@ -37,7 +37,7 @@ told_text r = record {
 abbrev pub record_texts : List DumpRecord → List ToldText
 record_texts records = map told_text records
 
--- the text of a file that no change gave one
+-- the text of a file if no change sets one
 abbrev pub no_text : ToldText
 no_text = record { text = []; md5 = None; sha1 = None }
 
@@ -53,13 +53,14 @@ pub record IsLastSetting (listed : List Listed) (path : List ℕ) (count : ℕ) 
   pub sets : IsTrail Text listed count path trail
   pub is_last : slice_get trail 0 ≡ last
 
--- so the change at this place, which sets a text, stores it; of these texts that of its own record
+-- how the change at this place, which sets a text, stores it: as the whole text of its own record, which is among these texts,
+-- or as a delta
 abbrev pub IsStoredBy : List ToldText → ℕ → Listed → TextStored → Type 0
 IsStoredBy texts place l (TextStored.Whole text) =
     (is_replacing l.text ≡ true) × (text ≡ unwrap_or (slice_get texts l.record_number) no_text)
 IsStoredBy texts place l (TextStored.Delta at) = (is_replacing l.text ≡ false) × (at ≡ place)
 
--- so the text of what is at the path after so many changes is stored: by the last change that set it; if none did, it is empty
+-- how the text of what is at the path after so many changes is stored: by the last change that set it; if none did, it is empty
 abbrev pub IsStoredAt : List ToldText → List Listed → List ℕ → ℕ → TextStored → Type 0
 IsStoredAt texts listed path count stored =
     (IsLastSetting listed path count None × (stored ≡ TextStored.Whole no_text))
@@ -76,12 +77,12 @@ IsTextAt texts listed path count text =
     → IsTrue (are_in_order 0 changes) → look root_alone placed count (names_of path) ≡ Some (Node.File props its)
     → its ≡ text
 
--- so is a text that is stored as a whole
+-- a text that is stored as a whole is the text of the file
 abbrev pub WholeTextsAreFound : Type 0
 WholeTextsAreFound = (texts : List ToldText) (listed : List Listed) (path : List ℕ) (count : ℕ) (text : ToldText) →
     IsStoredAt texts listed path count (TextStored.Whole text) → IsTextAt texts listed path count text.text
 
--- where the dump loads, the text that is found after the changes of a revision is that of the file in its tree
+-- if the dump loads, the text that is found after the changes of a revision is that of the file in its tree
 abbrev pub TextsAreOfTrees : Type 0
 TextsAreOfTrees = (patched : Patching) (records : List DumpRecord) (changes : List NodeChange)
     (revisions : List (List Change)) (trees : List Tree) (number : ℕ) (tree : Tree) (path : List ℕ)

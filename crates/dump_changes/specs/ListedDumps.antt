@@ -43,22 +43,23 @@ abbrev pub AreListedIn : List DumpRecord → List NodeChange → Type 0
 AreListedIn records changes =
     (patched : Patching) → (placed : List Placed) × NodesMake patched None records placed × AreListed changes placed
 
--- the revision to which a node behind the record belongs, where one before it would belong to this one, if to any
+-- the revision to which a node after this record belongs, if to any; in place of the record, a node would belong to the present
+-- one
 abbrev pub revision_behind : DumpRecord → Option ℕ → Option ℕ
 revision_behind r present = cond (is_revision_record r) (Some (revision_number r)) (cond (is_node r) present None)
 
--- the same behind these records
+-- the same after all of these records
 abbrev pub present_behind : Option ℕ → List DumpRecord → Option ℕ
 present_behind present [] = present
 present_behind present (r ∷ records) = present_behind (revision_behind r present) records
 
--- whether a revision is there, and can have nodes: revision 0 can't
+-- whether there is a revision, and it can have nodes; revision 0 can't
 abbrev pub takes_nodes : Option ℕ → Bool
 takes_nodes None = false
 takes_nodes (Some number) = nat_lt 0 number
 
--- behind these records, the record is a node of revision 0 or of no revision; or it is a revision whose number isn't above
--- those before, or is the largest that there is
+-- after these records, the record is a node of revision 0 or of no revision; or it is a revision whose number isn't above those
+-- before, or is the largest that there is
 abbrev pub IsOutOfPlace : List DumpRecord → DumpRecord → Type 0
 IsOutOfPlace records r = ((is_node r ≡ true) × (takes_nodes (present_behind None records) ≡ false))
     ⊎ ((is_revision_record r ≡ true) × ((number : ℕ) → header_number revision_name r.headers ≡ Some number
@@ -74,7 +75,7 @@ is_listed_copy l = is_copied l.made
     is_copied (Some Made.NewFile) = false
     is_copied (Some (Made.Copied number source)) = true
 
--- a change, but for the number of the revision of which it copies
+-- a change, with 0 in place of the number of the revision from which it copies
 abbrev pub without_number : Listed → Listed
 without_number l = record l { made = option_map unnumbered l.made }
   where

@@ -47,7 +47,7 @@ ArePropertiesAt blocks listed path count props =
     → IsTrue (are_in_order 0 changes) → look root_alone placed count (names_of path) ≡ Some node
     → properties_of node ≡ props
 
--- where the dump loads, the properties that are found after the changes of a revision are those of the node in its tree
+-- if the dump loads, the properties that are found after the changes of a revision are those of the node in its tree
 abbrev pub PropertiesAreOfTrees : Type 0
 PropertiesAreOfTrees = (patched : Patching) (records : List DumpRecord) (changes : List NodeChange)
     (revisions : List (List Change)) (trees : List Tree) (number : ℕ) (tree : Tree) (path : List ℕ) (node : Node)

@@ -32,7 +32,7 @@ const DIRECTORY: &[u8] = b"dir";
 
 const FILE: &[u8] = b"file";
 
-/// Whether a node with this action and these properties makes a change that is told.
+/// Whether a node with this action and these properties makes a change that is modelled.
 fn is_told(item: &Record<'_>, action: Action, props: &Option<Props<'_>>) -> bool
     requires node { IsTrue (is_node (record_item item.now)) }
     requires action { IsActionOf (record_item item.now) action }
@@ -135,7 +135,7 @@ fn text_of(item: &Record<'_>) -> Setting
     }
 }
 
-/// The change that a node of the revision with this number makes; none where it makes none that is told.
+/// The change that a node of the revision with this number makes; none if it makes none that is modelled.
 pub fn node_change<'a>(item: &Record<'a>, revision: u64) -> Option<NodeChange<'a>>
     requires { IsTrue (is_node (record_item item.now)) }
     ensures change { IsChangeOf (record_item item.now) revision (option_map listed_of result) }

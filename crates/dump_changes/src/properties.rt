@@ -27,7 +27,7 @@ fn apply_change<'a>(
     }
 }
 
-/// The properties of the node at the path after the first changes, so many. The table and the index have to be of one dump.
+/// The properties of the node at the path after the first `count` changes. The table and the index have to be of one dump.
 ///
 /// Of two properties that differ in when they were set last, the later one comes last. If no node is at the path, the result
 /// means nothing.

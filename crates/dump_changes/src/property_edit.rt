@@ -19,7 +19,7 @@ pub struct NodeProperty<'a> {
     pub value: &'a [u8],
 }
 
-/// Sets the entry's property, or takes it away.
+/// Sets the entry's property, or removes it.
 fn apply_entry<'a>(props: &mut Vec<NodeProperty<'a>>, entry: &Entry<'a>) -> Result<(), Memory>
     ensures { OnOk result (map as_property props.new.items
         ≡ with_entry (entry_property entry.now) (map as_property props.old.items)) }

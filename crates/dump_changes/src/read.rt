@@ -17,12 +17,12 @@ use std::alloc::Global;
 pub enum End {
     /// At the dump's end.
     Whole,
-    /// At the record with this number, a node that makes no change that is told.
+    /// At the record with this number, a node that makes no change that is modelled.
     NoChange(u64),
     /// At the record with this number: a node of revision 0 or of no revision, or a revision whose number isn't above the one
     /// before, or is the largest that there is.
     OutOfOrder(u64),
-    /// At this byte of the dump, where no record stands, for this fault.
+    /// At this byte of the dump, at which no record is, for this fault.
     Broken { kind: FaultKind, place: usize },
 }
 
@@ -39,12 +39,12 @@ pub struct Reading<'a> {
     pub end: End,
 }
 
-/// Where a reader stands between two records.
+/// The position of a reader between two records.
 #[derive(Clone, Copy)]
 pub(crate) struct Position {
     /// The least number of the next revision.
     next: u64,
-    /// The revision to which a node belongs that comes now.
+    /// The revision to which a node belongs that comes next, if there is one.
     present: Option<u64>,
     /// Whether the revisions so far are numbered 0, 1, 2 and so on.
     numbered: bool,
@@ -53,13 +53,13 @@ pub(crate) struct Position {
 /// What the next record is.
 #[derive(Clone, Copy)]
 pub(crate) enum Step<'a> {
-    /// It is a node that makes no change that is told.
+    /// It is a node that makes no change that is modelled.
     NoChange,
-    /// It has no part in the revisions of a dump.
+    /// It isn't in order, as [`End::OutOfOrder`] says.
     OutOfOrder,
-    /// It is the revision with this number, and the reader stands there behind it.
+    /// It is the revision with this number, and after it the reader is at this position.
     Revision { number: u64, behind: Position },
-    /// It is neither a revision nor a node, and the reader stands there behind it.
+    /// It is neither a revision nor a node, and after it the reader is at this position.
     Other(Position),
     /// It is a node that makes this change.
     Makes(NodeChange<'a>),
@@ -109,7 +109,7 @@ impl Position {
         }
     }
 
-    /// What was read up to here, where the reading ends so.
+    /// What was read up to here, if the reading ends in this way.
     fn ended<'a>(&self, changes: Vec<NodeChange<'a>>, numbers: Vec<u64>, end: End) -> Reading<'a>
         ensures { EndsAt self.now changes.entry numbers end result }
     {

@@ -1,4 +1,4 @@
-//! What no clause says: worked dumps, and memory that is refused.
+//! What no clause says: worked dumps, and allocations that fail.
 use crate::{
     End, Memory, NodeProperty, NodeText, PropertyTable, Reading, StoredText, TextTable,
     copies_from_gap, properties_at, read_changes, text_at, with_loaded_source,
@@ -193,7 +193,7 @@ fn copies_from_a_gap_are_found(rt: HostRuntime) {
     assert!(rt; !copies_from_gap(&[0, 2], &changes[3]));
 }
 
-/// Run with each allocation refused in turn: the changes are read, or there is no memory.
+/// Run with each allocation failing in turn: the changes are read, or there is no memory.
 #[test]
 fn changes_or_no_memory(rt: HostRuntime) {
     let answered = match read_changes(rt.alloc(), BRANCHED) {
@@ -268,7 +268,7 @@ fn properties_of_the_past_are_found(rt: HostRuntime) {
     assert!(rt; are_found(alloc, b"trunk", 4, &[property(b"c", b"4")]));
 }
 
-/// Run with each allocation refused in turn: the properties are found, or there is no memory.
+/// Run with each allocation failing in turn: the properties are found, or there is no memory.
 #[test]
 fn properties_or_no_memory(rt: HostRuntime) {
     let wanted: &[NodeProperty<'_>] = &[property(b"b", b"3")];
@@ -279,7 +279,7 @@ fn properties_or_no_memory(rt: HostRuntime) {
     assert!(rt; answered);
 }
 
-/// f gets a text in r1, another one with its digests in r2, and a delta in r3, where copy is copied from r2. g has no text.
+/// f gets a text in r1, another one with its digests in r2, and a delta in r3, in which copy is copied from r2. g has no text.
 const TEXTS: &[u8] = b"SVN-fs-dump-format-version: 3\n\n\
 Revision-number: 0\n\n\
 Revision-number: 1\n\n\
@@ -350,7 +350,7 @@ fn texts_of_the_past_are_found(rt: HostRuntime) {
     assert!(rt; is_stored(alloc, b"g", 5, StoredText::Whole(text(b""))));
 }
 
-/// Run with each allocation refused in turn: the text is found, or there is no memory.
+/// Run with each allocation failing in turn: the text is found, or there is no memory.
 #[test]
 fn texts_or_no_memory(rt: HostRuntime) {
     let answered = match stored(rt.alloc(), TEXTS, b"copy", 5) {

@@ -30,7 +30,7 @@ impl<'a> Model for TextTable<'a> {
     ghost view = { λ table. map told_of table.texts.items };
 }
 
-/// The text of a record, as its lines tell of it.
+/// The text of a record, with the digests that its lines give.
 fn text_of<'a>(item: &Record<'a>) -> NodeText<'a>
     ensures { told_of result ≡ told_text (record_item item.now) }
 {

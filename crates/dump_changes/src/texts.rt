@@ -11,7 +11,7 @@ use dump_index::{ChangeIndex, Part, Setting};
 use dump_rules::Memory;
 use std::alloc::Global;
 
-/// The text of a file that no change gave one.
+/// The text of a file if no change sets one.
 const NO_TEXT: NodeText<'static> = NodeText {
     text: b"",
     md5: None,
@@ -31,7 +31,7 @@ fn stored_by<'a>(table: &TextTable<'a>, index: &ChangeIndex<'_>, place: usize) -
     }
 }
 
-/// The text of the file at the path after the first changes, so many. The table and the index have to be of one dump.
+/// The text of the file at the path after the first `count` changes. The table and the index have to be of one dump.
 ///
 /// If no file is at the path, the result means nothing.
 pub fn text_at<'a>(

@@ -17,14 +17,14 @@ use Rattle.dump_changes.specs.declared.property_edit.NodeProperty.{NodeProperty}
 abbrev pub as_property : NodeProperty → Property
 as_property p = record { name = p.name.now; value = Some p.value.now }
 
--- the change makes these properties of the old ones, where its record is one of those with these property blocks
+-- the change makes these properties of the old ones, if its record is one of those with these property blocks
 abbrev pub AreChangedBy : List (List ℕ) → Listed → List Property → List Property → Type 0
 AreChangedBy blocks l old new = (patched : Patching) (records : List DumpRecord) (r : DumpRecord) (c : Change) →
     blocks ≡ property_blocks records → slice_get records l.record_number ≡ Some r → MakesChange patched r c
     → HasProps l.props c.props → props_by c.props old ≡ Some new
 
--- the changes of a trail, which set the properties of what is at the path after so many changes, set these, where they are
--- of the nodes of records that have these property blocks
+-- the changes of a trail set these properties of what is at the path after so many changes, if they are of the nodes of records
+-- that have these property blocks
 abbrev pub AreMadeOnTrail : List (List ℕ) → List Listed → List ℕ → ℕ → List Property → Type 0
 AreMadeOnTrail blocks listed path count props = (trail : List ℕ) × IsTrail Props listed count path trail
     × ((patched : Patching) (records : List DumpRecord) (changes : List NodeChange) (placed : List Placed) →

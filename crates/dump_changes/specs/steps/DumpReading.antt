@@ -12,11 +12,11 @@ use Rattle.dump_changes.specs.declared.read.End.{End}
 use Rattle.dump_changes.specs.declared.read.End.TheVariants.{Whole, NoChange, OutOfOrder, Broken}
 use Rattle.dump_changes.specs.declared.read.Reading.{Reading}
 
--- the record behind these has this number
+-- the record after these has this number
 abbrev pub IsNext : List ℕ → List DumpRecord → ℕ → DumpRecord → Type 0
 IsNext dump records number r = BeginsWithRecords dump (records ++ r ∷ []) × (length records ≡ number)
 
--- the reading ends behind these records
+-- the reading ends after these records in this way
 abbrev pub EndsReading : List ℕ → List DumpRecord → End → Type 0
 EndsReading dump records Whole = HasRecords dump records Ending.Whole
 EndsReading dump records (NoChange number) = (r : DumpRecord) × IsNext dump records number r × (is_node r ≡ true)

@@ -12,7 +12,7 @@ abbrev pub has_entry : List Property → Bool
 has_entry [] = false
 has_entry (p ∷ ps) = true
 
--- whether the node, whose properties are these, makes a change that is told
+-- whether the node, which has these properties, makes a change that is modelled
 abbrev pub is_told : DumpRecord → Option (List Property) → Bool
 is_told r ps =
     is_some ps && (not (has_odd_delta r) && (has_known_action r && has_plain_texts r (unwrap_or ps [])))

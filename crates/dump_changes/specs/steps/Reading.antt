@@ -20,8 +20,8 @@ use Rattle.dump_changes.specs.declared.read.Reading.{Reading}
 use Rattle.dump_changes.specs.declared.read.Step.{Step}
 use Rattle.dump_changes.specs.declared.read.Step.TheVariants as steps
 
--- these records, the next revision of which has this number, and a node at the front of which belongs to the present
--- revision, if there is one, make these changes; at their end some revision has come. Revision 0 has no node
+-- these records make these changes. Their next revision has this number, and a node before it belongs to the present revision,
+-- if there is one. At their end at least one revision has come; revision 0 has no node
 pub data Reads (patched : Patching) : ℕ → Option ℕ → List DumpRecord → List Placed → Type 0 where
   NoMore : (next : ℕ) (present : Option ℕ) → Reads patched (suc next) present [] []
   Revision : (next : ℕ) (present : Option ℕ) (r : DumpRecord) (records : List DumpRecord) (placed : List Placed)
@@ -47,7 +47,7 @@ abbrev pub IsBeforeNext : DumpRecord → Position → Position → Type 0
 IsBeforeNext r at next = (next.next ≡ 0 → (at.next ≡ 0) × (is_revision_record r ≡ false))
     × (at.next ≡ 0 → is_revision_record r ≡ false → next.next ≡ 0)
 
--- the same behind a step
+-- the same for the position after a step
 abbrev pub IsBeforeFirst : DumpRecord → Position → Step → Type 0
 IsBeforeFirst r at steps.NoChange = ⊤
 IsBeforeFirst r at steps.OutOfOrder = ⊤
@@ -55,12 +55,12 @@ IsBeforeFirst r at (steps.Revision number next) = IsBeforeNext r at next
 IsBeforeFirst r at (steps.Other next) = IsBeforeNext r at next
 IsBeforeFirst r at (steps.Makes c) = is_revision_record r ≡ false
 
--- what is behind the record makes the same with it
+-- the records after this one make the same changes with it as without it
 abbrev pub GoesOnFrom : DumpRecord → Position → Position → Type 0
 GoesOnFrom r at next = (patched : Patching) (records : List DumpRecord) (placed : List Placed) →
     NodesMake patched next.present records placed → NodesMake patched at.present (r ∷ records) placed
 
--- what is behind the record makes with it what the step says
+-- the step says what the record adds to the changes of the records after it
 abbrev pub IsReadingStep : DumpRecord → Position → Step → Type 0
 IsReadingStep r at steps.NoChange = (is_node r ≡ true) × ((patched : Patching) (c : Change) → MakesChange patched r c → ⊥)
 IsReadingStep r at steps.OutOfOrder = IsOutOfPlaceAt r at
@@ -71,17 +71,17 @@ IsReadingStep r at (steps.Makes c) = (patched : Patching) → (change : Change)
     × ((records : List DumpRecord) (placed : List Placed) → NodesMake patched at.present records placed
     → NodesMake patched at.present (r ∷ records) (record { revision = c.revision; change = change } ∷ placed))
 
--- whether revisions are numbered one by one up to the position, and go on so in these records
+-- whether revisions are numbered one by one up to the position, and also in these records
 abbrev pub counts_on : Position → List DumpRecord → Bool
 counts_on at records = at.numbered && counts_from at.next (revision_numbers records)
 
--- they are so with the record exactly if they are so behind it, from the next position on; and they rise with it exactly if
--- they do behind it
+-- they are numbered so with the record exactly if they are after it, from the next position on; and their numbers rise with it
+-- exactly if they rise after it
 abbrev pub CountsTo : DumpRecord → Position → Position → Type 0
 CountsTo r at next = (records : List DumpRecord) → (counts_on at (r ∷ records) ≡ counts_on next records)
     × (rise_from at.next (revision_numbers (r ∷ records)) ≡ rise_from next.next (revision_numbers records))
 
--- the step tells whether they are, and the record's number, if it is a revision
+-- the step says whether they are numbered so, and gives the record's number, if it is a revision
 abbrev pub IsCountingStep : DumpRecord → Position → Step → Type 0
 IsCountingStep r at steps.NoChange = ⊤
 IsCountingStep r at steps.OutOfOrder = ⊤
@@ -92,7 +92,7 @@ IsCountingStep r at (steps.Other next) = CountsTo r at next
 IsCountingStep r at (steps.Makes c) = CountsTo r at at
     × ((records : List DumpRecord) → revision_numbers (r ∷ records) ≡ revision_numbers records)
 
--- the step tells to which revision a node behind the record belongs
+-- the step says to which revision a node after the record belongs
 abbrev pub IsPresentStep : DumpRecord → Position → Step → Type 0
 IsPresentStep r at steps.NoChange = ⊤
 IsPresentStep r at steps.OutOfOrder = ⊤
@@ -100,7 +100,7 @@ IsPresentStep r at (steps.Revision number next) = revision_behind r at.present �
 IsPresentStep r at (steps.Other next) = revision_behind r at.present ≡ next.present
 IsPresentStep r at (steps.Makes c) = revision_behind r at.present ≡ at.present
 
--- the step tells whether the record, which has this number, is a node; its change has the number
+-- the step says whether the record, which has this number, is a node; its change has the number
 abbrev pub IsNumberedStep : DumpRecord → ℕ → Step → Type 0
 IsNumberedStep r number steps.NoChange = ⊤
 IsNumberedStep r number steps.OutOfOrder = ⊤
@@ -108,7 +108,7 @@ IsNumberedStep r number (steps.Revision its next) = is_node r ≡ false
 IsNumberedStep r number (steps.Other next) = is_node r ≡ false
 IsNumberedStep r number (steps.Makes c) = (is_node r ≡ true) × (c.record_number ≡ number)
 
--- what was read up to the position, where the reading ends so
+-- what was read up to the position, if the reading ends in this way
 abbrev pub EndsAt : Position → Vec NodeChange → Vec ℕ → End → Reading → Type 0
 EndsAt at changes numbers end reading = (reading.changes ≡ changes) × (reading.numbers ≡ numbers)
     × (reading.numbered ≡ (at.numbered && nat_lt 0 at.next)) × (reading.end ≡ end)

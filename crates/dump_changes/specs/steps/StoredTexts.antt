@@ -1,4 +1,4 @@
--- The texts of a table, and how they are stored, as they are meant.
+-- The texts of a table, and how they are stored, as values of the specs.
 use Rattle.std.specs.Prelude.{ℕ, List, option_copied, ⊤}
 use Rattle.dump_index.specs.Listed.{Listed}
 use Rattle.dump_changes.specs.FileTexts.{IsTextAt, TextStored, ToldText}
@@ -6,11 +6,11 @@ use Rattle.dump_changes.specs.declared.node_text.NodeText.{NodeText}
 use Rattle.dump_changes.specs.declared.node_text.StoredText.{StoredText}
 use Rattle.dump_changes.specs.declared.node_text.StoredText.TheVariants.{Whole, Delta}
 
--- the text that is meant
+-- the text and its digests, as such a value
 abbrev pub told_of : NodeText → ToldText
 told_of t = record { text = t.text.now; md5 = option_copied t.md5; sha1 = option_copied t.sha1 }
 
--- how it is stored
+-- how it is stored, as such a value
 abbrev pub stored_of : StoredText → TextStored
 stored_of (Whole t) = TextStored.Whole (told_of t)
 stored_of (Delta place) = TextStored.Delta place
