@@ -1,4 +1,4 @@
--- The deletes behind a copy that is trimmed, found among the excluded paths.
+-- The deletions after a copy that is trimmed, found among the excluded paths.
 use Rattle.std.specs.Prelude.{List, IsTrue}
 use Rattle.dump_rules.specs.Settings.{Settings}
 use Rattle.dump_trees.specs.Paths.{NodePath, keeps}
@@ -8,8 +8,8 @@ use Rattle.dump_trees.specs.Returns.{lie_apart, IsCopyOver}
 use Rattle.dump_trees.specs.Following.{Way, followed}
 use Rattle.dump_trees.specs.Trimming.{CoverTaken}
 
--- what a copy to a kept path takes to paths that aren't kept is found among the excluded paths below its path, as the sources
--- of what is covered are
+-- of the excluded paths below the path of a kept copy, those that exist and aren't excluded at the source cover what
+-- the copy takes to paths that aren't kept
 abbrev pub DeletesAreFound : Type 0
 DeletesAreFound = (settings : Settings) (excluded : List NodePath) (history : History) (old : Tree) (c : Change)
     (source : NodePath) → IsCopyOver settings excluded history old c source → IsTrue (lie_apart excluded)

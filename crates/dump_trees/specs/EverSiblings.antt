@@ -1,4 +1,4 @@
--- Siblings of every tree, of those within revisions too: how they are found without building trees.
+-- Siblings of every tree, also of those within revisions: how they are found without building trees.
 use Rattle.std.specs.Prelude.{◌≡◌, ℕ, ◌≤◌, Bool, ◌||◌, List, [], ◌∷◌, ◌++◌, length, Some, is_some, bytes_eq, Contains, IsTrue}
 use Rattle.std.specs.List.{list_all, list_any}
 use Rattle.dump_trees.specs.Paths.{NodePath}
@@ -14,14 +14,14 @@ use Rattle.dump_trees.specs.FollowedParents.{AreEverSiblings}
 
 -- finding them
 
--- something exists right below the path after so many of the changes: the name is one that can stand there then, and
--- looking back finds something
+-- something with this name exists directly below the path after so many of the changes: the name is one that can exist
+-- there then, and looking back finds something
 abbrev pub ExistsBelow : List (List Change) → ℕ → NodePath → List ℕ → Type 0
 ExistsBelow revisions count path name =
     IsTrue (list_any (λ other. bytes_eq other name) (names_look (placed_from 1 revisions) count path))
     × IsTrue (is_some (look root_alone (placed_from 1 revisions) count (path ++ name ∷ [])))
 
--- siblings among which is each one that exists in its directory after some of the changes suffice
+-- siblings suffice if each one that exists in its directory after some of the changes is among them
 abbrev pub EverSiblingsAreFound : Type 0
 EverSiblingsAreFound = (included siblings : List NodePath) (revisions : List (List Change)) →
     IsTrue (list_all (is_sibling included) siblings)
@@ -32,17 +32,17 @@ EverSiblingsAreFound = (included siblings : List NodePath) (revisions : List (Li
 
 -- what changes touch
 
--- whether a change does something. One that doesn't is loaded where nothing exists too
+-- whether a change does something. One that doesn't is accepted even if nothing exists at its path
 abbrev pub does_something : Change → Bool
 does_something c = c.deletes || is_some c.made || sets_props c.props || is_some c.text
 
--- something exists once at the path of each change that does something, before it or behind it
+-- at the path of each change that does something, something exists once, before the change or after it
 abbrev pub ChangedPathsExist : Type 0
 ChangedPathsExist = (revisions : List (List Change)) (trees : List Tree) (changes : List Change) (c : Change) →
     loaded_over root_alone revisions ≡ Some trees → Contains revisions changes → Contains changes c
     → IsTrue (does_something c) → ExistsOnce revisions c.path
 
--- so it does at the source of each copy
+-- the same holds for the source of each copy
 abbrev pub CopiedPathsExist : Type 0
 CopiedPathsExist = (revisions : List (List Change)) (trees : List Tree) (changes : List Change) (c : Change)
     (number : ℕ) (source : NodePath) →

@@ -1,5 +1,5 @@
--- The expansions of three kinds of changes: of one that is separated already, of a copy at a kept path that the cut
--- doesn't separate, and, where prefixes are excluded, of a change at a path that isn't kept.
+-- The expansions of three kinds of changes: of one that is separated, of a copy to a kept path, and, if prefixes are
+-- excluded, of a change at a path that isn't kept.
 use Rattle.std.specs.Prelude.{◌≡◌, ℕ, Bool, true, ◌&&◌, List, [], ◌∷◌, ◌++◌, map, Option, Some, None, option_map, is_some, is_none, if◌then◌else◌, IsTrue, IsFalse}
 use Rattle.std.specs.List.{list_all}
 use Rattle.dump_rules.specs.declared.options.Side.TheVariants.{Exclude}
@@ -12,13 +12,13 @@ use Rattle.dump_trees.specs.Branches.{Branch, is_distinct, HasBranch}
 use Rattle.dump_trees.specs.WritingOut.{WritesOut}
 use Rattle.dump_trees.specs.Expansions.{Expands}
 
--- the branch, whose root has the properties that a change sets
+-- the branch, with the properties at its root that a change sets
 abbrev pub branch_with_props : Option PropertyChange → Branch → Branch
 branch_with_props None branch = branch
 branch_with_props (Some change) (Branch.Folder old inside) = Branch.Folder (new_props change old) inside
 branch_with_props (Some change) (Branch.File old text) = Branch.File (new_props change old) text
 
--- the branch, whose root has the text that a change sets; refused of a folder, and where the load refuses a delta
+-- the branch, with the text at its root that a change sets; rejected for a directory, and if the load rejects the delta
 abbrev pub branch_with_text : Option TextChange → Branch → Option Branch
 branch_with_text None branch = Some branch
 branch_with_text (Some change) (Branch.Folder props inside) = None
@@ -33,15 +33,15 @@ branch_made c branch = branch_with_text c.text (branch_with_props c.props branch
 abbrev pub deletion_of : NodePath → Change
 deletion_of path = record { path = path; deletes = true; made = None; props = None; text = None }
 
--- the deletion of what stands at the path, if something does
+-- the deletion of what exists at the path, if something does
 abbrev pub cleared : Tree → NodePath → List Change
 cleared before path = if is_some (before path) then deletion_of path ∷ [] else []
 
--- the deletions of these paths, which are given from the top on
+-- the deletions of these rests of the top
 abbrev pub deletions : NodePath → List NodePath → List Change
 deletions top rests = map (λ rest. deletion_of (top ++ rest)) rests
 
--- whether no path of these is one before it, or lies below one
+-- whether none of these paths is at or below one before it
 abbrev pub none_is_below : List NodePath → Bool
 none_is_below [] = true
 none_is_below (path ∷ paths) = list_all (λ other. is_none (below path other)) paths && none_is_below paths
@@ -52,7 +52,7 @@ SeparatedExpands = (settings : Settings) (history : History) (before : Tree) (c 
     ((after : Tree) → step history before c ≡ Some after → Separates settings history before c after)
     → Expands settings history before c (c ∷ [])
 
--- a copy at a kept path: what stands there is deleted, and what the change makes of the branch at its source is written
+-- a copy to a kept path: what exists there is deleted, and what the change makes of the branch at its source is written
 -- out
 abbrev pub KeptCopyExpands : Type 0
 KeptCopyExpands = (settings : Settings) (history : History) (before old : Tree) (c : Change) (number : ℕ)
@@ -63,7 +63,7 @@ KeptCopyExpands = (settings : Settings) (history : History) (before old : Tree) 
     → WritesOut settings history c.path made changes
     → Expands settings history before c (cleared before c.path ++ changes)
 
--- where prefixes are excluded, each change at a path that isn't kept stays
+-- if prefixes are excluded, each change at a path that isn't kept is an expansion of itself
 abbrev pub ExcludedChangeStays : Type 0
 ExcludedChangeStays = (settings : Settings) (history : History) (before : Tree) (c : Change) →
     settings.side ≡ Exclude → IsFalse (keeps settings c.path) → Expands settings history before c (c ∷ [])

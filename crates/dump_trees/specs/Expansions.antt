@@ -1,4 +1,4 @@
--- Changes that are replaced by several others with the same effect, each of which the filter's cut separates.
+-- Expanded forms: changes that are replaced by others that together have the same effect, each of which is separated.
 use Rattle.std.specs.Prelude.{◌≡◌, List, [], ◌∷◌, ◌++◌, length, Some, slice_get, IsTrue}
 use Rattle.dump_text.specs.PropertyList.{Property}
 use Rattle.dump_rules.specs.Settings.{Settings}
@@ -11,20 +11,20 @@ use Rattle.dump_trees.specs.Revisions.{loaded, loaded_over, EmptyRule, stays_num
 use Rattle.dump_trees.specs.HistoryLaws.{ImagesRestrict}
 use Rattle.dump_trees.specs.Leading.{Leads}
 
--- the changes are an expansion of the change: wherever it leads from this tree to another, they do too, and each of
--- them is separated
+-- the changes are an expansion of the change: if it leads from this tree to another, they do too, and each of them is
+-- separated
 abbrev pub Expands : Settings → History → Tree → Change → List Change → Type 0
 Expands settings history before c changes =
     (after : Tree) → step history before c ≡ Some after → Leads settings history before changes after
 
--- the changes of a revision, each replaced by an expansion of it at its place
+-- the changes of a revision, each replaced at its place by an expansion of it
 abbrev pub AllExpand : Settings → History → Tree → List Change → List Change → Type 0
 AllExpand settings history before [] expanded = expanded ≡ []
 AllExpand settings history before (c ∷ changes) expanded =
     (first : List Change) × (rest : List Change) × (expanded ≡ first ++ rest) × Expands settings history before c first
     × ((after : Tree) → step history before c ≡ Some after → AllExpand settings history after changes rest)
 
--- so for the changes of each revision
+-- the changes of each revision are replaced so
 abbrev pub AllRevisionsExpand : Settings → List Tree → Tree → List (List Change) → List (List Change) → Type 0
 AllRevisionsExpand settings trees youngest [] expanded = expanded ≡ []
 AllRevisionsExpand settings trees youngest (changes ∷ revisions) expanded =
@@ -33,15 +33,15 @@ AllRevisionsExpand settings trees youngest (changes ∷ revisions) expanded =
     × ((tree : Tree) → steps (slice_get trees) youngest changes ≡ Some tree
     → AllRevisionsExpand settings (trees ++ tree ∷ []) tree revisions rest)
 
--- revisions whose changes are each separated are expanded by themselves: so nothing of them needs to be replaced, nor of
--- an expanded form once more
+-- if all changes of the revisions are separated, the revisions are an expansion of themselves. So none of these changes
+-- needs to be replaced, and an expanded form needs no other expansion
 abbrev pub SeparatedRevisionsExpand : Type 0
 SeparatedRevisionsExpand = (settings : Settings) (trees : List Tree) (youngest : Tree)
     (revisions : List (List Change)) →
     AllRevisionsSeparate settings trees youngest revisions
     → AllRevisionsExpand settings trees youngest revisions revisions
 
--- the expanded changes of a revision lead where its changes lead
+-- the expanded changes of a revision lead to the same tree as its changes, and each of them is separated
 abbrev pub ExpandedLead : Type 0
 ExpandedLead = (settings : Settings) (history : History) (before after : Tree) (changes expanded : List Change) →
     steps history before changes ≡ Some after → AllExpand settings history before changes expanded
@@ -54,8 +54,8 @@ ExpandedLoad = (settings : Settings) (older : List Tree) (youngest : Tree) (revi
     loaded older youngest revisions ≡ Some trees → AllRevisionsExpand settings older youngest revisions expanded
     → (loaded older youngest expanded ≡ Some trees) × AllRevisionsSeparate settings older youngest expanded
 
--- what the filter writes of the expanded revisions of a dump, loaded over the given folders, has the restricted trees
--- of the dump; no change of the dump itself need be separated
+-- what the filter writes for the expanded revisions of a dump, loaded over the given directories, has the restricted
+-- trees of the dump. No change of the dump itself needs to be separated
 abbrev pub ExpandedHistoryRestricts : Settings → NewProperty → Type 0
 ExpandedHistoryRestricts settings IsNew = (rule : EmptyRule) (revisions expanded written : List (List Change))
     (trees : List Tree) →
@@ -67,7 +67,7 @@ ExpandedHistoryRestricts settings IsNew = (rule : EmptyRule) (revisions expanded
     × (length others ≡ length (kept_of settings rule expanded).numbers)
     × ImagesRestrict settings IsNew (image (kept_of settings rule expanded)) trees others
 
--- so for each way to make new properties that keeps entries
+-- this holds for each way to make new properties that keeps entries
 abbrev pub EachExpandedHistoryRestricts : Type 0
 EachExpandedHistoryRestricts = (settings : Settings) (make : Property → Property) →
     KeepsEntries (IsMade make) → ExpandedHistoryRestricts settings (IsMade make)

@@ -1,4 +1,4 @@
--- What still comes back where included paths are followed to their sources: directories above included paths alone.
+-- What still comes back if included paths are followed to their sources: only directories above included paths.
 use Rattle.std.specs.Prelude.{◌≡◌, List, [], ◌∷◌, ◌++◌, Some, is_some, slice_get, Contains, IsTrue, IsFalse}
 use Rattle.dump_rules.specs.Settings.{Settings}
 use Rattle.dump_trees.specs.Paths.{NodePath, keeps}
@@ -10,9 +10,8 @@ use Rattle.dump_trees.specs.ComingBack.{ComesBack}
 use Rattle.dump_trees.specs.Returns.{is_covered}
 use Rattle.dump_trees.specs.Following.{Way, IsClosed, Covers, ExistsOnce}
 
--- where the siblings are excluded, and the included paths are closed, none of them is at or above what comes back, nor at
--- or above what exists below it at the source. So what is written anew in its place are directories above included
--- paths alone
+-- if the siblings are excluded, and the included paths are closed, no included path is at or above what comes back, nor
+-- at or above what exists below it at the source. So only directories above included paths are written as additions
 abbrev pub OnlyParentsComeBack : Type 0
 OnlyParentsComeBack = (settings : Settings) (included siblings : List NodePath) (trees : List Tree)
     (revisions : List (List Change)) (changes : List Change) (c : Change) →
@@ -26,14 +25,14 @@ OnlyParentsComeBack = (settings : Settings) (included siblings : List NodePath) 
 
 -- within revisions too
 
--- these are siblings, and each sibling at which something exists after some of the changes is one of them
+-- these are siblings, and each sibling at which something exists after some of the changes is among them
 abbrev pub AreEverSiblings : List NodePath → List (List Change) → List NodePath → Type 0
 AreEverSiblings included revisions siblings = (front : List (List Change)) (changes more : List Change)
     (rest : List (List Change)) (trees : List Tree) →
     revisions ≡ front ++ (changes ++ more) ∷ rest → loaded_over root_alone (front ++ changes ∷ []) ≡ Some trees
     → AreSiblings included trees siblings
 
--- then what ever exists is kept exactly where it is in the cut
+-- if they are excluded, a path at which something ever exists is kept exactly if it is in the cut
 abbrev pub EverKeptInCut : Type 0
 EverKeptInCut = (settings : Settings) (included siblings : List NodePath) (revisions : List (List Change))
     (path : NodePath) →
@@ -41,7 +40,7 @@ EverKeptInCut = (settings : Settings) (included siblings : List NodePath) (revis
     → AreEverSiblings included revisions siblings → ExistsOnce revisions path
     → keeps settings path ≡ is_in_cut included path
 
--- and what comes back where included paths are closed is above an included path, or the root
+-- if the included paths are closed too, what comes back is above an included path, or is the root
 abbrev pub ParentsComeBack : Type 0
 ParentsComeBack = (settings : Settings) (included siblings : List NodePath) (trees : List Tree)
     (revisions : List (List Change)) (changes : List Change) (c : Change) →

@@ -1,5 +1,5 @@
--- All rests from which on the copies of a dump are followed, in the order of its changes: its returns, where what is
--- excluded is followed to its copies.
+-- All rests at which the copies of a dump are followed, in the order of its changes. If excluded paths are followed to
+-- their copies, these are its returns.
 use Rattle.std.specs.Prelude.{◌≡◌, ℕ, ◌<◌, zero, suc, List, [], ◌++◌, length, map, Option, Some, None, slice_get, Contains, IsTrue}
 use Rattle.std.specs.List.{list_all}
 use Rattle.dump_rules.specs.Settings.{Settings}
@@ -13,12 +13,12 @@ use Rattle.dump_trees.specs.Siblings.{has_node_names, have_node_names, ExcludesP
 use Rattle.dump_trees.specs.ComingBack.{NothingComesBack}
 use Rattle.dump_trees.specs.Following.{Way, followed, AddsNothing, PlacedCopy, followed_told}
 
--- a rest from which on the copy at this place is followed
+-- a rest at which the copy at this place is followed
 pub record PlacedRest : Type 0 where
   pub place : ℕ
   pub rest : NodePath
 
--- those of what a change makes at its path
+-- the rests of what a change makes at its path; only a copy has any
 abbrev pub rests_made : Way → List NodePath → ToldKinds → List Placed → NodePath → Option Made → List NodePath
 rests_made way tops told placed path None = []
 rests_made way tops told placed path (Some Made.NewFolder) = []
@@ -26,19 +26,19 @@ rests_made way tops told placed path (Some Made.NewFile) = []
 rests_made way tops told placed path (Some (Made.Copied number source)) =
     followed_told way tops told placed number path source
 
--- those of the change at a place
+-- the rests of the change at a place, if there is one
 abbrev pub rests_at : Way → List NodePath → ToldKinds → List Placed → Option Placed → List NodePath
 rests_at way tops told placed None = []
 rests_at way tops told placed (Some p) = rests_made way tops told placed p.change.path p.change.made
 
--- those of the first changes, so many
+-- the rests of the first changes, up to this many
 abbrev pub all_rests : Way → List NodePath → ToldKinds → List Placed → ℕ → List PlacedRest
 all_rests way tops told placed zero = []
 all_rests way tops told placed (suc count) =
     all_rests way tops told placed count
     ++ map (λ rest. record { place = count; rest = rest }) (rests_at way tops told placed (slice_get placed count))
 
--- there is none where there is none at any place, in whatever order these are asked
+-- there are no rests exactly if there are none at any place, in whatever order the places are examined
 abbrev pub NoneAtAnyPlace : Type 0
 NoneAtAnyPlace = (way : Way) (tops : List NodePath) (told : ToldKinds) (placed : List Placed) (count : ℕ) →
     (((place : ℕ) → place < count → rests_at way tops told placed (slice_get placed place) ≡ [])
@@ -46,8 +46,8 @@ NoneAtAnyPlace = (way : Way) (tops : List NodePath) (told : ToldKinds) (placed :
     × (all_rests way tops told placed count ≡ []
     → (place : ℕ) → place < count → rests_at way tops told placed (slice_get placed place) ≡ [])
 
--- where a dump loads, and what exists is told, these are just the rests of its copies; so a pass adds nothing exactly where
--- there is none
+-- if a dump loads, and the function says what exists, these are exactly the rests of its copies. So a pass adds nothing
+-- exactly if there are none
 abbrev pub AllRestsAreListed : Type 0
 AllRestsAreListed = (way : Way) (tops : List NodePath) (told : ToldKinds) (revisions : List (List Change))
     (trees : List Tree) (placed : List Placed) →
@@ -62,7 +62,7 @@ AllRestsAreListed = (way : Way) (tops : List NodePath) (told : ToldKinds) (revis
     × (all_rests way tops told placed (length placed) ≡ [] → AddsNothing way trees revisions tops)
     × (AddsNothing way trees revisions tops → all_rests way tops told placed (length placed) ≡ [])
 
--- so nothing comes back exactly where there is no return
+-- so nothing comes back exactly if there is no return
 abbrev pub NoReturnsBringNothing : Type 0
 NoReturnsBringNothing = (settings : Settings) (excluded : List NodePath) (told : ToldKinds)
     (revisions : List (List Change)) (trees : List Tree) (placed : List Placed) →

@@ -1,5 +1,5 @@
--- Following copies: the least set of paths that has the given ones, what is below them, and what copies bring of it
--- elsewhere; or, of what is included, the sources.
+-- Following copies: the least set of paths that has the given ones, the paths below its members, and the paths to which
+-- copies take its members. For included paths it has instead the sources from which its members are copied.
 use Rattle.std.specs.Prelude.{◌≡◌, ℕ, ◌+◌, ◌≤◌, not, ◌&&◌, ◌||◌, List, [], ◌∷◌, ◌++◌, length, filter, Some, is_some, slice_get, count_by, Contains, IsTrue, IsFalse}
 use Rattle.std.specs.List.{list_all}
 use Rattle.dump_rules.specs.Settings.{Settings}
@@ -27,25 +27,25 @@ pub record Copies (trees : List Tree) (revisions : List (List Change)) (path sou
   pub copies : change.made ≡ Some (Made.Copied number source)
   pub tree : slice_get trees number ≡ Some old
 
--- which way copies are followed: what is excluded to where it is copied, and what is included to where it is copied from
+-- which way copies are followed: from what is excluded to its copies, or from what is included to its sources
 pub data Way : Type 0 where
   ToCopies : Way
   ToSources : Way
 
--- where a copy to this path, of this source, is followed from
+-- the path from which a copy of this source to this path is followed
 abbrev pub from_of : Way → NodePath → NodePath → NodePath
 from_of Way.ToCopies path source = source
 from_of Way.ToSources path source = path
 
--- and where to
+-- the path to which it is followed
 abbrev pub to_of : Way → NodePath → NodePath → NodePath
 to_of Way.ToCopies path source = path
 to_of Way.ToSources path source = source
 
 -- closed sets
 
--- a set of paths is closed: it has what is below its members, and what a copy is followed to from them, where that exists
--- at the source
+-- a set of paths is closed: it has each path below its members, and each path to which a copy is followed from a
+-- member, if something exists there at the source
 pub record IsClosed (way : Way) (trees : List Tree) (revisions : List (List Change)) (Has : NodePath → Type 0)
     : Type 0 where
   pub below : (path rest : NodePath) → Has path → Has (path ++ rest)
@@ -53,12 +53,12 @@ pub record IsClosed (way : Way) (trees : List Tree) (revisions : List (List Chan
       → IsTrue (is_some (old (source ++ rest))) → Has (from_of way path source ++ rest)
       → Has (to_of way path source ++ rest)
 
--- what these paths cover
+-- the path is one that these paths cover
 abbrev pub Covers : List NodePath → NodePath → Type 0
 Covers tops path = IsTrue (is_covered tops path)
 
--- the least closed set that has these paths: what is one of them, or below what is reached, or where a copy is followed to
--- from what is reached
+-- the least closed set that has these paths. It has these paths and each path below a member. It also has each path to
+-- which a copy is followed from a member, if something exists there at the source
 pub data IsInClosure (way : Way) (trees : List Tree) (revisions : List (List Change)) (tops : List NodePath)
     : NodePath → Type 0 where
   Given : (top : NodePath) → Contains tops top → IsInClosure way trees revisions tops top
@@ -70,14 +70,16 @@ pub data IsInClosure (way : Way) (trees : List Tree) (revisions : List (List Cha
 
 -- additions
 
--- the rests from which on a copy is followed, where these paths are what there is so far. To copies they are the returns
+-- the rests at which a copy is followed, if these are the paths so far. Each is a covered rest of the path from which
+-- it is followed. Something exists there at the source, and the path to which it is followed isn't covered yet. For
+-- `ToCopies` they are the returns
 abbrev pub followed : Way → List NodePath → Tree → NodePath → NodePath → List NodePath
 followed way tops old path source =
     filter (λ rest. is_some (old (source ++ rest)) && not (is_covered tops (to_of way path source ++ rest)))
     (rests_covered (from_of way path source) tops)
 
--- a path is one that a copy is followed to: something exists there at the source, it is covered where the copy is followed
--- from, and this path isn't covered yet
+-- a copy is followed to this path: something exists there at the source, the path from which it is followed is covered,
+-- and this path isn't covered yet
 pub record IsFollowed (way : Way) (trees : List Tree) (revisions : List (List Change)) (tops : List NodePath)
     (added : NodePath) : Type 0 where
   pub path : NodePath
@@ -97,7 +99,7 @@ pub record IsGrown (tops : List NodePath) (added : NodePath) (more : List NodePa
   pub others : front ++ behind ≡ filter (λ top. not (is_within added top)) tops
   pub joined : more ≡ front ++ added ∷ behind
 
--- the last paths come of the given ones by these additions, one after the other
+-- these additions, one after the other, lead from the first paths to the last ones
 abbrev pub AreFollowed : Way → List Tree → List (List Change) → List NodePath → List NodePath → List NodePath → Type 0
 AreFollowed way trees revisions tops [] last = last ≡ tops
 AreFollowed way trees revisions tops (added ∷ additions) last =
@@ -111,7 +113,7 @@ AddsNothing way trees revisions tops = (path source : NodePath) (old : Tree) →
 
 -- laws
 
--- each rest that is listed is an addition, also where the paths have grown since, and don't cover it yet
+-- each rest that is listed is an addition, even if the paths have grown since, provided that they don't cover it yet
 abbrev pub ListedAreFollowed : Type 0
 ListedAreFollowed = (way : Way) (trees : List Tree) (revisions : List (List Change)) (tops more : List NodePath)
     (path source rest : NodePath) (old : Tree) → Copies trees revisions path source old
@@ -120,16 +122,17 @@ ListedAreFollowed = (way : Way) (trees : List Tree) (revisions : List (List Chan
     → IsFalse (is_covered more (to_of way path source ++ rest))
     → IsFollowed way trees revisions more (to_of way path source ++ rest)
 
--- the grown paths cover what they covered, and what is at or below the addition, and nothing else; none of them is at or
--- below another one, and they have names, where it was so
+-- the grown paths cover what the old ones cover, and what is at or below the addition, and nothing else. None of them
+-- is at or below another one, if that is true of the old ones and the addition isn't covered. They have names of nodes,
+-- if the old ones and the addition have
 abbrev pub GrownPathsCover : Type 0
 GrownPathsCover = (tops more : List NodePath) (added : NodePath) → IsGrown tops added more
     → ((path : NodePath) → is_covered more path ≡ (is_covered tops path || is_within added path))
     × (IsFalse (is_covered tops added) → IsTrue (lie_apart tops) → IsTrue (lie_apart more))
     × (IsTrue (list_all has_node_names tops) → IsTrue (has_node_names added) → IsTrue (list_all has_node_names more))
 
--- something exists at the path after some of the changes of these revisions: those of the first ones, the last of which
--- may be cut short
+-- something exists at the path after some of the changes of these revisions: those of the first revisions, the last of
+-- which may be cut short
 pub record ExistsOnce (revisions : List (List Change)) (path : NodePath) : Type 0 where
   pub front : List (List Change)
   pub changes : List Change
@@ -146,8 +149,8 @@ pub record ExistsOnce (revisions : List (List Change)) (path : NodePath) : Type 
 abbrev pub left_uncovered : List NodePath → List NodePath → ℕ
 left_uncovered ever tops = count_by (λ path. not (is_covered tops path)) ever
 
--- with each addition one path less is left, of those at which something ever exists. So there are no more additions than
--- such paths
+-- each addition covers at least one more of the paths at which something ever exists. So there are no more additions
+-- than such paths
 abbrev pub FollowingEnds : Type 0
 FollowingEnds = (way : Way) (trees : List Tree) (revisions : List (List Change)) (ever tops additions last : List NodePath) →
     loaded_over root_alone revisions ≡ Some trees
@@ -155,7 +158,7 @@ FollowingEnds = (way : Way) (trees : List Tree) (revisions : List (List Change))
     → AreFollowed way trees revisions tops additions last
     → length additions + left_uncovered ever last ≤ left_uncovered ever tops
 
--- once a pass adds nothing, what the last paths cover is closed, and is just what is reached from the given ones
+-- once a pass adds nothing, what the last paths cover is closed, and it is the least closed set that has the first ones
 abbrev pub FollowingIsLeast : Type 0
 FollowingIsLeast = (way : Way) (trees : List Tree) (revisions : List (List Change)) (tops additions last : List NodePath) →
     loaded_over root_alone revisions ≡ Some trees
@@ -164,7 +167,7 @@ FollowingIsLeast = (way : Way) (trees : List Tree) (revisions : List (List Chang
     × ((path : NodePath) → Covers last path → IsInClosure way trees revisions tops path)
     × ((path : NodePath) → IsInClosure way trees revisions tops path → Covers last path)
 
--- where what is excluded is followed to its copies, nothing comes back
+-- if paths are excluded, a pass that follows them to their copies adds nothing exactly if nothing comes back
 abbrev pub FollowedBringNothingBack : Type 0
 FollowedBringNothingBack = (settings : Settings) (trees : List Tree) (revisions : List (List Change))
     (excluded : List NodePath) →
@@ -173,7 +176,7 @@ FollowedBringNothingBack = (settings : Settings) (trees : List Tree) (revisions 
     → (AddsNothing Way.ToCopies trees revisions excluded → NothingComesBack settings trees revisions)
     × (NothingComesBack settings trees revisions → AddsNothing Way.ToCopies trees revisions excluded)
 
--- what a program asks
+-- what a program finds out
 
 -- the change at this place copies the source, as it is in this tree, to the path
 pub record PlacedCopy (trees : List Tree) (placed : List Placed) (place : ℕ) (path source : NodePath) (old : Tree)
@@ -185,7 +188,7 @@ pub record PlacedCopy (trees : List Tree) (placed : List Placed) (place : ℕ) (
   pub copies : at.change.made ≡ Some (Made.Copied number source)
   pub tree : slice_get trees number ≡ Some old
 
--- the copies are those at the places of all changes
+-- the copies of the revisions are exactly those at the places of their changes
 abbrev pub CopiesArePlaced : Type 0
 CopiesArePlaced = (trees : List Tree) (revisions : List (List Change)) (path source : NodePath) (old : Tree) →
     (Copies trees revisions path source old
@@ -193,14 +196,14 @@ CopiesArePlaced = (trees : List Tree) (revisions : List (List Change)) (path sou
     × ((place : ℕ) → PlacedCopy trees (placed_from 1 revisions) place path source old
     → Copies trees revisions path source old)
 
--- the rests from which on a copy is followed, where what exists at the source is told, at the end of the revision that the
--- copy names
+-- the rests at which a copy is followed, if a function says what exists at the source at the end of the revision that
+-- the copy names
 abbrev pub followed_told : Way → List NodePath → ToldKinds → List Placed → ℕ → NodePath → NodePath → List NodePath
 followed_told way tops told placed number path source =
     filter (λ rest. is_some (told (end_of placed number) (source ++ rest))
     && not (is_covered tops (to_of way path source ++ rest))) (rests_covered (from_of way path source) tops)
 
--- they are the same
+-- they are the same as those of the tree, if the function is right
 abbrev pub FollowedIsTold : Type 0
 FollowedIsTold = (way : Way) (tops : List NodePath) (told : ToldKinds) (revisions : List (List Change))
     (trees : List Tree) (number : ℕ) (old : Tree) (path source : NodePath) →
@@ -208,7 +211,7 @@ FollowedIsTold = (way : Way) (tops : List NodePath) (told : ToldKinds) (revision
     → loaded_over root_alone revisions ≡ Some trees → slice_get trees number ≡ Some old
     → followed_told way tops told (placed_from 1 revisions) number path source ≡ followed way tops old path source
 
--- each copy of a history that loads is one of which the returns are found
+-- if these paths are excluded, each copy of a history that loads is one for which the returns are found
 abbrev pub EachCopyIsOver : Type 0
 EachCopyIsOver = (settings : Settings) (excluded : List NodePath) (trees : List Tree) (revisions : List (List Change))
     (path source : NodePath) (old : Tree) →

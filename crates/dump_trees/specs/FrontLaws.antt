@@ -1,5 +1,5 @@
--- The laws of the first revisions of a dump: they hold whatever changes the revisions behind them make, also where one
--- of these is refused or isn't separated.
+-- The laws of the first revisions of a dump: they hold whatever changes the revisions after them make, even if one of
+-- these is rejected or isn't separated.
 use Rattle.std.specs.Prelude.{◌≡◌, ℕ, suc, ◌≤◌, List, [], ◌∷◌, ◌++◌, length, take, Some, IsTrue}
 use Rattle.dump_text.specs.PropertyList.{Property}
 use Rattle.dump_rules.specs.Settings.{Settings}
@@ -12,9 +12,9 @@ use Rattle.dump_trees.specs.Revisions.{loaded_over, EmptyRule, stays_numbered, A
 use Rattle.dump_trees.specs.HistoryLaws.{ImagesRestrict}
 use Rattle.dump_trees.specs.Quiet.{are_quiet, nowhere_is_over}
 
--- what is written begins with what is written of the first revisions; this part, loaded over the given folders, has a
--- revision for each kept one of them, and the tree at the image of each of their numbers is the restricted tree. The
--- numbers and images are those of the whole dump
+-- what is written begins with what is written for the first revisions. This part, loaded over the given directories,
+-- has a revision for each kept one of them. The tree at the image of each of their numbers is the restricted tree. The
+-- numbers and images are those of the entire dump
 pub record FrontLoads (settings : Settings) (IsNew : NewProperty) (rule : EmptyRule) (kept : KeptRevisions)
     (front written : List (List Change)) (trees : List Tree) : Type 0 where
   pub first : List (List Change)
@@ -26,7 +26,7 @@ pub record FrontLoads (settings : Settings) (IsNew : NewProperty) (rule : EmptyR
   pub size : length others ≡ length (kept_of settings rule front).numbers
   pub images : ImagesRestrict settings IsNew (image kept) trees others
 
--- where the first revisions load and are separated, their filtered part loads, and has the restricted trees
+-- if the first revisions load and are separated, their filtered part loads, and has the restricted trees
 abbrev pub FrontRestricts : Settings → NewProperty → Type 0
 FrontRestricts settings IsNew = (rule : EmptyRule) (front rest written : List (List Change)) (trees : List Tree) →
     IsTrue (stays_numbered settings rule front)
@@ -35,12 +35,12 @@ FrontRestricts settings IsNew = (rule : EmptyRule) (front rest written : List (L
     → AreFiltered settings IsNew rule (front ++ rest) written
     → FrontLoads settings IsNew rule (kept_of settings rule (front ++ rest)) front written trees
 
--- so for each way to make new properties that keeps entries
+-- this holds for each way to make new properties that keeps entries
 abbrev pub EachFrontRestricts : Type 0
 EachFrontRestricts = (settings : Settings) (make : Property → Property) →
     KeepsEntries (IsMade make) → FrontRestricts settings (IsMade make)
 
--- the same where the changes of the first revisions are quiet, and no lost copy in them is made over something
+-- the same holds if the changes of the first revisions are quiet, and no lost copy in them is made over something
 abbrev pub QuietFrontRestricts : Settings → NewProperty → Type 0
 QuietFrontRestricts settings IsNew = (rule : EmptyRule) (front rest written : List (List Change)) (trees : List Tree) →
     IsTrue (stays_numbered settings rule front)
@@ -50,13 +50,13 @@ QuietFrontRestricts settings IsNew = (rule : EmptyRule) (front rest written : Li
     → AreFiltered settings IsNew rule (front ++ rest) written
     → FrontLoads settings IsNew rule (kept_of settings rule (front ++ rest)) front written trees
 
--- so for each way to make new properties that keeps entries
+-- this holds for each way to make new properties that keeps entries
 abbrev pub EachQuietFrontRestricts : Type 0
 EachQuietFrontRestricts = (settings : Settings) (make : Property → Property) →
     KeepsEntries (IsMade make) → QuietFrontRestricts settings (IsMade make)
 
--- where both dumps load whole, and the first revisions are quiet: up to the last one of these, the tree at the image of
--- each number is the restricted tree that the whole dump has there
+-- both dumps load entirely, and the first revisions are quiet and make no lost copy over something. Then, up to the
+-- last one of these, the tree at the image of each number is the restricted tree of the entire dump there
 abbrev pub QuietLoadsRestrict : Settings → NewProperty → Type 0
 QuietLoadsRestrict settings IsNew = (rule : EmptyRule) (front rest written : List (List Change))
     (trees others : List Tree) →
@@ -69,18 +69,18 @@ QuietLoadsRestrict settings IsNew = (rule : EmptyRule) (front rest written : Lis
     → ImagesRestrict settings IsNew (image (kept_of settings rule (front ++ rest)))
     (take (suc (length front)) trees) others
 
--- so for each way to make new properties that keeps entries
+-- this holds for each way to make new properties that keeps entries
 abbrev pub EachQuietLoadsRestrict : Type 0
 EachQuietLoadsRestrict = (settings : Settings) (make : Property → Property) →
     KeepsEntries (IsMade make) → QuietLoadsRestrict settings (IsMade make)
 
--- where more revisions load, the first ones do, and their trees stand first
+-- if more revisions load, the first ones do, and their trees come first
 abbrev pub BegunTreesStay : Type 0
 BegunTreesStay = (first : Tree) (front rest : List (List Change)) (all : List Tree) →
     loaded_over first (front ++ rest) ≡ Some all
     → (trees more : List Tree) × (loaded_over first front ≡ Some trees) × (all ≡ trees ++ more)
 
--- the image of a number of the first revisions is the same without those behind them
+-- the image of a number of the first revisions is the same without the revisions after them
 abbrev pub BegunImagesStay : Type 0
 BegunImagesStay = (settings : Settings) (rule : EmptyRule) (front rest : List (List Change)) (number : ℕ) →
     number ≤ length front

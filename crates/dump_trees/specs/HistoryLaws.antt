@@ -1,4 +1,4 @@
--- The laws of a revision and of a whole history.
+-- The laws of a revision and of an entire history.
 use Rattle.std.specs.Prelude.{◌≡◌, ℕ, List, [], ◌∷◌, length, Option, Some, slice_get, IsTrue}
 use Rattle.dump_text.specs.PropertyList.{Property}
 use Rattle.dump_rules.specs.Settings.{Settings}
@@ -9,7 +9,8 @@ use Rattle.dump_trees.specs.Restriction.{given, NewProperty, KeepsEntries, NewNu
 use Rattle.dump_trees.specs.StepLaws.{AllHaveFolders, AreRestricted, IsMade, IsRenumbered}
 use Rattle.dump_trees.specs.Revisions.{loaded_over, AreNewChanges, EmptyRule, stays_numbered, kept_of, AreFiltered, AllSeparate, AllRevisionsSeparate}
 
--- the changes of a revision: what the filter writes of them leads from the restricted tree to the restricted one
+-- what the filter writes for the changes of a revision leads from the restricted tree to the restricted one, if each
+-- change is separated
 abbrev pub RevisionRestricts : Settings → NewProperty → NewNumber → Type 0
 RevisionRestricts settings IsNew IsNumber = (history others : History) (before after restricted : Tree)
     (changes written : List Change) →
@@ -19,7 +20,7 @@ RevisionRestricts settings IsNew IsNumber = (history others : History) (before a
     → AreNewChanges settings IsNew IsNumber changes written
     → (other : Tree) × (steps others restricted written ≡ Some other) × IsRestricted settings IsNew after other
 
--- so for each way to make new properties that keeps entries, and each way to number
+-- this holds for each way to make new properties that keeps entries, and each way to number
 abbrev pub EachRevisionRestricts : Type 0
 EachRevisionRestricts = (settings : Settings) (make : Property → Property) (renumber : ℕ → ℕ) →
     KeepsEntries (IsMade make) → RevisionRestricts settings (IsMade make) (IsRenumbered renumber)
@@ -30,8 +31,8 @@ ImagesRestrict settings IsNew image_of trees others = (number : ℕ) (tree : Tre
     (new : ℕ) × (other : Tree) × (image_of number ≡ Some new) × (slice_get others new ≡ Some other)
     × IsRestricted settings IsNew tree other
 
--- the filtered dump, loaded over the given folders, has a revision for each kept one, and the tree at the image of each
--- number is the restricted tree that the whole dump has there
+-- if each change is separated, the filtered dump, loaded over the given directories, has a revision for each kept one.
+-- The tree at the image of each number is the restricted tree of the entire dump there
 abbrev pub HistoryRestricts : Settings → NewProperty → Type 0
 HistoryRestricts settings IsNew = (rule : EmptyRule) (revisions written : List (List Change)) (trees : List Tree) →
     IsTrue (stays_numbered settings rule revisions)
@@ -42,7 +43,7 @@ HistoryRestricts settings IsNew = (rule : EmptyRule) (revisions written : List (
     × (length others ≡ length (kept_of settings rule revisions).numbers)
     × ImagesRestrict settings IsNew (image (kept_of settings rule revisions)) trees others
 
--- so for each way to make new properties that keeps entries
+-- this holds for each way to make new properties that keeps entries
 abbrev pub EachHistoryRestricts : Type 0
 EachHistoryRestricts = (settings : Settings) (make : Property → Property) →
     KeepsEntries (IsMade make) → HistoryRestricts settings (IsMade make)

@@ -1,4 +1,4 @@
--- Changes that lead from one tree to another, where the filter's cut separates each.
+-- Changes that lead from one tree to another, each of which is separated.
 use Rattle.std.specs.Prelude.{◌≡◌, List, Some}
 use Rattle.dump_rules.specs.Settings.{Settings}
 use Rattle.dump_trees.specs.Trees.{Tree}

@@ -1,5 +1,5 @@
--- What stands at a path after the first changes of a dump, found without building trees: back from there to the latest
--- change that touches the path, and from a copy into its source.
+-- What exists at a path after the first changes of a dump, found without building trees: a search goes back to the
+-- latest change that touches the path, and from a copy to its source.
 use Rattle.std.specs.Prelude.{◌≡◌, ℕ, zero, suc, Bool, true, false, ◌||◌, List, [], ◌∷◌, ◌++◌, length, map, Option, Some, None, option_map, option_and_then, is_some, slice_get, nat_le, count_by, if◌then◌else◌, IsTrue}
 use Rattle.std.specs.List.{list_all}
 use Rattle.dump_trees.specs.Paths.{NodePath, below}
@@ -18,12 +18,12 @@ placed_from number [] = []
 placed_from number (changes ∷ revisions) =
     map (λ (c : Change). record { revision = number; change = c }) changes ++ placed_from (suc number) revisions
 
--- how many of the changes stand in the revisions up to this number
+-- how many of the changes are in revisions up to this number
 abbrev pub end_of : List Placed → ℕ → ℕ
 end_of placed number = count_by (λ (p : Placed). nat_le p.revision number) placed
 
--- whether a change touches the path whose rest behind the change's own path this is: it does something at this path, or
--- it deletes or copies what stands above
+-- whether a change touches the path that has this rest after the change's own path: it does something at this path, or
+-- its own path is above, and it deletes or copies there
 abbrev pub touches_rest : Option NodePath → Change → Bool
 touches_rest None c = false
 touches_rest (Some []) c = c.deletes || is_some c.made || is_some c.props || is_some c.text
@@ -38,26 +38,26 @@ abbrev pub holds_there : (Change → Bool) → Option Placed → Bool
 holds_there test None = false
 holds_there test (Some p) = test p.change
 
--- the place of the latest of the first changes, so many, of which a test holds
+-- the place of the latest of the first changes, up to this many, of which a test holds
 abbrev pub latest : (Change → Bool) → List Placed → ℕ → Option ℕ
 latest test placed zero = None
 latest test placed (suc count) =
     if holds_there test (slice_get placed count) then Some count else latest test placed count
 
--- where what a change leaves at a path comes from: nowhere, or it is a new node, or it stood there before, or it stood
--- at a path of another revision
+-- where what exists at a path after a change comes from: nothing exists, or it is a new node, or it was there before,
+-- or it was at a path of another revision
 pub data Origin : Type 0 where
   Nowhere : Origin
   New : (node : Node) → Origin
   Before : Origin
   From : (number : ℕ) → (source : NodePath) → Origin
 
--- what a change that copies nothing leaves of what stood there before
+-- what a change that makes nothing leaves of what was there before
 abbrev pub left_by : Bool → Origin
 left_by true = Origin.Nowhere
 left_by false = Origin.Before
 
--- where what stands behind the change's own path, at this rest, comes from
+-- where what exists after the change, at this rest of the change's own path, comes from
 abbrev pub origin_of : Bool → Option Made → NodePath → Origin
 origin_of deletes None rest = left_by deletes
 origin_of deletes (Some Made.NewFolder) [] = Origin.New (Node.Folder [])
@@ -76,47 +76,49 @@ abbrev pub node_with_text : Option TextChange → Option Node → Option Node
 node_with_text None node = node
 node_with_text (Some change) node = option_and_then (with_text change) node
 
--- what a change sets at this rest of a path: its properties and its text at its own path, and below that nothing
+-- the node with what a change sets at this rest of its path: its properties and its text at its own path, and below
+-- that nothing
 abbrev pub set_by : Change → NodePath → Option Node → Option Node
 set_by c [] node = node_with_text c.text (node_with_props c.props node)
 set_by c (name ∷ rest) node = node
 
--- what stands where it comes from, behind the change at this place, where this is what stood after so many changes
+-- the node of this origin, for the change at this place; a function says what existed after so many changes
 abbrev pub looked_up : (ℕ → NodePath → Option Node) → List Placed → ℕ → NodePath → Origin → Option Node
 looked_up earlier placed place path Origin.Nowhere = None
 looked_up earlier placed place path (Origin.New node) = Some node
 looked_up earlier placed place path Origin.Before = earlier place path
 looked_up earlier placed place path (Origin.From number source) = earlier (end_of placed number) source
 
--- what the change at this place leaves at the path whose rest this is
+-- what exists after the change at this place, at the path that has this rest; without a rest, what existed before
 abbrev pub left_at : (ℕ → NodePath → Option Node) → List Placed → ℕ → NodePath → Change → Option NodePath → Option Node
 left_at earlier placed place path c None = earlier place path
 left_at earlier placed place path c (Some rest) =
     set_by c rest (looked_up earlier placed place path (origin_of c.deletes c.made rest))
 
--- what the change at this place leaves at the path
+-- what exists at the path after the change at this place; nothing if there is no such change
 abbrev pub left_there : (ℕ → NodePath → Option Node) → List Placed → ℕ → NodePath → Option Placed → Option Node
 left_there earlier placed place path None = None
 left_there earlier placed place path (Some p) = left_at earlier placed place path p.change (below p.change.path path)
 
--- what the latest change that touches the path leaves there; with no such change what stood in the first tree
+-- what exists at the path after the latest change that touches it; if there is none, what exists in the first tree
 abbrev pub look_behind : (ℕ → NodePath → Option Node) → Tree → List Placed → NodePath → Option ℕ → Option Node
 look_behind earlier first placed path None = first path
 look_behind earlier first placed path (Some place) = left_there earlier placed place path (slice_get placed place)
 
--- what stands at the path after so many of the changes over a first tree, if no more than this many are followed
+-- what exists at the path after so many of the changes over a first tree, if the search makes no more than this many
+-- steps
 abbrev pub look_within : ℕ → Tree → List Placed → ℕ → NodePath → Option Node
 look_within zero first placed count path = first path
 look_within (suc more) first placed count path =
     look_behind (look_within more first placed) first placed path (latest (touches_path path) placed count)
 
--- what stands at the path after so many of the changes over a first tree. Each step goes to fewer changes, so no more
--- than these are followed
+-- what exists at the path after so many of the changes over a first tree. If copies are of earlier revisions, each step
+-- goes to fewer changes, so no more steps than changes are needed
 abbrev pub look : Tree → List Placed → ℕ → NodePath → Option Node
 look first placed count path = look_within count first placed count path
 
--- where the first revisions load, the last of which may be cut short, what is found behind their changes is what stands
--- in their last tree, whatever changes stand behind in this revision and later ones
+-- if the first revisions load, the search finds after their changes what exists in their last tree. The last of them
+-- may be cut short: the changes that follow can be of this revision and of later ones
 abbrev pub LookFinds : Type 0
 LookFinds = (first : Tree) (front : List (List Change)) (behind : List Placed) (trees : List Tree) (tree : Tree)
     (path : NodePath) →
@@ -124,7 +126,7 @@ LookFinds = (first : Tree) (front : List (List Change)) (behind : List Placed) (
     → IsTrue (list_all (λ (p : Placed). nat_le (length front) p.revision) behind)
     → look first (placed_from 1 front ++ behind) (length (placed_from 1 front)) path ≡ tree path
 
--- and at the end of each revision it is what stands in its tree
+-- and at the end of each revision it finds what exists in this revision's tree
 abbrev pub LookFindsEach : Type 0
 LookFindsEach = (first : Tree) (revisions : List (List Change)) (trees : List Tree) (number : ℕ) (tree : Tree)
     (path : NodePath) →

@@ -1,6 +1,6 @@
--- A dump that is loaded behind other revisions: svnadmin load gives its revisions higher numbers, and raises the
--- numbers of its copies by as much (load-fs-vtable.c). It raises the numbers in mergeinfo too, so it sets new
--- properties. An administrator makes the given folders in such revisions.
+-- A dump that is loaded after other revisions: svnadmin load gives its revisions higher numbers, and raises the numbers
+-- of its copies by as much (load-fs-vtable.c). It raises the numbers in mergeinfo too, so it sets new properties. An
+-- administrator creates the given directories in such revisions.
 use Rattle.std.specs.Prelude.{◌≡◌, ℕ, ◌+◌, List, [], ◌∷◌, ◌++◌, length, map, Option, Some, None, option_map, slice_get}
 use Rattle.std.specs.List.{AllZip}
 use Rattle.dump_text.specs.PropertyList.{Property}
@@ -26,14 +26,14 @@ change_behind count c = record c { made = made_behind count c.made }
 abbrev pub revisions_behind : ℕ → List (List Change) → List (List Change)
 revisions_behind count revisions = map (λ changes. map (change_behind count) changes) revisions
 
--- behind older revisions, the last of which has the first tree, a dump makes the trees that it makes in a new
--- repository whose revision 0 has this tree; and it is refused where it is refused there
+-- after older revisions, the last of which has the first tree, a dump makes the trees that it makes in a new repository
+-- whose revision 0 has this tree. It is rejected exactly if it is rejected there
 abbrev pub LoadsBehindOthers : Type 0
 LoadsBehindOthers = (older : List Tree) (first : Tree) (revisions : List (List Change)) →
     loaded (older ++ first ∷ []) first (revisions_behind (length older) revisions)
     ≡ option_map (λ trees. older ++ trees) (loaded_over first revisions)
 
--- the change that a load makes of another one behind this many revisions, where it sets new properties
+-- the change that a load makes of another one after this many revisions, if it sets new properties
 pub record IsChangeBehind (IsNew : NewProperty) (count : ℕ) (old new : Change) : Type 0 where
   pub path : new.path ≡ old.path
   pub deletes : new.deletes ≡ old.deletes
@@ -41,22 +41,22 @@ pub record IsChangeBehind (IsNew : NewProperty) (count : ℕ) (old new : Change)
   pub props : AreNewProps IsNew old.props new.props
   pub text : new.text ≡ old.text
 
--- so for the changes of each revision, in order
+-- the same for the changes of each revision, in order
 abbrev pub AreRevisionsBehind : NewProperty → ℕ → List (List Change) → List (List Change) → Type 0
 AreRevisionsBehind IsNew count revisions moved =
     AllZip (λ changes others. AllZip (IsChangeBehind IsNew count) changes others) revisions moved
 
--- the same nodes stand in both trees, but for their new properties
+-- the same nodes exist in both trees, but for their new properties
 abbrev pub AreAlike : NewProperty → Tree → Tree → Type 0
 AreAlike IsNew old new = (path : NodePath) → IsNewNode IsNew (old path) (new path)
 
--- so for the trees at each number
+-- the trees at each number are alike
 abbrev pub AllAreAlike : NewProperty → List Tree → List Tree → Type 0
 AllAreAlike IsNew trees others = (number : ℕ) (tree : Tree) → slice_get trees number ≡ Some tree →
     (other : Tree) × (slice_get others number ≡ Some other) × AreAlike IsNew tree other
 
--- behind older revisions, the last of which has the first tree, a dump makes the trees that it makes in a new
--- repository whose revision 0 has this tree, but for the new properties
+-- after older revisions, the last of which has the first tree, a dump makes the trees that it makes in a new repository
+-- whose revision 0 has this tree, but for the new properties
 abbrev pub LoadsAlike : NewProperty → Type 0
 LoadsAlike IsNew = (older : List Tree) (first : Tree) (revisions moved : List (List Change)) (trees : List Tree) →
     HasFolders first → AreAlike IsNew first first
@@ -65,6 +65,6 @@ LoadsAlike IsNew = (older : List Tree) (first : Tree) (revisions moved : List (L
     → (others : List Tree) × (loaded (older ++ first ∷ []) first moved ≡ Some (older ++ others))
     × (length others ≡ length trees) × AllAreAlike IsNew trees others
 
--- so for each way to make new properties that keeps entries
+-- this holds for each way to make new properties that keeps entries
 abbrev pub EachLoadsAlike : Type 0
 EachLoadsAlike = (make : Property → Property) → KeepsEntries (IsMade make) → LoadsAlike (IsMade make)

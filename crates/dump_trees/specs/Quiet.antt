@@ -1,5 +1,5 @@
--- Changes that give no alarm: told from their own strings and the prefixes alone, without any tree. One thing can't be
--- told so: whether a copy that loses its source is made over something.
+-- Quiet changes: their header lines, their properties and the prefixes alone show that they are separated, without any
+-- tree. One thing isn't shown so: whether a copy of a path that isn't kept is made over something.
 use Rattle.std.specs.Prelude.{◌≡◌, ℕ, Bool, true, false, not, ◌&&◌, ◌||◌, List, [], ◌∷◌, ◌++◌, drop, length, Option, Some, None, is_some, slice_get, if◌then◌else◌, IsTrue}
 use Rattle.std.specs.List.{list_all}
 use Rattle.dump_text.specs.PropertyList.{Property}
@@ -17,23 +17,23 @@ use Rattle.dump_trees.specs.Revisions.{loaded_over, EmptyRule, stays_numbered, k
 use Rattle.dump_trees.specs.StepLaws.{IsMade}
 use Rattle.dump_trees.specs.HistoryLaws.{ImagesRestrict}
 
--- the text of a prefix that lies below the path, without the path
+-- the text of a prefix that is below the path, without the path
 abbrev pub rest_of_prefix : NodePath → List ℕ → List ℕ
 rest_of_prefix path prefix = drop (length (path_text path)) (47 ∷ bare_prefix prefix)
 
--- whether a prefix lies below the one path, and the same rest below the other one is kept
+-- whether a prefix is below the one path, and the same rest below the other one is kept
 abbrev pub cuts_one : Settings → NodePath → NodePath → List ℕ → Bool
 cuts_one settings path other prefix =
     is_above path prefix && keeps_path settings (path_text other ++ rest_of_prefix path prefix)
 
--- whether no prefix cuts below the one path what is kept below the other; included prefixes cut nothing
+-- whether no prefix excludes below the one path what is kept below the other; included prefixes exclude nothing there
 abbrev pub cuts_alike : Side → Settings → NodePath → NodePath → Bool
 cuts_alike Include settings path other = true
 cuts_alike Exclude settings path other =
     list_all (λ prefix. not (cuts_one settings path other prefix)) settings.prefixes
 
--- whether a kept change gives no alarm: a copy of a kept path is cut as its source is, and one of a path that isn't
--- kept sets its properties itself
+-- whether a kept change is quiet. If it copies a kept path, no prefix excludes at the copy what is kept at the source,
+-- nor at the source what is kept at the copy. If it copies a path that isn't kept, it sets properties itself
 abbrev pub is_quiet_kept : Settings → NodePath → Option PropertyChange → Option Made → Bool
 is_quiet_kept settings path props None = true
 is_quiet_kept settings path props (Some Made.NewFolder) = true
@@ -43,21 +43,21 @@ is_quiet_kept settings path props (Some (Made.Copied number source)) =
     cuts_alike settings.side settings source path && cuts_alike settings.side settings path source
     else is_some props
 
--- whether a dropped change gives no alarm: it doesn't delete or copy as a whole what has a prefix below it
+-- whether a dropped change is quiet: it doesn't delete or copy at a path above an included prefix
 abbrev pub is_quiet_dropped : Settings → Change → Bool
 is_quiet_dropped settings c =
     not ((c.deletes || is_copied c.made) && is_above_some settings.side settings.prefixes c.path)
 
--- whether a change gives no alarm
+-- whether a change is quiet
 abbrev pub is_quiet : Settings → Change → Bool
 is_quiet settings c =
     if keeps settings c.path then is_quiet_kept settings c.path c.props c.made else is_quiet_dropped settings c
 
--- whether no change of these revisions gives an alarm
+-- whether each change of these revisions is quiet
 abbrev pub are_quiet : Settings → List (List Change) → Bool
 are_quiet settings revisions = list_all (λ changes. list_all (is_quiet settings) changes) revisions
 
--- whether a kept change copies a path that isn't kept over what stands there already, and doesn't delete it first
+-- whether a kept change copies a path that isn't kept over what exists at its path, and doesn't delete that first
 abbrev pub is_over : Settings → Tree → Change → Bool
 is_over settings before c =
     keeps settings c.path && is_lost settings c.made && not c.deletes && is_some (before c.path)
@@ -67,14 +67,14 @@ abbrev pub holds_of_some : (Tree → Bool) → Option Tree → Bool
 holds_of_some test None = true
 holds_of_some test (Some tree) = test tree
 
--- whether none of the changes of a revision does
+-- whether none of the changes of a revision does so
 abbrev pub none_is_over : Settings → History → Tree → List Change → Bool
 none_is_over settings history before [] = true
 none_is_over settings history before (c ∷ changes) =
     not (is_over settings before c)
     && holds_of_some (λ after. none_is_over settings history after changes) (step history before c)
 
--- whether none of the changes of any revision does: no copy that loses its source is made over something
+-- whether none of the changes of any revision does so: no lost copy is made over something
 abbrev pub nowhere_is_over : Settings → List Tree → Tree → List (List Change) → Bool
 nowhere_is_over settings trees youngest [] = true
 nowhere_is_over settings trees youngest (changes ∷ revisions) =
@@ -88,7 +88,7 @@ QuietSeparates = (settings : Settings) (history : History) (before after : Tree)
     IsTrue (is_quiet settings c) → is_over settings before c ≡ false → step history before c ≡ Some after
     → Separates settings history before c after
 
--- where all changes are quiet and no lost copy is made over something, all are separated
+-- if all changes are quiet and no lost copy is made over something, all are separated
 abbrev pub AllQuietSeparate : Type 0
 AllQuietSeparate = (settings : Settings) (trees : List Tree) (youngest : Tree) (revisions : List (List Change)) →
     IsTrue (are_quiet settings revisions)
@@ -96,7 +96,7 @@ AllQuietSeparate = (settings : Settings) (trees : List Tree) (youngest : Tree) (
     → AllRevisionsSeparate settings trees youngest revisions
 
 -- so the filtered dump of quiet changes, in which no lost copy is made over something, has the restricted trees of the
--- whole one; this holds for each relation of new properties that keeps entries
+-- entire dump
 abbrev pub QuietHistoryRestricts : Settings → NewProperty → Type 0
 QuietHistoryRestricts settings IsNew = (rule : EmptyRule) (revisions written : List (List Change)) (trees : List Tree)
     → IsTrue (stays_numbered settings rule revisions)
@@ -108,7 +108,7 @@ QuietHistoryRestricts settings IsNew = (rule : EmptyRule) (revisions written : L
     × (length others ≡ length (kept_of settings rule revisions).numbers)
     × ImagesRestrict settings IsNew (image (kept_of settings rule revisions)) trees others
 
--- so for each way to make new properties that keeps entries
+-- this holds for each way to make new properties that keeps entries
 abbrev pub EachQuietHistoryRestricts : Type 0
 EachQuietHistoryRestricts = (settings : Settings) (make : Property → Property) →
     KeepsEntries (IsMade make) → QuietHistoryRestricts settings (IsMade make)

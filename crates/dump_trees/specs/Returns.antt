@@ -1,5 +1,5 @@
--- Returns: the topmost rests of a copy's path at which something comes back. They are told by the excluded paths, and by
--- what exists at the source.
+-- Returns: rests of a copy's path at which something comes back; all that comes back is at or below one. They are
+-- determined by the excluded paths, and by what exists at the source.
 use Rattle.std.specs.Prelude.{◌≡◌, ℕ, Bool, true, not, ◌&&◌, List, [], ◌∷◌, ◌++◌, filter, Option, Some, None, is_some, Contains, if◌then◌else◌, IsTrue}
 use Rattle.std.specs.List.{list_all, list_any}
 use Rattle.dump_rules.specs.Settings.{Settings}
@@ -21,7 +21,7 @@ lie_apart [] = true
 lie_apart (path ∷ paths) =
     list_all (λ other. not (is_within path other) && not (is_within other path)) paths && lie_apart paths
 
--- the rest, if it has a name
+-- the rest, if there is one and it isn't empty
 abbrev pub named_rest : Option NodePath → List NodePath
 named_rest None = []
 named_rest (Some []) = []
@@ -32,20 +32,22 @@ abbrev pub rests_below : NodePath → List NodePath → List NodePath
 rests_below top [] = []
 rests_below top (path ∷ paths) = named_rest (below top path) ++ rests_below top paths
 
--- the rests from which on these paths cover what is below the top: all of it, where they cover the top
+-- the rests of the top at which these paths cover something: the empty rest, if they cover the top itself; otherwise
+-- the rests of those below it
 abbrev pub rests_covered : NodePath → List NodePath → List NodePath
 rests_covered top paths = if is_covered paths top then [] ∷ [] else rests_below top paths
 
 -- returns
 
--- the rests from which on a copy of the source to the path returns what is excluded: something exists there at the source,
--- in its tree, and at the path it isn't excluded
+-- the rests at which a copy of the source to the path returns what is excluded. In the source's tree something exists
+-- at this rest of the source, and this rest of the path isn't excluded
 abbrev pub returns : List NodePath → Tree → NodePath → NodePath → List NodePath
 returns excluded old path source =
     filter (λ rest. is_some (old (source ++ rest)) && not (is_covered excluded (path ++ rest)))
     (rests_covered source excluded)
 
--- a copy of what these paths exclude: its source stands in this tree, as trees of a repository are
+-- the change copies the source, and these paths are excluded. The tree is that of the copy's revision, and has
+-- directories and names as each tree of a repository has
 pub record IsCopyOver (settings : Settings) (excluded : List NodePath) (history : History) (old : Tree) (c : Change)
     (source : NodePath) : Type 0 where
   pub number : ℕ
@@ -57,7 +59,8 @@ pub record IsCopyOver (settings : Settings) (excluded : List NodePath) (history 
   pub named : HasNames old
   pub path : IsTrue (has_node_names c.path)
 
--- what comes back is at a return or below one; so nothing does exactly where there is none
+-- what comes back is at a return or below one, and at each return something comes back. So nothing comes back exactly
+-- if there is no return
 abbrev pub ReturnsTellAll : Type 0
 ReturnsTellAll = (settings : Settings) (excluded : List NodePath) (history : History) (old : Tree) (c : Change)
     (source : NodePath) → IsCopyOver settings excluded history old c source

@@ -1,4 +1,4 @@
--- Revisions: how a dump whose revisions are numbered 0, 1, 2 and so on is loaded, and what the filter leaves of it.
+-- Revisions: how a dump whose revisions are numbered 0, 1, 2 and so on is loaded, and what the filter writes for it.
 -- Revision 0 has no changes, so the lists begin with the changes of revision 1.
 use Rattle.std.specs.Prelude.{◌≡◌, ℕ, suc, Bool, true, not, ◌&&◌, ◌||◌, List, [], ◌∷◌, ◌++◌, Option, Some, option_and_then, slice_get, if◌then◌else◌, MatchBool, ⊤}
 use Rattle.std.specs.List.{list_all, list_any}
@@ -10,18 +10,18 @@ use Rattle.dump_trees.specs.Changes.{is_copied, Change, History, step, steps}
 use Rattle.dump_trees.specs.Restriction.{NewProperty, NewNumber, IsNewChange}
 use Rattle.dump_trees.specs.Separation.{Separates}
 
--- the trees of a repository with these trees, of which the youngest is this, once more revisions are loaded; none where
--- one is refused
+-- the trees of a repository after these revisions are loaded into it; none if one is rejected. Before that it has these
+-- trees, and this one is the youngest
 abbrev pub loaded : List Tree → Tree → List (List Change) → Option (List Tree)
 loaded trees youngest [] = Some trees
 loaded trees youngest (changes ∷ revisions) =
     option_and_then (λ tree. loaded (trees ++ tree ∷ []) tree revisions) (steps (slice_get trees) youngest changes)
 
--- the trees of a repository whose revision 0 has this tree, once these revisions are loaded
+-- the trees of a repository whose revision 0 has this tree, after these revisions are loaded
 abbrev pub loaded_over : Tree → List (List Change) → Option (List Tree)
 loaded_over first revisions = loaded (first ∷ []) first revisions
 
--- what the filter writes of the changes of a revision: of each kept one its new form, and of the others nothing
+-- what the filter writes for the changes of a revision: for each kept one its new form, and for the others nothing
 abbrev pub AreNewChanges : Settings → NewProperty → NewNumber → List Change → List Change → Type 0
 AreNewChanges settings IsNew IsNumber [] written = written ≡ []
 AreNewChanges settings IsNew IsNumber (c ∷ changes) written =
@@ -38,28 +38,28 @@ EmptyRule = List Change → Bool
 abbrev pub keeps_revision : Settings → EmptyRule → List Change → Bool
 keeps_revision settings rule changes = list_any (λ (c : Change). keeps settings c.path) changes || rule changes
 
--- whether a kept change of a revision names a revision by its number, by this test of what does
+-- whether a kept change of a revision names a revision by its number; the test says which changes do
 abbrev pub names_kept : Settings → (Change → Bool) → List Change → Bool
 names_kept settings names changes = list_any (λ (c : Change). keeps settings c.path && names c) changes
 
--- whether no kept change of these revisions does
+-- whether no kept change of these revisions does so
 abbrev pub names_none : Settings → (Change → Bool) → List (List Change) → Bool
 names_none settings names revisions = list_all (λ changes. not (names_kept settings names changes)) revisions
 
--- whether none of those behind the first dropped one does
+-- whether no kept change of the revisions after the first dropped one does so
 abbrev pub names_none_behind : Settings → EmptyRule → (Change → Bool) → List (List Change) → Bool
 names_none_behind settings rule names [] = true
 names_none_behind settings rule names (changes ∷ revisions) =
     if keeps_revision settings rule changes then names_none_behind settings rule names revisions
     else names_none settings names revisions
 
--- whether the number of each kept copy finds its revision where revisions numbered 0, 1, 2 and so on are filtered: they
--- are renumbered, or behind the first dropped one no kept change is a copy
+-- whether each kept copy still names the revision of its source once the dump is filtered: revisions are renumbered, or
+-- no kept change after the first dropped revision is a copy
 abbrev pub stays_numbered : Settings → EmptyRule → List (List Change) → Bool
 stays_numbered settings rule revisions =
     settings.renumber || names_none_behind settings rule (λ (c : Change). is_copied c.made) revisions
 
--- what the filter writes of the revisions: of each kept one the changes that it writes
+-- what the filter writes for the revisions: for each kept one its written changes, and for the others nothing
 abbrev pub AreNewRevisions : Settings → NewProperty → NewNumber → EmptyRule → List (List Change) → List (List Change)
     → Type 0
 AreNewRevisions settings IsNew IsNumber rule [] written = written ≡ []
@@ -69,7 +69,7 @@ AreNewRevisions settings IsNew IsNumber rule (changes ∷ revisions) written =
     × AreNewChanges settings IsNew IsNumber changes new × AreNewRevisions settings IsNew IsNumber rule revisions rest)
     (AreNewRevisions settings IsNew IsNumber rule revisions written)
 
--- the numbers of the kept ones of these revisions, the first of which has this number
+-- the numbers of the kept revisions among these; the first of these, kept or not, has this number
 abbrev pub kept_from : Settings → EmptyRule → ℕ → List (List Change) → List ℕ
 kept_from settings rule number [] = []
 kept_from settings rule number (changes ∷ revisions) =
@@ -80,22 +80,22 @@ kept_from settings rule number (changes ∷ revisions) =
 abbrev pub kept_of : Settings → EmptyRule → List (List Change) → KeptRevisions
 kept_of settings rule revisions = record { first = 0; numbers = 0 ∷ kept_from settings rule 1 revisions }
 
--- the number that is written for a copy's revision: its image, or itself where revisions aren't renumbered
+-- the number that is written for a copy's revision: its image, or itself if revisions aren't renumbered
 abbrev pub IsWrittenNumber : Settings → KeptRevisions → NewNumber
 IsWrittenNumber settings kept = λ old new. MatchBool settings.renumber (image kept old ≡ Some new) (new ≡ old)
 
--- what the filter writes of a whole dump, whose numbers it renumbers by the dump's own kept revisions
+-- what the filter writes for an entire dump: it renumbers by the kept revisions of this dump
 abbrev pub AreFiltered : Settings → NewProperty → EmptyRule → List (List Change) → List (List Change) → Type 0
 AreFiltered settings IsNew rule revisions written =
     AreNewRevisions settings IsNew (IsWrittenNumber settings (kept_of settings rule revisions)) rule revisions written
 
--- each of the changes of a revision is separated
+-- each change of a revision is separated
 abbrev pub AllSeparate : Settings → History → Tree → List Change → Type 0
 AllSeparate settings history before [] = ⊤
 AllSeparate settings history before (c ∷ changes) = (after : Tree) → step history before c ≡ Some after →
     Separates settings history before c after × AllSeparate settings history after changes
 
--- each change of each revision is
+-- each change of each revision is separated
 abbrev pub AllRevisionsSeparate : Settings → List Tree → Tree → List (List Change) → Type 0
 AllRevisionsSeparate settings trees youngest [] = ⊤
 AllRevisionsSeparate settings trees youngest (changes ∷ revisions) =

@@ -1,5 +1,5 @@
--- Siblings: what is excluded so that the included paths are left, and the directories above them. They stand in those
--- directories, beside what leads to an included path.
+-- Siblings: what is excluded so that the included paths and the directories above them are kept. Siblings are in those
+-- directories, and aren't in the cut.
 use Rattle.std.specs.Prelude.{◌≡◌, ℕ, Bool, true, false, not, ◌&&◌, ◌||◌, List, [], ◌∷◌, map, Option, Some, None, is_some, slice_get, bytes_eq, Contains, IsTrue, IsFalse}
 use Rattle.std.specs.List.{list_all, list_any}
 use Rattle.dump_rules.specs.declared.options.Side.TheVariants.{Exclude}
@@ -12,26 +12,26 @@ use Rattle.dump_trees.specs.Revisions.{loaded_over}
 
 -- the cut
 
--- whether the path is the top or lies below it
+-- whether the path is the top or below it
 abbrev pub is_within : NodePath → NodePath → Bool
 is_within top path = is_some (below top path)
 
--- whether there is a rest of a path, and it has a name
+-- whether there is a rest of a path, and it isn't empty
 abbrev pub has_name_behind : Option NodePath → Bool
 has_name_behind None = false
 has_name_behind (Some []) = false
 has_name_behind (Some (name ∷ rest)) = true
 
--- whether an included path lies below this one and isn't this one, or this is the root
+-- whether the path is above an included path, or is the root
 abbrev pub is_above_included : List NodePath → NodePath → Bool
 is_above_included included path =
     is_root path || list_any (λ top. has_name_behind (below path top)) included
 
--- whether the path is in the cut: at or below an included path, or above one. The root always is
+-- whether the path is in the cut: it is at, below or above an included path. The root always is
 abbrev pub is_in_cut : List NodePath → NodePath → Bool
 is_in_cut included path = list_any (λ top. is_within top path) included || is_above_included included path
 
--- whether the directory that a path stands in lies above an included path
+-- whether there is a parent, and it is above an included path or is the root
 abbrev pub is_parent_above : List NodePath → Option NodePath → Bool
 is_parent_above included None = false
 is_parent_above included (Some parent) = is_above_included included parent
@@ -42,26 +42,27 @@ is_parent_above included (Some parent) = is_above_included included parent
 abbrev pub is_node_name : List ℕ → Bool
 is_node_name name = is_name name && not (bytes_eq name (46 ∷ []))
 
--- whether each name of the path can be one
+-- whether each name of the path can be the name of a node
 abbrev pub has_node_names : NodePath → Bool
 has_node_names path = list_all is_node_name path
 
--- each path at which something stands has such names alone
+-- each path at which something exists has such names alone
 abbrev pub HasNames : Tree → Type 0
 HasNames tree = (path : NodePath) → IsTrue (is_some (tree path)) → IsTrue (has_node_names path)
 
--- whether the path of each of these changes has
+-- whether the path of each of these changes has such names alone
 abbrev pub have_node_names : List (List Change) → Bool
 have_node_names revisions = list_all (λ changes. list_all (λ (c : Change). has_node_names c.path) changes) revisions
 
 -- siblings
 
--- whether the path is a sibling: it stands in a directory above an included path, and isn't in the cut
+-- whether the path is a sibling: it has names of nodes, its parent is above an included path or is the root, and it
+-- isn't in the cut
 abbrev pub is_sibling : List NodePath → NodePath → Bool
 is_sibling included path =
     has_node_names path && is_parent_above included (parent_of path) && not (is_in_cut included path)
 
--- these are siblings, and each sibling at which something stands in one of the trees is one of them. More of them do no
+-- these are siblings, and each sibling at which something exists in one of the trees is among them. More siblings do no
 -- harm
 pub record AreSiblings (included : List NodePath) (trees : List Tree) (siblings : List NodePath) : Type 0 where
   pub each : IsTrue (list_all (is_sibling included) siblings)
@@ -73,7 +74,7 @@ pub record ExcludesPaths (settings : Settings) (paths : List NodePath) : Type 0 
   pub side : settings.side ≡ Exclude
   pub prefixes : settings.prefixes ≡ map path_text paths
 
--- where the siblings are excluded, what stands in one of the trees is kept exactly where it is in the cut
+-- if the siblings are excluded, what exists in one of the trees is kept exactly if it is in the cut
 abbrev pub SiblingsLeaveCut : Type 0
 SiblingsLeaveCut = (settings : Settings) (included siblings : List NodePath) (trees : List Tree) (number : ℕ)
     (tree : Tree) (path : NodePath) →
@@ -83,22 +84,22 @@ SiblingsLeaveCut = (settings : Settings) (included siblings : List NodePath) (tr
 
 -- named paths
 
--- these are siblings, and each of the named paths that isn't in the cut is one of them or lies below one. A dump names
--- paths at which nothing ever stands too, as merge sources do that are gone
+-- these are siblings, and each named path that isn't in the cut is one of them or below one, if it has names of nodes.
+-- A dump also names paths at which nothing ever exists, for example as merge sources
 pub record CoverNamed (included named siblings : List NodePath) : Type 0 where
   pub each : IsTrue (list_all (is_sibling included) siblings)
   pub all : (path : NodePath) → Contains named path → IsTrue (has_node_names path)
       → IsFalse (is_in_cut included path) → IsTrue (list_any (λ top. is_within top path) siblings)
 
--- where the siblings are excluded, a named path is kept exactly where it is in the cut, whether something stands there
--- or not
+-- if the siblings are excluded, a named path with names of nodes is kept exactly if it is in the cut, whether something
+-- exists there or not
 abbrev pub NamedPathsLeaveCut : Type 0
 NamedPathsLeaveCut = (settings : Settings) (included named siblings : List NodePath) (path : NodePath) →
     ExcludesPaths settings siblings → CoverNamed included named siblings
     → Contains named path → IsTrue (has_node_names path)
     → keeps settings path ≡ is_in_cut included path
 
--- so is a text in short form that names such a path, as a merge source does
+-- the same holds for a text whose path is canonical and named, as the path of a merge source is
 abbrev pub NamedTextsLeaveCut : Type 0
 NamedTextsLeaveCut = (settings : Settings) (included named siblings : List NodePath) (text : List ℕ) →
     ExcludesPaths settings siblings → CoverNamed included named siblings
@@ -107,17 +108,17 @@ NamedTextsLeaveCut = (settings : Settings) (included named siblings : List NodeP
 
 -- the trees of a repository
 
--- each node but the root stands in folders alone, in each tree that is loaded
+-- in each tree that is loaded, if a node exists at a path, a directory exists at each path above it
 abbrev pub LoadedTreesHaveFolders : Type 0
 LoadedTreesHaveFolders = (revisions : List (List Change)) (trees : List Tree) (number : ℕ) (tree : Tree) →
     loaded_over root_alone revisions ≡ Some trees → slice_get trees number ≡ Some tree → HasFolders tree
 
--- each path at which something stands has names of nodes, where the paths of the changes have
+-- in each tree that is loaded, paths at which something exists have names of nodes, if the paths of the changes have
 abbrev pub LoadedTreesHaveNames : Type 0
 LoadedTreesHaveNames = (revisions : List (List Change)) (trees : List Tree) (number : ℕ) (tree : Tree) →
     loaded_over root_alone revisions ≡ Some trees → IsTrue (have_node_names revisions)
     → slice_get trees number ≡ Some tree → HasNames tree
 
--- a path in short form has names of nodes
+-- a canonical path has names of nodes
 abbrev pub ShortPathsHaveNames : Type 0
 ShortPathsHaveNames = (text : List ℕ) → IsTrue (is_short text) → IsTrue (has_node_names (path_of text))

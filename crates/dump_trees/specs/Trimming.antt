@@ -1,5 +1,5 @@
--- Copies that are trimmed: where a copy would take to excluded paths what is kept at its source, it stays as it is, and
--- what it takes there is deleted behind it. So nothing has to be written anew.
+-- Copies that are trimmed. A copy can take to excluded paths what is kept at its source. It is written as it is, and
+-- deletions follow it and remove what it takes there. So nothing has to be written as an addition.
 use Rattle.std.specs.Prelude.{◌≡◌, ◌⊎◌, ℕ, not, List, [], ◌∷◌, ◌++◌, length, Some, is_some, slice_get, if◌then◌else◌, MatchBool, IsTrue, IsFalse}
 use Rattle.std.specs.List.{AllZip, list_all, list_any}
 use Rattle.dump_text.specs.PropertyList.{Property}
@@ -18,9 +18,8 @@ use Rattle.dump_trees.specs.ExpansionCases.{deletions, none_is_below}
 use Rattle.dump_trees.specs.Branches.{Branch, is_distinct, HasBranch}
 use Rattle.dump_trees.specs.ComingBack.{ComesBack, NothingComesBack, coming_back}
 
--- these are the topmost paths, given from the source on, that a copy of the source takes from kept paths to ones that
--- aren't kept: at each something stands, none of them is one before it or lies below one, and each path that the copy
--- takes so is one of them or lies below one
+-- these rests cover what a copy of the source takes from kept paths to ones that aren't kept. At each something exists,
+-- and none of them is at or below one before it. Each rest that the copy takes so is at or below one of them
 pub record CoverTaken (settings : Settings) (old : Tree) (path source : NodePath) (rests : List NodePath)
     : Type 0 where
   pub kept : IsTrue (list_all (λ rest. keeps settings (source ++ rest)) rests)
@@ -30,25 +29,27 @@ pub record CoverTaken (settings : Settings) (old : Tree) (path source : NodePath
   pub all : (rest : NodePath) → IsTrue (is_some (old (source ++ rest))) → IsTrue (keeps settings (source ++ rest))
       → IsFalse (keeps settings (path ++ rest)) → IsTrue (list_any (λ other. is_some (below other rest)) rests)
 
--- of these paths those that aren't at or below one of the seen ones, or one before them
+-- those of these paths that aren't at or below one of the seen ones, or one before them
 abbrev pub topmost_from : List NodePath → List NodePath → List NodePath
 topmost_from seen [] = []
 topmost_from seen (path ∷ paths) =
     if list_any (λ other. is_some (below other path)) seen then topmost_from seen paths
     else path ∷ topmost_from (path ∷ seen) paths
 
--- the topmost paths that a copy of this branch takes so: those of what would come back by a copy the other way
+-- the topmost rests that a copy of this branch takes so: the topmost of those that would come back by a copy the other
+-- way
 abbrev pub taken_tops : Settings → NodePath → NodePath → Branch → List NodePath
 taken_tops settings path source branch = topmost_from [] (coming_back settings source path branch)
 
--- they cover what it takes
+-- they cover what the copy takes so
 abbrev pub TakenTopsCover : Type 0
 TakenTopsCover = (settings : Settings) (old : Tree) (path source : NodePath) (branch : Branch) →
     HasBranch old source branch → IsTrue (is_distinct branch)
     → CoverTaken settings old path source (taken_tops settings path source branch)
 
--- where prefixes are excluded, and by a kept copy nothing comes back: what the filter writes of it, and then the
--- deletions of what it takes to paths that aren't kept, lead from the restricted tree to the restricted one
+-- if prefixes are excluded, and nothing comes back by a kept copy: what the filter writes for it, and then the
+-- deletions, lead from the restricted tree to the restricted one. The deletions are of what the copy takes to paths
+-- that aren't kept
 abbrev pub TrimmedCopyRestricts : Settings → NewProperty → NewNumber → Type 0
 TrimmedCopyRestricts settings IsNew IsNumber =
     (history others : History) (before after restricted old : Tree) (c new : Change) (number : ℕ) (source : NodePath)
@@ -62,22 +63,22 @@ TrimmedCopyRestricts settings IsNew IsNumber =
     → (other : Tree) × (steps others restricted (new ∷ deletions c.path rests) ≡ Some other)
     × IsRestricted settings IsNew after other
 
--- so for each way to make new properties that keeps entries, and each way to number
+-- this holds for each way to make new properties that keeps entries, and each way to number
 abbrev pub EachTrimmedCopyRestricts : Type 0
 EachTrimmedCopyRestricts = (settings : Settings) (make : Property → Property) (renumber : ℕ → ℕ) →
     KeepsEntries (IsMade make) → TrimmedCopyRestricts settings (IsMade make) (IsRenumbered renumber)
 
 -- revisions
 
--- how a change is written, where these paths, given from its own on, are deleted behind it: none, where it is separated;
--- or what it takes to paths that aren't kept, where it is a copy by which nothing comes back
+-- these rests of a change's path are deleted after it: none, if the change is separated; or if it is a copy by which
+-- nothing comes back, what it takes to paths that aren't kept
 abbrev pub IsTrimmed : Settings → History → Tree → Change → List NodePath → Type 0
 IsTrimmed settings history before c rests =
     ((rests ≡ []) × ((after : Tree) → step history before c ≡ Some after → Separates settings history before c after))
     ⊎ ((number : ℕ) × (source : NodePath) × (old : Tree) × (c.made ≡ Some (Made.Copied number source))
     × (history number ≡ Some old) × (¬ ComesBack settings history c) × CoverTaken settings old c.path source rests)
 
--- what is written of the changes of a revision: of each kept one its new form, and the deletions behind it; of the
+-- what is written for the changes of a revision: for each kept one its new form, and the deletions after it; for the
 -- others nothing
 abbrev pub AreTrimmedChanges : Settings → NewProperty → NewNumber → History → Tree → List Change → List Change → Type 0
 AreTrimmedChanges settings IsNew IsNumber history before [] written = written ≡ []
@@ -91,7 +92,7 @@ AreTrimmedChanges settings IsNew IsNumber history before (c ∷ changes) written
     ((after : Tree) → step history before c ≡ Some after
     → AreTrimmedChanges settings IsNew IsNumber history after changes written)
 
--- where prefixes are excluded, this leads from the restricted tree to the restricted one
+-- if prefixes are excluded, this leads from the restricted tree to the restricted one
 abbrev pub TrimmedRevisionRestricts : Settings → NewProperty → NewNumber → Type 0
 TrimmedRevisionRestricts settings IsNew IsNumber = (history others : History) (before after restricted : Tree)
     (changes written : List Change) →
@@ -102,18 +103,18 @@ TrimmedRevisionRestricts settings IsNew IsNumber = (history others : History) (b
     → AreTrimmedChanges settings IsNew IsNumber history before changes written
     → (other : Tree) × (steps others restricted written ≡ Some other) × IsRestricted settings IsNew after other
 
--- so for each way to make new properties that keeps entries, and each way to number
+-- this holds for each way to make new properties that keeps entries, and each way to number
 abbrev pub EachTrimmedRevisionRestricts : Type 0
 EachTrimmedRevisionRestricts = (settings : Settings) (make : Property → Property) (renumber : ℕ → ℕ) →
     KeepsEntries (IsMade make) → TrimmedRevisionRestricts settings (IsMade make) (IsRenumbered renumber)
 
--- histories whose revisions all stay, each under its own number
+-- histories whose revisions are all written, each with its own number
 
--- a copy names its own revision again
+-- the number of a copy's revision stays as it is
 abbrev pub IsSameNumber : NewNumber
 IsSameNumber old new = new ≡ old
 
--- so much is written of each revision
+-- what is written for the revisions: for each one its changes, trimmed
 abbrev pub AreTrimmedRevisions : Settings → NewProperty → List Tree → Tree → List (List Change) → List (List Change)
     → Type 0
 AreTrimmedRevisions settings IsNew trees youngest [] written = written ≡ []
@@ -123,7 +124,7 @@ AreTrimmedRevisions settings IsNew trees youngest (changes ∷ revisions) writte
     × ((tree : Tree) → steps (slice_get trees) youngest changes ≡ Some tree
     → AreTrimmedRevisions settings IsNew (trees ++ tree ∷ []) tree revisions rest)
 
--- then what is written loads into a new repository, and its trees are the restricted ones
+-- if prefixes are excluded, what is written loads into a new repository, and its trees are the restricted ones
 abbrev pub TrimmedHistoryRestricts : Settings → NewProperty → Type 0
 TrimmedHistoryRestricts settings IsNew = (revisions written : List (List Change)) (trees : List Tree) →
     settings.side ≡ Exclude
@@ -132,12 +133,13 @@ TrimmedHistoryRestricts settings IsNew = (revisions written : List (List Change)
     → (others : List Tree) × (loaded_over root_alone written ≡ Some others)
     × AllZip (IsRestricted settings IsNew) trees others
 
--- so for each way to make new properties that keeps entries
+-- this holds for each way to make new properties that keeps entries
 abbrev pub EachTrimmedHistoryRestricts : Type 0
 EachTrimmedHistoryRestricts = (settings : Settings) (make : Property → Property) →
     KeepsEntries (IsMade make) → TrimmedHistoryRestricts settings (IsMade make)
 
--- each history that loads, and in which nothing comes back, can be written so: nothing of it has to be written anew
+-- if prefixes are excluded, each history that loads, and in which nothing comes back, can be written so: nothing of it
+-- has to be written as an addition
 abbrev pub EachHistoryTrims : Type 0
 EachHistoryTrims = (settings : Settings) (make : Property → Property) (revisions : List (List Change))
     (trees : List Tree) →
@@ -148,7 +150,7 @@ EachHistoryTrims = (settings : Settings) (make : Property → Property) (revisio
 
 -- histories that are renumbered
 
--- what is written of the revisions, where a rule tells which of those without a kept change stay: of each one that stays
+-- what is written for the revisions, if a rule says which of those without a kept change are kept: for each kept one
 -- its changes, trimmed
 abbrev pub AreTrimmedFiltered : Settings → NewProperty → NewNumber → EmptyRule → List Tree → Tree → List (List Change)
     → List (List Change) → Type 0
@@ -162,7 +164,8 @@ AreTrimmedFiltered settings IsNew IsNumber rule trees youngest (changes ∷ revi
     ((tree : Tree) → steps (slice_get trees) youngest changes ≡ Some tree
     → AreTrimmedFiltered settings IsNew IsNumber rule (trees ++ tree ∷ []) tree revisions written)
 
--- then what is written loads into a new repository, and has the restricted trees at the images of the numbers
+-- if prefixes are excluded and revisions are renumbered, what is written loads into a new repository, and has the
+-- restricted trees at the images of the numbers
 abbrev pub TrimmedFilteredRestricts : Settings → NewProperty → Type 0
 TrimmedFilteredRestricts settings IsNew = (rule : EmptyRule) (revisions written : List (List Change))
     (trees : List Tree) →
@@ -174,7 +177,7 @@ TrimmedFilteredRestricts settings IsNew = (rule : EmptyRule) (revisions written 
     × (length others ≡ length (kept_of settings rule revisions).numbers)
     × ImagesRestrict settings IsNew (image (kept_of settings rule revisions)) trees others
 
--- so for each way to make new properties that keeps entries
+-- this holds for each way to make new properties that keeps entries
 abbrev pub EachTrimmedFilteredRestricts : Type 0
 EachTrimmedFilteredRestricts = (settings : Settings) (make : Property → Property) →
     KeepsEntries (IsMade make) → TrimmedFilteredRestricts settings (IsMade make)

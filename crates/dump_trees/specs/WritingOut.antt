@@ -1,4 +1,4 @@
--- Changes that write a branch out: they make it at a path where nothing stands, and the filter's cut separates each.
+-- Changes that write a branch out: they make it at a path at which nothing exists, and each of them is separated.
 use Rattle.std.specs.Prelude.{◌≡◌, ℕ, false, List, [], ◌∷◌, ◌++◌, Some, None, IsTrue, IsFalse, ◌⊎◌}
 use Rattle.dump_text.specs.PropertyList.{Property}
 use Rattle.dump_rules.specs.Settings.{Settings}
@@ -17,7 +17,7 @@ copy_of number source path = record {
   text = None;
 }
 
--- a change that makes a folder with the properties of these entries
+-- a change that makes a directory with the properties of these entries
 abbrev pub folder_of : NodePath → List Property → Change
 folder_of path entries = record {
   path = path;
@@ -38,19 +38,19 @@ file_of path entries text = record {
 }
 
 -- a branch that may be copied from this source to this path: both are kept, and each node of the branch is kept there
--- where it is kept here
+-- exactly if it is kept here
 abbrev pub IsCutAlike : Settings → NodePath → NodePath → Branch → Type 0
 IsCutAlike settings path source branch =
     IsTrue (keeps settings path) × IsTrue (keeps settings source)
     × ((rest : NodePath) (node : Node) → tree_of branch rest ≡ Some node
     → keeps settings (path ++ rest) ≡ keeps settings (source ++ rest))
 
--- a branch none of whose nodes is kept at this path
+-- a branch of which no node is kept at this path
 abbrev pub IsLeftOut : Settings → NodePath → Branch → Type 0
 IsLeftOut settings path branch =
     (rest : NodePath) (node : Node) → tree_of branch rest ≡ Some node → IsFalse (keeps settings (path ++ rest))
 
--- these changes are one copy of a place where the branch stands, which the cut separates
+-- these changes are one copy of a place at which the branch exists, and the copy is separated
 pub record IsCopied (settings : Settings) (history : History) (path : NodePath) (branch : Branch)
     (changes : List Change) : Type 0 where
   pub number : ℕ
@@ -63,7 +63,7 @@ pub record IsCopied (settings : Settings) (history : History) (path : NodePath) 
 
 abbrev mutual
   -- these changes write the branch out at the path: they copy it as a whole, or they make its root, with entries that
-  -- make just its properties, and then write out what stands in it
+  -- make exactly its properties, and then write out what is in it
   pub WritesOut : Settings → History → NodePath → Branch → List Change → Type 0
   WritesOut settings history path (Branch.Folder props inside) changes =
       IsCopied settings history path (Branch.Folder props inside) changes
@@ -73,7 +73,7 @@ abbrev mutual
       IsCopied settings history path (Branch.File props text) changes
       ⊎ ((entries : List Property) × (changes ≡ file_of path entries text ∷ []) × (edited_with entries [] ≡ props))
 
-  -- these changes write the branches out in the folder at the path, one after the other
+  -- these changes write the branches out in the directory at the path, one after the other
   pub WritesInside : Settings → History → NodePath → Branches → List Change → Type 0
   WritesInside settings history path Branches.NoMore changes = changes ≡ []
   WritesInside settings history path (Branches.Named name branch others) changes =

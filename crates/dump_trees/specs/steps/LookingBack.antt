@@ -1,10 +1,10 @@
--- Copies of earlier revisions: where a dump has no others, each step that looks back goes to fewer changes.
+-- Copies of earlier revisions: if a dump has no others, each step that looks back goes to fewer changes.
 use Rattle.std.specs.Prelude.{ℕ, Bool, true, List, Option, Some, None, nat_lt}
 use Rattle.std.specs.List.{list_all}
 use Rattle.dump_trees.specs.Changes.{Made}
 use Rattle.dump_trees.specs.Looking.{Placed}
 
--- whether something that is copied is one of a revision before this one
+-- whether something that is copied is of a revision before this one
 abbrev pub is_of_before : ℕ → Option Made → Bool
 is_of_before revision None = true
 is_of_before revision (Some Made.NewFolder) = true
