@@ -179,7 +179,7 @@ def listed(files):
 
 def page(groups, found):
     first, *others = groups
-    text = f"\nThe statement of {first.names} needs {first.count} definitions, all that stand in {len(first.files)} files:\n\n"
+    text = f"\nThe statement of {first.names} needs {first.count} definitions, all of those in {len(first.files)} files:\n\n"
     text += f"{listed(first.files)}\n"
     for it in others:
         needs = ", and the laws, need" if it.has_laws else " needs"
