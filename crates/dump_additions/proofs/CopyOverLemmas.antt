@@ -17,6 +17,7 @@ use Rattle.dump_trees.specs.Revisions.{loaded}
 use Rattle.dump_trees.specs.Trees.{HasFolders, Tree}
 use Rattle.dump_trees.proofs.changes.TreeLemmas.{below_found, below_rest}
 use Rattle.dump_trees.proofs.cuts.CheckedSteps.{change_leaves, kind_of_left, kind_of_made, kind_some, left_of, made_over, step_is_allowed}
+use Rattle.dump_trees.proofs.cuts.EverSiblings.{file_some}
 use Rattle.dump_trees.proofs.cuts.CoveredPaths.{exists_above, same_behind}
 use Rattle.dump_trees.proofs.cuts.FollowLemmas.{then_some}
 use Rattle.dump_trees.proofs.quiet.LeavingLemmas.{step_leaves}
@@ -55,10 +56,6 @@ none_then path (c ∷ xs) ys changed one two =
 
 -- what is changed exists
 
-file_some : (o : Option Kind) → is_file o ≡ true → is_some o ≡ true
-file_some None is = is
-file_some (Some kind) is = refl
-
 held : (b x : Bool) → b ≡ true → (not b || x) ≡ true → x ≡ true
 held true x holds is = is
 held false x holds is = absurd (let bad : false ≡ true = holds in cc)
@@ -78,7 +75,7 @@ allowed_exists c kinds changed was allowed is =
     cases : (made : Option Made) (deletes : Bool) → making_allowed made (kind_left deletes kinds.here) kinds ≡ true
         → (not (sets_props c.props) || is_some (kind_made made (kind_left deletes kinds.here) kinds.source)) ≡ true
         → (not (is_some c.text) || is_file (kind_made made (kind_left deletes kinds.here) kinds.source)) ≡ true
-        → (is_some made || (not deletes && (changed || (sets_props c.props || is_some c.text)))) ≡ true
+        → (is_some made || (not deletes && (changed || (deletes || is_some made || sets_props c.props || is_some c.text)))) ≡ true
         → is_some (kind_made made (kind_left deletes kinds.here) kinds.source) ≡ true
     cases None true makes props text is = absurd (let bad : false ≡ true = is in cc)
     cases None false makes props text is =

@@ -3,19 +3,15 @@
 use Rattle.std.specs.Prelude.{Bool, false, not, ◌&&◌, ◌||◌, List, [], ◌∷◌, Option, Some, None, is_some}
 use Rattle.std.specs.List.{list_any}
 use Rattle.dump_trees.specs.Changes.{Change, is_copied}
-use Rattle.dump_trees.specs.LoadCheck.{sets_props}
+use Rattle.dump_trees.specs.EverSiblings.{does_something}
 use Rattle.dump_trees.specs.Paths.{NodePath, below}
 
--- whether the change sets properties or a text; an edit without entries sets none
-abbrev pub sets_something : Change → Bool
-sets_something c = sets_props c.props || is_some c.text
-
 -- whether the revision has changed what exists at a path, after this change, if the path has this rest below the change's own; and
--- it had or hadn't before the change. A change that makes nothing and sets nothing changes nothing. What was deleted, or came with
+-- it had or hadn't before the change. A change that does nothing changes nothing. What was deleted, or came with
 -- a copy of a directory above, is not changed; and below what is made new nothing exists
 abbrev pub is_changed_after : Option NodePath → Change → Bool → Bool
 is_changed_after None c changed = changed
-is_changed_after (Some []) c changed = is_some c.made || (not c.deletes && (changed || sets_something c))
+is_changed_after (Some []) c changed = is_some c.made || (not c.deletes && (changed || does_something c))
 is_changed_after (Some (name ∷ rest)) c changed = changed && not (c.deletes || is_some c.made)
 
 -- whether the change copies to a path that has this rest below its own, without deleting first what exists there

@@ -4,13 +4,14 @@ use Rattle.std.proofs.Common.{Bool, false, List, [], ◌∷◌, ◌++◌, Option
 use Rattle.std.specs.List.{All}
 use Rattle.std.proofs.lemmas.Bool.{MatchBool-at_true}
 use Rattle.std.proofs.lemmas.List.Elements.{All-head, All-tail}
+use Rattle.dump_trees.specs.EverSiblings.{does_something}
 use Rattle.dump_trees.specs.LoadCheck.{sets_props}
 use Rattle.dump_trees.specs.Paths.{below}
 use Rattle.dump_trees.specs.Restriction.{AreNewProps}
 use Rattle.dump_trees.specs.ExpansionCases.{deletion_of}
 use Rattle.dump_trees.proofs.paths.KeptPaths.{keeps_nothing}
 use Rattle.dump_trees.proofs.changes.TreeLemmas.{below_rest}
-use Rattle.dump_history.specs.CopiesOver.{copies_over_changed, copies_to, is_changed_after, sets_something, some_copies_over}
+use Rattle.dump_history.specs.CopiesOver.{copies_over_changed, copies_to, is_changed_after, some_copies_over}
 use Rattle.dump_history.specs.TrimmedDumps.{changes_behind, revisions_with}
 use Rattle.dump_history.specs.WrittenNodes.{WrittenNode, written_change}
 
@@ -19,17 +20,17 @@ still_changed : (o : Option NodePath) (c : Change) (fewer more : Bool) → (fewe
     → is_changed_after o c fewer ≡ true → is_changed_after o c more ≡ true
 still_changed None c fewer more less is = less is
 still_changed (Some []) c fewer more less is =
-    elim (or_cases (is_some c.made) (not c.deletes && (fewer || sets_something c)) is) [
+    elim (or_cases (is_some c.made) (not c.deletes && (fewer || does_something c)) is) [
       | inl made ↦ or_left (is_some c.made) _ made
       | inr other ↦
-          let parts = and_parts (not c.deletes) (fewer || sets_something c) other in
-          or_right (is_some c.made) _ (and_from (not c.deletes) (more || sets_something c) parts.0 (either parts.1))
+          let parts = and_parts (not c.deletes) (fewer || does_something c) other in
+          or_right (is_some c.made) _ (and_from (not c.deletes) (more || does_something c) parts.0 (either parts.1))
     ]
   where
-    either : (fewer || sets_something c) ≡ true → (more || sets_something c) ≡ true
-    either one = elim (or_cases fewer (sets_something c) one) [
-      | inl before ↦ or_left more (sets_something c) (less before)
-      | inr sets ↦ or_right more (sets_something c) sets
+    either : (fewer || does_something c) ≡ true → (more || does_something c) ≡ true
+    either one = elim (or_cases fewer (does_something c) one) [
+      | inl before ↦ or_left more (does_something c) (less before)
+      | inr sets ↦ or_right more (does_something c) sets
     ]
 still_changed (Some (name ∷ rest)) c fewer more less is =
     let parts = and_parts fewer (not (c.deletes || is_some c.made)) is in
@@ -79,16 +80,19 @@ props_alike IsNew (Some (PropertyChange.Edited [])) (Some (PropertyChange.Edited
 props_alike IsNew (Some (PropertyChange.Edited (o ∷ old))) (Some (PropertyChange.Edited [])) is = absurd is
 props_alike IsNew (Some (PropertyChange.Edited (o ∷ old))) (Some (PropertyChange.Edited (n ∷ new))) is = refl
 
+-- whether the path of a change is changed after it, by what the change does
+abbrev is_changed : Bool → Bool → Bool → Bool → Bool → Bool
+is_changed changed made deletes props text = made || (not deletes && (changed || (deletes || made || props || text)))
+
 module _ (settings : Settings) (IsNew : NewProperty) (IsNumber : NewNumber) where
   changed_alike : (c d : Change) → IsNewChange settings IsNew IsNumber c d → (o : Option NodePath) (changed : Bool)
       → is_changed_after o d changed ≡ is_changed_after o c changed
   changed_alike c d new None changed = refl
   changed_alike c d new (Some []) changed =
-      ap (λ made. made || (not d.deletes && (changed || sets_something d))) (both_made settings IsNumber _ c.made d.made new.made)
-      ∙ (ap (λ deletes. is_some c.made || (not deletes && (changed || sets_something d))) new.deletes
-      ∙ (ap (λ props. is_some c.made || (not c.deletes && (changed || (props || is_some d.text))))
-      (props_alike IsNew c.props d.props new.props)
-      ∙ ap (λ text. is_some c.made || (not c.deletes && (changed || (sets_props c.props || is_some text)))) new.text))
+      ap (λ made. is_changed changed made d.deletes (sets_props d.props) (is_some d.text)) (both_made settings IsNumber _ c.made d.made new.made)
+      ∙ (ap (λ deletes. is_changed changed (is_some c.made) deletes (sets_props d.props) (is_some d.text)) new.deletes
+      ∙ (ap (λ props. is_changed changed (is_some c.made) c.deletes props (is_some d.text)) (props_alike IsNew c.props d.props new.props)
+      ∙ ap (λ text. is_changed changed (is_some c.made) c.deletes (sets_props c.props) (is_some text)) new.text))
   changed_alike c d new (Some (name ∷ rest)) changed =
       ap (λ made. changed && not (d.deletes || made)) (both_made settings IsNumber _ c.made d.made new.made)
       ∙ ap (λ deletes. changed && not (deletes || is_some c.made)) new.deletes

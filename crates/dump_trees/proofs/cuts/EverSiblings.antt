@@ -96,7 +96,7 @@ ever_siblings_are_found included siblings revisions each all front changes more 
 
 -- what changes do
 
-file_some : (kind : Option Kind) → is_file kind ≡ true → is_some kind ≡ true
+pub file_some : (kind : Option Kind) → is_file kind ≡ true → is_some kind ≡ true
 file_some None is = is
 file_some (Some kind) is = refl
 
