@@ -144,6 +144,18 @@ def others(program):
     return rows + [(name, [name]) for name in ("md5sum", "sha1sum", "cat")]
 
 
+def shortened(words):
+    return textwrap.shorten(words, 26, placeholder=" ..")
+
+
+def stock_rows(calls):
+    """Subversion's svndumpfilter with the subcommands and the prefixes of these calls, if it is installed."""
+    stock = shutil.which("svndumpfilter")
+    plain = [[word for word in words.split() if not word.startswith("--")] for words in calls if "--after" not in words]
+    unlike = dict.fromkeys(" ".join(words) for words in plain)
+    return [(f"stock, {shortened(words)}", [stock, *words.split()]) for words in unlike] if stock else []
+
+
 def head(title, arguments, path):
     """The lines above the rows of a dump."""
     print(f"\n{title}: {os.path.getsize(path) / 1e6:.0f} MB (make_dump.py {' '.join(arguments)})")
@@ -198,8 +210,8 @@ def main():
             head(title, arguments, path)
             rows = [("filter, include /", [program, "include", "/"])]
             cut = programs()["cut"].built
-            rows += [(f"cut, {textwrap.shorten(words, 30, placeholder=' ..')}", [cut, *words.split()]) for words in calls]
-            show_rows(rows, path)
+            rows += [(f"cut, {shortened(words)}", [cut, *words.split()]) for words in calls]
+            show_rows(rows + stock_rows(calls), path)
     return 0 if same else 1
 
 
