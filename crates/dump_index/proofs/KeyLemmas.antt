@@ -1,14 +1,15 @@
 -- The keys of changes: how they are listed, and how the latest change at a path is found among them.
-use Rattle.std.proofs.Common.{◌≡◌, ℕ, zero, suc, ◌+◌, ◌<◌, ◌≤◌, Bool, true, false, ◌&&◌, cond, List, [], ◌∷◌, ◌++◌, length, map, filter, get_or, Option, Some, None, option_map, nat_eq, nat_lt, bytes_eq, lit<, Contains, refl, sym, ap, subst, ◌∙◌, arith, inl, inr}
+use Rattle.std.proofs.Common.{◌≡◌, All, ap₂, ℕ, zero, suc, ◌+◌, ◌<◌, ◌≤◌, Bool, true, false, cond, List, [], ◌∷◌, ◌++◌, length, map, filter, get_or, Option, Some, None, option_map, nat_eq, nat_lt, bytes_eq, lit<, Contains, refl, sym, ap, subst, ◌∙◌, arith, inl, inr}
 use Rattle.std.specs.Prelude.{slice_get}
 use Rattle.std.proofs.lemmas.Bool.{cases_lt, and_parts, and_from, false_from_ne_true, lt-ltb}
 use Rattle.std.proofs.lemmas.Bool.Decides.{nat_tests}
 use Rattle.std.proofs.lemmas.List.{get_or-map, length-map}
-use Rattle.std.proofs.lemmas.List.Elements.{Contains-append_left, Contains-append_cases}
+use Rattle.std.proofs.lemmas.List.Elements.{All-get_or, Contains-append_left, Contains-append_right, Contains-append_cases}
+use Rattle.std.proofs.lemmas.List.Kept.{IsSortedBy-filter}
 use Rattle.std.proofs.lemmas.List.Sorted.{sorted_far, ranks_by, searchable_from_sorted, IsPermutation-map, IsPermutation-sym, Contains-permutation}
 use Rattle.std.proofs.lemmas.Slice.Eq.{bytes_eq-Decides}
 use Rattle.std.proofs.lemmas.Map.Text.{is_eq-slice_cmp}
-use Rattle.std.specs.List.Sorted.{IsPartitionPoint, IsPartitionedBy, IsPermutation}
+use Rattle.std.specs.List.Sorted.{IsPartitionPoint, IsPartitionedBy, IsPermutation, IsSortedBy}
 use Rattle.std.specs.Cmp.{IsTotalOrder, nat_cmp_total, then_total, on_total, tied_itself}
 use Rattle.std.specs.Cmp.Lexicographic.{slice_cmp, nat_list_cmp_total}
 use Rattle.std.specs.Ordering.{ordering_then, ordering_index, is_lt, is_eq, nat_cmp}
@@ -19,7 +20,7 @@ use Rattle.dump_index.specs.declared.change.NodeChange.{NodeChange}
 use Rattle.dump_index.specs.declared.order.Key.{Key}
 use Rattle.dump_index.specs.declared.order.Effect.{Effect}
 use Rattle.dump_index.specs.declared.order.Effect.TheVariants.{Any}
-use Rattle.dump_index.specs.steps.Keys.{PathKey, key_of, key_cmp, is_key_before, IsSortedKeys, has_effect, has_effect_there, has_effect_at, has_effect_here, is_of_effect, is_chosen, latest_place, HasKeys}
+use Rattle.dump_index.specs.steps.Keys.{AreFirstPlaces, IsKeyIn, PathKey, key_of, place_of, IsOrder, path_there, key_in, keys_in, key_cmp, is_key_before, IsSortedKeys, has_effect, has_effect_there, has_effect_at, has_effect_here, is_of_effect, latest_place, HasKeys}
 use Rattle.dump_index.proofs.PlaceLemmas.{latest_is, latest_none}
 
 -- the element of a list
@@ -50,80 +51,111 @@ pub listed_at : (changes : List NodeChange) (place : ℕ) (d : NodeChange) → p
     → slice_get (map listed_of changes) place ≡ Some (listed_of (get_or changes place d))
 listed_at changes place d low = get-map listed_of changes place ∙ ap (option_map listed_of) (get-low changes place d low)
 
+pub listed_there : (listed : List Listed) (place : ℕ) → place < length listed → (l : Listed) × (slice_get listed place ≡ Some l)
+listed_there [] place low = absurd (omega arith)
+listed_there (l ∷ listed) zero low = (l, refl)
+listed_there (l ∷ listed) (suc place) low = listed_there listed place (omega arith)
+
 abbrev pub key_at : Listed → ℕ → PathKey
 key_at l place = (l.path, place)
 
--- the keys are those of the changes of this effect before a place
-pub record HasBelow (effect : Effect) (listed : List Listed) (keys : List PathKey) (bound : ℕ) : Type 0 where
-  pub has : (path : List ℕ) (place : ℕ) → place < bound → has_effect_at effect listed path place ≡ true
-      → Contains keys (path, place)
-  pub only : (path : List ℕ) (place : ℕ) → Contains keys (path, place) → has_effect_at effect listed path place ≡ true
+-- a place at which something is
+inside_of : (listed : List Listed) (place : ℕ) (l : Listed) → slice_get listed place ≡ Some l → place < length listed
+inside_of [] place l at = absurd (let bad : None ≡ Some l = at in cc)
+inside_of (x ∷ listed) zero l at = omega arith
+inside_of (x ∷ listed) (suc place) l at = let low = inside_of listed place l at in omega arith
 
-pub none_listed : (effect : Effect) (listed : List Listed) → HasBelow effect listed [] 0
-none_listed effect listed = record {
-  has = λ path place low is. absurd (omega arith);
-  only = λ path place some. absurd (let few = some.1 in omega arith);
+-- ---- places
+
+pub places_none : AreFirstPlaces 0 []
+places_none = record {
+  has = λ place low. absurd (omega arith);
+  only = λ place some. absurd (let few = some.1 in omega arith);
 }
 
-module _ (effect : Effect) (listed : List Listed) (keys : List PathKey) (place : ℕ) (l : Listed)
-    (at : slice_get listed place ≡ Some l) (below : HasBelow effect listed keys place) where
-  here : (path : List ℕ) → has_effect_at effect listed path place ≡ (has_effect effect l && bytes_eq l.path path)
-  here path = ap (has_effect_there effect path) at
-
-  pub keys_same : has_effect effect l ≡ false → HasBelow effect listed keys (place + 1)
-  keys_same isnt = record {
-    has = λ path n low is.
-        elim (cases_lt n place) [
-          | inl less ↦ below.has path n less is
-          | inr more ↦
-              let same : n ≡ place = omega arith in
-              absurd (let bad : false ≡ true = sym (ap (λ b. b && bytes_eq l.path path) isnt) ∙ sym (here path)
-              ∙ ap (has_effect_at effect listed path) (sym same) ∙ is in cc)
-        ];
-    only = below.only;
-  }
-
-  pub keys_more : has_effect effect l ≡ true → HasBelow effect listed (keys ++ key_at l place ∷ []) (place + 1)
-  keys_more is = record {
-    has = λ path n low there.
-        elim (cases_lt n place) [
-          | inl less ↦ Contains-append_left keys (key_at l place ∷ []) (path, n) (below.has path n less there)
-          | inr more ↦
-              let same : n ≡ place = omega arith in
-              let both = and_parts (has_effect effect l) (bytes_eq l.path path)
-              (sym (here path) ∙ ap (has_effect_at effect listed path) (sym same) ∙ there) in
-              let path_same : l.path ≡ path = (bytes_eq-Decides l.path path).0 both.1 in
-              let last : PathKey = (l.path, place) in
-              let its : PathKey = (path, n) in
-              let key_same : last ≡ its = λ i. (path_same i, sym same i) in
-              subst (λ (key : PathKey). Contains (keys ++ last ∷ []) key) key_same (contains_last keys last)
-        ];
-    only = λ path n some.
-        elim (Contains-append_cases keys (key_at l place ∷ []) (path, n) some) [
-          | inl front ↦ below.only path n front
-          | inr last ↦ its path n last
-        ];
-  }
-    where
-      its : (path : List ℕ) (n : ℕ) → Contains (key_at l place ∷ []) (path, n) → has_effect_at effect listed path n ≡ true
-      its path n (zero, low, same) =
-          let place_same : place ≡ n = ap (λ (key : PathKey). key.1) same in
-          let path_same : l.path ≡ path = ap (λ (key : PathKey). key.0) same in
-          ap (has_effect_at effect listed path) (sym place_same) ∙ here path
-          ∙ and_from (has_effect effect l) (bytes_eq l.path path) is ((bytes_eq-Decides l.path path).1 path_same)
-      its path n (suc k, low, same) = absurd (omega arith)
-
-pub all_listed : (effect : Effect) (listed : List Listed) (keys : List PathKey) (bound : ℕ) → length listed ≤ bound
-    → HasBelow effect listed keys bound → HasKeys effect listed keys
-all_listed effect listed keys bound all below = record {
-  has = λ path place is.
-      elim (cases_lt place bound) [
-        | inl less ↦ below.has path place less is
-        | inr more ↦
-            absurd (let bad : false ≡ true = sym (ap (has_effect_there effect path) (get-high listed place (omega arith))) ∙ is in cc)
+pub places_more : (count : ℕ) (places : List ℕ) → AreFirstPlaces count places → AreFirstPlaces (count + 1) (places ++ count ∷ [])
+places_more count places are = record {
+  has = λ place low.
+      elim (cases_lt place count) [
+        | inl before ↦ Contains-append_left places (count ∷ []) place (are.has place before)
+        | inr after ↦
+            let same : count ≡ place = omega arith in
+            Contains-append_right places (count ∷ []) place (0, lit< tt, same)
       ];
-  only = below.only;
+  only = λ place some.
+      elim (Contains-append_cases places (count ∷ []) place some) [
+        | inl front ↦ let low = are.only place front in omega arith
+        | inr back ↦ its place back
+      ];
 }
+  where
+    its : (place : ℕ) → Contains (count ∷ []) place → place < count + 1
+    its place (zero, low, same) = let here : count ≡ place = same in omega arith
+    its place (suc k, low, same) = absurd (omega arith)
+
+pub places_moved : (count : ℕ) (places moved : List ℕ) → IsPermutation places moved → AreFirstPlaces count places
+    → AreFirstPlaces count moved
+places_moved count places moved others are =
+    let back : IsPermutation moved places = IsPermutation-sym places moved others in
+    record {
+      has = λ place low. Contains-permutation places moved place others (are.has place low);
+      only = λ place some. are.only place (Contains-permutation moved places place back some);
+    }
+
+-- the places of sorted keys
+pub sorted_places : (listed : List Listed) (keys : List Key) → All (IsKeyIn listed) keys
+    → IsSortedBy (λ a b. is_key_before (key_of a) (key_of b)) keys → IsSortedKeys listed (map place_of keys)
+sorted_places listed [] are up k d low inside = absurd (omega arith)
+sorted_places listed (first ∷ keys) are up k d low inside =
+    let all : List Key = first ∷ keys in
+    let next : k + 1 < length all = omega (arith, length-map all place_of) in
+    ap₂ is_key_before (its (k + 1) next) (its k (omega arith)) ∙ up k first low next
+  where
+    its : (n : ℕ) → n < length (first ∷ keys)
+        → key_in listed (get_or (map place_of (first ∷ keys)) n d) ≡ key_of (get_or (first ∷ keys) n first)
+    its n less =
+        let key : Key = get_or (first ∷ keys) n first in
+        ap (key_in listed) (get_or-map place_of (first ∷ keys) n first d less)
+        ∙ ap (λ (text : List ℕ). (text, key.place)) (sym (All-get_or (IsKeyIn listed) (first ∷ keys) n first less are))
+
+-- all places are those of all changes
+pub all_keys : (listed : List Listed) (places : List ℕ) → AreFirstPlaces (length listed) places
+    → HasKeys Any listed (keys_in listed places)
+all_keys listed places are = record {
+  has = λ path place is. here path place (slice_get listed place) refl is;
+  only = λ path place some. its path place some;
+}
+  where
+    in_keys : (place : ℕ) → Contains places place → Contains (keys_in listed places) (key_in listed place)
+    in_keys place some = (
+      some.0,
+      omega (arith, length-map places (key_in listed), some.1),
+      get_or-map (key_in listed) places some.0 place (key_in listed place) some.1 ∙ ap (key_in listed) some.2,
+    )
+
+    here : (path : List ℕ) (place : ℕ) (o : Option Listed) → slice_get listed place ≡ o → has_effect_there Any path o ≡ true
+        → Contains (keys_in listed places) (path, place)
+    here path place None at is = absurd (let bad : false ≡ true = is in cc)
+    here path place (Some l) at is =
+        let low : place < length listed = inside_of listed place l at in
+        let text : l.path ≡ path = (bytes_eq-Decides l.path path).0 is in
+        subst (λ (text : List ℕ). Contains (keys_in listed places) (text, place)) (ap path_there at ∙ text)
+        (in_keys place (are.has place low))
+
+    its : (path : List ℕ) (place : ℕ) → Contains (keys_in listed places) (path, place) → has_effect_at Any listed path place ≡ true
+    its path place some =
+        let i = some.0 in
+        let inside : i < length places = subst (λ (n : ℕ). i < n) (length-map places (key_in listed)) some.1 in
+        let p = get_or places i place in
+        let key : key_in listed p ≡ (path, place) =
+        sym (get_or-map (key_in listed) places i place (path, place) inside) ∙ some.2 in
+        let same : p ≡ place = ap (λ (k : PathKey). k.1) key in
+        let text : path_there (slice_get listed place) ≡ path =
+        ap (λ n. path_there (slice_get listed n)) (sym same) ∙ ap (λ (k : PathKey). k.0) key in
+        let low = are.only place (i, inside, same) in
+        let there = listed_there listed place low in
+        let own : there.0.path ≡ path = ap path_there (sym there.1) ∙ text in
+        ap (has_effect_there Any path) there.1 ∙ (bytes_eq-Decides there.0.path path).1 own
 
 -- ---- finding
 
@@ -174,29 +206,31 @@ first_less Less low = refl
 first_less Equal low = let bad : 1 ≤ 0 = low in absurd (omega arith)
 first_less Greater low = let bad : 2 ≤ 0 = low in absurd (omega arith)
 
-pub keys_parted : (keys : List Key) (goal : PathKey) → IsSortedKeys keys
-    → IsPartitionedBy (λ key. is_key_before (key_of key) goal) keys
-keys_parted keys goal up i j d low inside is =
-    let index : ordering_index (key_cmp (key_of (get_or keys i d)) goal) ≤ ordering_index (key_cmp (key_of (get_or keys j d)) goal)
-    = searchable_from_sorted keys_total key_of keys goal up i j d low inside in
-    let least : ordering_index (key_cmp (key_of (get_or keys j d)) goal) ≡ 0 = less_first _ is in
+pub keys_parted : (listed : List Listed) (keys : List ℕ) (goal : PathKey) → IsSortedKeys listed keys
+    → IsPartitionedBy (λ key. is_key_before (key_in listed key) goal) keys
+keys_parted listed keys goal up i j d low inside is =
+    let index : ordering_index (key_cmp (key_in listed (get_or keys i d)) goal)
+    ≤ ordering_index (key_cmp (key_in listed (get_or keys j d)) goal)
+    = searchable_from_sorted keys_total (key_in listed) keys goal up i j d low inside in
+    let least : ordering_index (key_cmp (key_in listed (get_or keys j d)) goal) ≡ 0 = less_first _ is in
     first_less _ (omega arith)
 
-abbrev pub IsPointOf : List Key → PathKey → ℕ → Type 0
-IsPointOf keys goal point =
-    IsPartitionPoint (λ key. is_key_before (key_of key) goal ≡ true) (λ key. is_key_before (key_of key) goal ≡ false) keys point
+abbrev pub IsPointOf : List Listed → List ℕ → PathKey → ℕ → Type 0
+IsPointOf listed keys goal point =
+    IsPartitionPoint (λ key. is_key_before (key_in listed key) goal ≡ true)
+    (λ key. is_key_before (key_in listed key) goal ≡ false) keys point
 
-module _ (keys : List Key) (up : IsSortedKeys keys) (path : List ℕ) (count point : ℕ)
-    (parted : IsPointOf keys (path, count) point)
-    (test : ℕ → Bool) (has : (place : ℕ) → test place ≡ true → Contains (map key_of keys) (path, place))
-    (only : (place : ℕ) → Contains (map key_of keys) (path, place) → test place ≡ true) where
-  found_before : (place : ℕ) (d : Key) → place < count → test place ≡ true
-      → (i : ℕ) × (i < point) × (key_of (get_or keys i d) ≡ (path, place))
+module _ (listed : List Listed) (keys : List ℕ) (up : IsSortedKeys listed keys) (path : List ℕ) (count point : ℕ)
+    (parted : IsPointOf listed keys (path, count) point)
+    (test : ℕ → Bool) (has : (place : ℕ) → test place ≡ true → Contains (keys_in listed keys) (path, place))
+    (only : (place : ℕ) → Contains (keys_in listed keys) (path, place) → test place ≡ true) where
+  found_before : (place : ℕ) (d : ℕ) → place < count → test place ≡ true
+      → (i : ℕ) × (i < point) × ((key_in listed) (get_or keys i d) ≡ (path, place))
   found_before place d low is =
       let some = has place is in
       let i = some.0 in
-      let inside : i < length keys = subst (λ (n : ℕ). i < n) (length-map keys key_of) some.1 in
-      let its : key_of (get_or keys i d) ≡ (path, place) = sym (get_or-map key_of keys i d (path, place) inside) ∙ some.2 in
+      let inside : i < length keys = subst (λ (n : ℕ). i < n) (length-map keys (key_in listed)) some.1 in
+      let its : (key_in listed) (get_or keys i d) ≡ (path, place) = sym (get_or-map (key_in listed) keys i d (path, place) inside) ∙ some.2 in
       elim (cases_lt i point) [
         | inl less ↦ (i, less, its)
         | inr more ↦
@@ -204,97 +238,97 @@ module _ (keys : List Key) (up : IsSortedKeys keys) (path : List ℕ) (count poi
             ∙ ap (λ key. is_key_before key (path, count)) (sym its) ∙ parted.1 i d more inside in cc)
       ]
 
-  pub found_none : point ≡ 0 → Key → latest_place test count ≡ None
+  pub found_none : point ≡ 0 → ℕ → latest_place test count ≡ None
   found_none first d = latest_none test count (λ place low. false_from_ne_true (test place) (λ is.
       let found = found_before place d low is in
       let inside = found.1 in
       omega arith))
 
-  module _ (last : ℕ) (key : Key) (behind : last + 1 ≡ point) (bound : point ≤ length keys)
+  module _ (last : ℕ) (key : ℕ) (behind : last + 1 ≡ point) (bound : point ≤ length keys)
       (at : key ≡ get_or keys last key) where
-    not_before : (place : ℕ) → place < count → test place ≡ true → is_key_before (key_of key) (path, place) ≡ false
+    not_before : (place : ℕ) → place < count → test place ≡ true → is_key_before ((key_in listed) key) (path, place) ≡ false
     not_before place low is =
         let found = found_before place key low is in
         let inside = found.1 in
-        ap (λ k. is_key_before (key_of k) (path, place)) at
-        ∙ ap (λ k. is_key_before (key_of (get_or keys last key)) k) (sym found.2)
-        ∙ sorted_far (λ a b. is_key_before (key_of a) (key_of b)) (ranks_by keys_total key_of) keys up found.0 last key
+        ap (λ k. is_key_before ((key_in listed) k) (path, place)) at
+        ∙ ap (λ k. is_key_before ((key_in listed) (get_or keys last key)) k) (sym found.2)
+        ∙ sorted_far (λ a b. is_key_before ((key_in listed) a) ((key_in listed) b)) (ranks_by keys_total (key_in listed)) keys up found.0 last key
         (omega arith) (omega arith)
 
-    is_before_count : is_key_before (key_of key) (path, count) ≡ true
-    is_before_count = ap (λ k. is_key_before (key_of k) (path, count)) at ∙ parted.0 last key (omega arith) (omega arith)
+    is_before_count : is_key_before ((key_in listed) key) (path, count) ≡ true
+    is_before_count = ap (λ k. is_key_before ((key_in listed) k) (path, count)) at ∙ parted.0 last key (omega arith) (omega arith)
 
-    pub found_other : bytes_eq key.path.now path ≡ false → latest_place test count ≡ None
+    pub found_other : bytes_eq (path_there (slice_get listed key)) path ≡ false → latest_place test count ≡ None
     found_other other = latest_none test count (λ place low. false_from_ne_true (test place) (λ is.
-        let same = squeezed (slice_cmp nat_cmp key.path.now path) (nat_cmp key.place place) (nat_cmp key.place count)
+        let same = squeezed (slice_cmp nat_cmp (path_there (slice_get listed key)) path) (nat_cmp key place) (nat_cmp key count)
         (not_before place low is) is_before_count in
-        let bad : true ≡ false = sym same ∙ is_eq-slice_cmp key.path.now path ∙ other in absurd (cc)))
+        let bad : true ≡ false = sym same ∙ is_eq-slice_cmp (path_there (slice_get listed key)) path ∙ other in absurd (cc)))
 
-    pub found_here : bytes_eq key.path.now path ≡ true → latest_place test count ≡ Some key.place
+    pub found_here : bytes_eq (path_there (slice_get listed key)) path ≡ true → latest_place test count ≡ Some key
     found_here same_text =
-        let same : key.path.now ≡ path = (bytes_eq-Decides key.path.now path).0 same_text in
-        let its : key_of key ≡ (path, key.place) = ap (λ text. (text, key.place)) same in
-        let inside : last < length (map key_of keys) = omega (arith, length-map keys key_of) in
+        let same : (path_there (slice_get listed key)) ≡ path = (bytes_eq-Decides (path_there (slice_get listed key)) path).0 same_text in
+        let its : (key_in listed) key ≡ (path, key) = ap (λ text. (text, key)) same in
+        let inside : last < length (keys_in listed keys) = omega (arith, length-map keys (key_in listed)) in
         let within : last < length keys = omega arith in
-        let there : Contains (map key_of keys) (path, key.place) = (
+        let there : Contains (keys_in listed keys) (path, key) = (
           last,
           inside,
-          get_or-map key_of keys last key (path, key.place) within ∙ ap key_of (sym at) ∙ its,
+          get_or-map (key_in listed) keys last key (path, key) within ∙ ap (key_in listed) (sym at) ∙ its,
         ) in
-        let early : key.place < count = later_place key.place count (ap is_lt (sym (same_path path key.place count))
+        let early : key < count = later_place key count (ap is_lt (sym (same_path path key count))
         ∙ ap (λ k. is_key_before k (path, count)) (sym its) ∙ is_before_count) in
-        latest_is test count key.place early (only key.place there)
+        latest_is test count key early (only key there)
         (λ place above low. false_from_ne_true (test place) (λ is.
-        let bad : true ≡ false = sym (before_later path key.place place above)
+        let bad : true ≡ false = sym (before_later path key place above)
         ∙ ap (λ k. is_key_before k (path, place)) (sym its) ∙ not_before place low is in absurd (cc)))
 
 -- keys in another order
-pub keys_moved : (effect : Effect) (listed : List Listed) (keys moved : List Key) → IsPermutation keys moved
-    → HasKeys effect listed (map key_of keys) → HasKeys effect listed (map key_of moved)
+pub keys_moved : (effect : Effect) (listed : List Listed) (keys moved : List ℕ) → IsPermutation keys moved
+    → HasKeys effect listed (keys_in listed keys) → HasKeys effect listed (keys_in listed moved)
 keys_moved effect listed keys moved others all =
-    let both : IsPermutation (map key_of keys) (map key_of moved) = IsPermutation-map key_of keys moved others in
-    let back : IsPermutation (map key_of moved) (map key_of keys) = IsPermutation-sym (map key_of keys) (map key_of moved) both in
+    let both : IsPermutation (keys_in listed keys) (keys_in listed moved) = IsPermutation-map (key_in listed) keys moved others in
+    let back : IsPermutation (keys_in listed moved) (keys_in listed keys) = IsPermutation-sym (keys_in listed keys) (keys_in listed moved) both in
     record {
       has = λ path place is.
-          Contains-permutation (map key_of keys) (map key_of moved) (path, place) both (all.has path place is);
+          Contains-permutation (keys_in listed keys) (keys_in listed moved) (path, place) both (all.has path place is);
       only = λ path place some.
-          all.only path place (Contains-permutation (map key_of moved) (map key_of keys) (path, place) back some);
+          all.only path place (Contains-permutation (keys_in listed moved) (keys_in listed keys) (path, place) back some);
     }
 
 -- those of all keys whose changes have an effect
 module _ (effect : Effect) (listed : List Listed) where
-  abbrev these : List Key → List Key
-  these keys = filter (is_chosen effect listed) keys
+  abbrev these : List ℕ → List ℕ
+  these keys = filter (has_effect_here effect listed) keys
 
-  chosen : (keys : List Key) (path : List ℕ) (place : ℕ) → Contains (map key_of keys) (path, place)
-      → has_effect_here effect listed place ≡ true → Contains (map key_of (these keys)) (path, place)
+  chosen : (keys : List ℕ) (path : List ℕ) (place : ℕ) → Contains (keys_in listed keys) (path, place)
+      → has_effect_here effect listed place ≡ true → Contains (keys_in listed (these keys)) (path, place)
   chosen [] path place (i, low, same) is = absurd (omega arith)
   chosen (key ∷ keys) path place (zero, low, same) is =
-      let here : key.place ≡ place = ap (λ (k : PathKey). k.1) same in
-      let yes : is_chosen effect listed key ≡ true = ap (has_effect_here effect listed) here ∙ is in
-      subst (λ b. Contains (map key_of (cond b (key ∷ these keys) (these keys))) (path, place))
+      let here : key ≡ place = ap (λ (k : PathKey). k.1) same in
+      let yes : has_effect_here effect listed key ≡ true = ap (has_effect_here effect listed) here ∙ is in
+      subst (λ b. Contains (keys_in listed (cond b (key ∷ these keys) (these keys))) (path, place))
       (sym yes) (0, omega arith, same)
   chosen (key ∷ keys) path place (suc i, low, same) is =
-      behind (is_chosen effect listed key) (chosen keys path place (i, omega arith, same) is)
+      behind (has_effect_here effect listed key) (chosen keys path place (i, omega arith, same) is)
     where
-      behind : (b : Bool) → Contains (map key_of (these keys)) (path, place)
-          → Contains (map key_of (cond b (key ∷ these keys) (these keys))) (path, place)
+      behind : (b : Bool) → Contains (keys_in listed (these keys)) (path, place)
+          → Contains (keys_in listed (cond b (key ∷ these keys) (these keys))) (path, place)
       behind true some = (suc some.0, omega (arith, some.1), some.2)
       behind false some = some
 
-  of_all : (keys : List Key) (path : List ℕ) (place : ℕ) → Contains (map key_of (these keys)) (path, place)
-      → Contains (map key_of keys) (path, place) × (has_effect_here effect listed place ≡ true)
+  of_all : (keys : List ℕ) (path : List ℕ) (place : ℕ) → Contains (keys_in listed (these keys)) (path, place)
+      → Contains (keys_in listed keys) (path, place) × (has_effect_here effect listed place ≡ true)
   of_all [] path place (i, low, same) = absurd (omega arith)
-  of_all (key ∷ keys) path place some = cases (is_chosen effect listed key) refl (of_all keys path place) some
+  of_all (key ∷ keys) path place some = cases (has_effect_here effect listed key) refl (of_all keys path place) some
     where
-      IsThere : List Key → Type 0
-      IsThere others = Contains (map key_of others) (path, place) × (has_effect_here effect listed place ≡ true)
+      IsThere : List ℕ → Type 0
+      IsThere others = Contains (keys_in listed others) (path, place) × (has_effect_here effect listed place ≡ true)
 
       further : IsThere keys → IsThere (key ∷ keys)
       further its = let found = its.0 in ((suc found.0, omega (arith, found.1), found.2), its.1)
 
-      cases : (b : Bool) → is_chosen effect listed key ≡ b → (Contains (map key_of (these keys)) (path, place) → IsThere keys)
-          → Contains (map key_of (cond b (key ∷ these keys) (these keys))) (path, place)
+      cases : (b : Bool) → has_effect_here effect listed key ≡ b → (Contains (keys_in listed (these keys)) (path, place) → IsThere keys)
+          → Contains (keys_in listed (cond b (key ∷ these keys) (these keys))) (path, place)
           → IsThere (key ∷ keys)
       cases false is rest more = further (rest more)
       cases true is rest (zero, low, same) = (
@@ -313,8 +347,8 @@ module _ (effect : Effect) (listed : List Listed) where
   at_both None path is there = absurd (let bad : false ≡ true = is in cc)
   at_both (Some l) path is there = and_from (has_effect effect l) (bytes_eq l.path path) is there
 
-  pub keys_chosen : (keys : List Key) → HasKeys Any listed (map key_of keys)
-      → HasKeys effect listed (map key_of (these keys))
+  keys_chosen : (keys : List ℕ) → HasKeys Any listed (keys_in listed keys)
+      → HasKeys effect listed (keys_in listed (these keys))
   keys_chosen keys all = record {
     has = λ path place is.
         let both = at_path (slice_get listed place) path is in
@@ -322,4 +356,11 @@ module _ (effect : Effect) (listed : List Listed) where
     only = λ path place some.
         let both = of_all keys path place some in
         at_both (slice_get listed place) path both.1 (all.only path place both.0);
+  }
+
+  pub order_chosen : (places : List ℕ) → IsOrder Any listed places → IsOrder effect listed (these places)
+  order_chosen places order = record {
+    keys = keys_chosen places order.keys;
+    sorted = IsSortedBy-filter (λ a b. is_key_before (key_in listed a) (key_in listed b))
+        (ranks_by keys_total (key_in listed)) (has_effect_here effect listed) places order.sorted;
   }

@@ -4,6 +4,7 @@ use Rattle.std.specs.Prelude.{slice_get}
 use Rattle.std.specs.List.{list_all, list_any, onto_first, Contains}
 use Rattle.std.specs.Cmp.{both_ways}
 use Rattle.std.proofs.lemmas.Bool.{cases_lt, and_parts, and_from, or_cases, or_left, or_right, eqb-true, lt-ltb, ltb-true, not-true}
+use Rattle.std.proofs.lemmas.List.{take_all}
 use Rattle.std.proofs.lemmas.List.Folds.{list_any-append, list_any_at, list_any_more, Any-from_list_any}
 use Rattle.std.proofs.lemmas.Slice.Eq.{bytes_eq-Decides}
 use Rattle.dump_trees.specs.Paths.{NodePath, names_of, below, is_name}
@@ -272,12 +273,6 @@ skipped test (k ∷ keys) (suc from) zero low none = absurd (omega arith)
 skipped test (k ∷ keys) (suc from) (suc at) low none =
     ap (λ b. test k || b)
     (skipped test keys from at (omega arith) (λ n key first less is. none (suc n) key (omega arith) (omega arith) is))
-
-pub take_all : {X : Type 0} (n : ℕ) (xs : List X) → length xs ≤ n → take n xs ≡ xs
-take_all zero [] low = refl
-take_all zero (x ∷ xs) low = absurd (omega arith)
-take_all (suc n) [] low = refl
-take_all {X} (suc n) (x ∷ xs) low = ap (λ (ys : List X). x ∷ ys) (take_all n xs (omega arith))
 
 bytes_behind : (top one two : List ℕ) → bytes_eq (top ++ one) (top ++ two) ≡ bytes_eq one two
 bytes_behind top one two = both_ways _ _ up down

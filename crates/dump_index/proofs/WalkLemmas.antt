@@ -1,5 +1,5 @@
 -- The keys of paths right below a directory, one after the other.
-use Rattle.std.proofs.Common.{◌≡◌, ℕ, zero, suc, ◌+◌, ◌<◌, ◌≤◌, Bool, true, false, not, List, [], ◌∷◌, ◌++◌, length, map, take, drop, get_or, Option, Some, None, option_map, append-nil, refl, sym, ap, ◌∙◌, arith, inl, inr}
+use Rattle.std.proofs.Common.{◌≡◌, ℕ, zero, suc, ◌+◌, ◌<◌, ◌≤◌, Bool, true, false, not, List, [], ◌∷◌, ◌++◌, length, take, drop, get_or, Option, Some, None, option_map, append-nil, refl, sym, ap, ◌∙◌, arith, inl, inr}
 use Rattle.std.specs.Prelude.{slice_get}
 use Rattle.std.proofs.lemmas.Bool.{cases_lt, not-true}
 use Rattle.std.proofs.lemmas.List.{length-map}
@@ -8,9 +8,9 @@ use Rattle.std.specs.List.Sorted.{IsPartitionPoint, IsPartitionedBy}
 use Rattle.std.specs.Cmp.Lexicographic.{slice_cmp}
 use Rattle.std.specs.Ordering.{is_lt, nat_cmp}
 use Rattle.dump_trees.specs.Paths.{is_name}
-use Rattle.dump_index.specs.declared.order.Key.{Key}
+use Rattle.dump_index.specs.Listed.{Listed}
 use Rattle.dump_index.specs.declared.path_text.Below.TheVariants.{Outside}
-use Rattle.dump_index.specs.steps.Keys.{PathKey, key_of, is_key_before, IsSortedKeys}
+use Rattle.dump_index.specs.steps.Keys.{PathKey, path_there, key_in, keys_in, is_key_before, IsSortedKeys}
 use Rattle.dump_index.specs.steps.Below.{StandsSo, GoesFurther, ends_up_to, IsBehind, AreFrom, NoneBelow}
 use Rattle.dump_index.proofs.KeyLemmas.{get-map, keys_total, IsPointOf}
 use Rattle.dump_index.proofs.BelowLemmas.{first_part, up_to_before, up_to_own, front_between, not_first, nothing_more}
@@ -24,76 +24,77 @@ get_inside (y ∷ xs) zero x at = (omega arith, λ d. let both : Some y ≡ Some
 get_inside (y ∷ xs) (suc n) x at =
     let behind = get_inside xs n x at in (omega (arith, behind.0), behind.1)
 
--- the key whose path and place these are
-key_at : (keys : List Key) (n : ℕ) (key : PathKey) → slice_get (map key_of keys) n ≡ Some key
-    → (k : Key) × (n < length keys) × ((d : Key) → key_of (get_or keys n d) ≡ key)
-key_at keys n key at = cases (slice_get keys n) refl (sym (get-map key_of keys n) ∙ at)
+-- the place whose key this is
+key_at : (listed : List Listed) (keys : List ℕ) (n : ℕ) (key : PathKey) → slice_get (keys_in listed keys) n ≡ Some key
+    → (k : ℕ) × (n < length keys) × ((d : ℕ) → key_in listed (get_or keys n d) ≡ key)
+key_at listed keys n key at = cases (slice_get keys n) refl (sym (get-map (key_in listed) keys n) ∙ at)
   where
-    cases : (o : Option Key) → slice_get keys n ≡ o → option_map key_of o ≡ Some key
-        → (k : Key) × (n < length keys) × ((d : Key) → key_of (get_or keys n d) ≡ key)
+    cases : (o : Option ℕ) → slice_get keys n ≡ o → option_map (key_in listed) o ≡ Some key
+        → (k : ℕ) × (n < length keys) × ((d : ℕ) → key_in listed (get_or keys n d) ≡ key)
     cases None is there = absurd (let bad : None ≡ Some key = there in cc)
     cases (Some k) is there =
         let inside = get_inside keys n k is in
-        let same : key_of k ≡ key = (let both : Some (key_of k) ≡ Some key = there in cc) in
-        (k, inside.0, λ d. ap key_of (inside.1 d) ∙ same)
+        let same : key_in listed k ≡ key = (let both : Some (key_in listed k) ≡ Some key = there in cc) in
+        (k, inside.0, λ d. ap (key_in listed) (inside.1 d) ∙ same)
 
 -- no path comes before one at a place before its own
 abbrev pub RisePaths : List PathKey → Type 0
 RisePaths keys = (i j : ℕ) (a b : PathKey) → i ≤ j → slice_get keys i ≡ Some a → slice_get keys j ≡ Some b
     → is_lt (slice_cmp nat_cmp b.0 a.0) ≡ false
 
-pub paths_rise : (keys : List Key) → IsSortedKeys keys → RisePaths (map key_of keys)
-paths_rise keys up i j a b low one two =
-    let first = key_at keys i a one in
-    let second = key_at keys j b two in
+pub paths_rise : (listed : List Listed) (keys : List ℕ) → IsSortedKeys listed keys → RisePaths (keys_in listed keys)
+paths_rise listed keys up i j a b low one two =
+    let first = key_at listed keys i a one in
+    let second = key_at listed keys j b two in
     let d = second.0 in
     first_part (slice_cmp nat_cmp b.0 a.0) (nat_cmp b.1 a.1)
     (ap (λ (key : PathKey). is_key_before key a) (sym (second.2 d))
-    ∙ ap (is_key_before (key_of (get_or keys j d))) (sym (first.2 d))
-    ∙ sorted_far (λ x y. is_key_before (key_of x) (key_of y)) (ranks_by keys_total key_of) keys up i j d low second.1)
+    ∙ ap (is_key_before (key_in listed (get_or keys j d))) (sym (first.2 d))
+    ∙ sorted_far (λ x y. is_key_before (key_in listed x) (key_in listed y)) (ranks_by keys_total (key_in listed)) keys up i j d low second.1)
 
 -- ---- where a search begins
 
-module _ (keys : List Key) (top : List ℕ) (point : ℕ) (parted : IsPointOf keys (top, 0) point) where
-  pub front_none : NoneBelow (map key_of keys) top 0 point
+module _ (listed : List Listed) (keys : List ℕ) (top : List ℕ) (point : ℕ) (parted : IsPointOf listed keys (top, 0) point) where
+  pub front_none : NoneBelow (keys_in listed keys) top 0 point
   front_none n key name low less at is =
-      let its = key_at keys n key at in
+      let its = key_at listed keys n key at in
       let d = its.0 in
       absurd (let bad : false ≡ true = sym (not_first top name key.1)
       ∙ ap (λ (text : List ℕ). is_key_before (text, key.1) (top, 0)) (sym is)
       ∙ ap (λ (k : PathKey). is_key_before k (top, 0)) (sym (its.2 d)) ∙ parted.0 n d low less in cc)
 
-  pub behind_from : AreFrom (map key_of keys) top point
+  pub behind_from : AreFrom (keys_in listed keys) top point
   behind_from n key high at =
-      let its = key_at keys n key at in
+      let its = key_at listed keys n key at in
       let d = its.0 in
       first_part (slice_cmp nat_cmp key.0 top) (nat_cmp key.1 0)
       (ap (λ (k : PathKey). is_key_before k (top, 0)) (sym (its.2 d)) ∙ parted.1 n d high its.1)
 
 -- ---- what begins with a front
 
-abbrev pub is_key_up_to : List ℕ → Key → Bool
-is_key_up_to front key = ends_up_to front key.path.now
+abbrev pub is_key_up_to : List Listed → List ℕ → ℕ → Bool
+is_key_up_to listed front key = ends_up_to front (path_there (slice_get listed key))
 
-pub up_to_parted : (keys : List Key) (front : List ℕ) → IsSortedKeys keys → IsPartitionedBy (is_key_up_to front) keys
-up_to_parted keys front up i j d low inside is =
-    let sorted = first_part (slice_cmp nat_cmp (key_of (get_or keys j d)).0 (key_of (get_or keys i d)).0)
-    (nat_cmp (key_of (get_or keys j d)).1 (key_of (get_or keys i d)).1)
-    (sorted_far (λ x y. is_key_before (key_of x) (key_of y)) (ranks_by keys_total key_of) keys up i j d low inside) in
-    ap (λ b. not b) (up_to_before front (key_of (get_or keys i d)).0 (key_of (get_or keys j d)).0 sorted
-    (not-true (is_lt (slice_cmp nat_cmp front (take (length front) (key_of (get_or keys j d)).0))) is))
+pub up_to_parted : (listed : List Listed) (keys : List ℕ) (front : List ℕ) → IsSortedKeys listed keys
+    → IsPartitionedBy (is_key_up_to listed front) keys
+up_to_parted listed keys front up i j d low inside is =
+    let sorted = first_part (slice_cmp nat_cmp (key_in listed (get_or keys j d)).0 (key_in listed (get_or keys i d)).0)
+    (nat_cmp (key_in listed (get_or keys j d)).1 (key_in listed (get_or keys i d)).1)
+    (sorted_far (λ x y. is_key_before (key_in listed x) (key_in listed y)) (ranks_by keys_total (key_in listed)) keys up i j d low inside) in
+    ap (λ b. not b) (up_to_before front (key_in listed (get_or keys i d)).0 (key_in listed (get_or keys j d)).0 sorted
+    (not-true (is_lt (slice_cmp nat_cmp front (take (length front) (key_in listed (get_or keys j d)).0))) is))
 
-pub is_behind : (keys : List Key) (front : List ℕ) (point : ℕ) → point ≤ length keys
-    → IsPartitionPoint (λ key. is_key_up_to front key ≡ true) (λ key. is_key_up_to front key ≡ false) keys point
-    → IsBehind (map key_of keys) front point
-is_behind keys front point low parted = record {
-  bound = omega (arith, length-map keys key_of);
+pub is_behind : (listed : List Listed) (keys : List ℕ) (front : List ℕ) (point : ℕ) → point ≤ length keys
+    → IsPartitionPoint (λ key. is_key_up_to listed front key ≡ true) (λ key. is_key_up_to listed front key ≡ false) keys point
+    → IsBehind (keys_in listed keys) front point
+is_behind listed keys front point low parted = record {
+  bound = omega (arith, length-map keys (key_in listed));
   before = λ n key less at.
-      let its = key_at keys n key at in
+      let its = key_at listed keys n key at in
       let d = its.0 in
       ap (λ (k : PathKey). ends_up_to front k.0) (sym (its.2 d)) ∙ parted.0 n d (omega arith) less;
   behind = λ n key high at.
-      let its = key_at keys n key at in
+      let its = key_at listed keys n key at in
       let d = its.0 in
       ap (λ (k : PathKey). ends_up_to front k.0) (sym (its.2 d)) ∙ parted.1 n d high its.1;
 }

@@ -42,12 +42,13 @@ pub enum Setting {
 pub struct NodeChange<'a> {
     /// Without a leading slash.
     pub path: &'a [u8],
-    pub deletes: bool,
     pub made: Option<NodeMade<'a>>,
-    pub props: Setting,
-    pub text: Setting,
     /// The number of the revision that the node is in.
     pub revision: u64,
     /// Which record of the dump the node is.
     pub record_number: u64,
+    // the smallest fields come last, so that they take the least memory
+    pub deletes: bool,
+    pub props: Setting,
+    pub text: Setting,
 }

@@ -31,15 +31,19 @@ use std::marker::Model;
 /// All changes of a dump, in orders in which those at a path are found.
 ///
 /// An index answers a question about a path by binary searches for that path and for the paths above it. To make an index takes
-/// memory for the places of the changes, and time to sort them.
+/// time to sort the changes. It takes 16 bytes more than they do, at most, for each of them. Places have 32 bits, so of more
+/// than 2^32 changes no index can be made.
 #[derive(Drop)]
 pub struct ChangeIndex<'a> {
     changes: Vec<NodeChange<'a>>,
-    shaping: PathOrder<'a>,
-    moving: PathOrder<'a>,
-    props: PathOrder<'a>,
-    texts: PathOrder<'a>,
+    shaping: PathOrder,
+    moving: PathOrder,
+    props: PathOrder,
+    texts: PathOrder,
 }
+
+// a change, and its place in each of the orders
+const _: () = prove!(size_of::<NodeChange<'static>>() + 4 * size_of::<u32>() <= 96);
 
 impl<'a> Model for ChangeIndex<'a> {
     ghost use Rattle.std.specs.Prelude.{List, map};
@@ -98,7 +102,7 @@ impl<'a> ChangeIndex<'a> {
     {
         let listed = changes.as_slice();
         // one sort for all
-        let mut shaping = PathOrder::new(alloc, listed, Effect::Any)?;
+        let mut shaping = PathOrder::new(alloc, listed)?;
         let moving = shaping.with_effect(alloc, listed, Effect::Moving)?;
         let props = shaping.with_effect(alloc, listed, Effect::Props)?;
         let texts = shaping.with_effect(alloc, listed, Effect::Texts)?;
@@ -117,12 +121,19 @@ impl<'a> ChangeIndex<'a> {
     pub fn latest_touching(&self, path: &[u8], count: usize) -> Option<usize>
         ensures { result ≡ latest (touches_path (names_of path.now)) (all_placed self.now) count }
     {
-        let shaped = self.shaping.latest_at(path, count);
         let set = later(
-            self.props.latest_at(path, count),
-            self.texts.latest_at(path, count),
+            self.latest_setting(Part::Props, path, count),
+            self.latest_setting(Part::Text, path, count),
         );
-        self.moving.latest_above(path, count, later(shaped, set))
+        let here = later(self.latest_shaped(path, count), set);
+        self.moving.latest_above(&self.changes, path, count, here)
+    }
+
+    /// The place of the latest of the first `count` changes that deletes or makes something at the path.
+    fn latest_shaped(&self, path: &[u8], count: usize) -> Option<usize>
+        ensures { result ≡ latest_place (has_effect_at Effect.Shaping self.now path.now) count }
+    {
+        self.shaping.latest_at(&self.changes, path, count)
     }
 
     /// The place of the latest of the first `count` changes that decides what exists at the path: it deletes or makes something
@@ -136,8 +147,8 @@ impl<'a> ChangeIndex<'a> {
             ≡ (is_child_named (names_made (all_placed self.now) count (names_of path.now)) name
             || is_child_named (names_behind (names_look (all_placed self.now)) (all_placed self.now) (names_of path.now) result) name) }
     {
-        let here = self.shaping.latest_at(path, count);
-        self.moving.latest_above(path, count, here)
+        let here = self.latest_shaped(path, count);
+        self.moving.latest_above(&self.changes, path, count, here)
     }
 
     /// The change at this place.
@@ -233,11 +244,11 @@ impl<'a> ChangeIndex<'a> {
             // a text that is set on a file leaves it one, so none is looked up
             Origin::New(NodeKind::File) => Look::Found(Some(NodeKind::File)),
             Origin::New(NodeKind::Folder) => {
-                let set = self.texts.latest_at(path, before);
+                let set = self.texts.latest_at(&self.changes, path, before);
                 Look::Found(with_text(Some(NodeKind::Folder), is_since(shaped, set)))
             }
             Origin::Copied(source, rest) => {
-                let set = self.texts.latest_at(path, before);
+                let set = self.texts.latest_at(&self.changes, path, before);
                 match self.known_at(path, later(shaped, set), known) {
                     Some(kind) => Look::Found(kind),
                     None => Look::Copied(source, rest, is_since(shaped, set)),
@@ -246,9 +257,39 @@ impl<'a> ChangeIndex<'a> {
         }
     }
 
+    /// What exists at the path after the first `count` changes, and after a text is set on it, if `has_text` says so.
+    fn kind_since(
+        &self,
+        alloc: Global,
+        path: Vec<u8>,
+        count: usize,
+        has_text: bool,
+        known: &[Option<NodeKind>],
+    ) -> Result<Option<NodeKind>, Memory>
+        requires bare { ends_in_slash path.items ≡ false }
+        requires known { AreKindsBehind self.now known.now }
+        ensures { IfOk result (λ kind. kind
+            ≡ kind_with_text has_text (kind_look self.now count (names_of path.items))) }
+    {
+        let mut at = path;
+        let mut before = count;
+        let mut has_text = has_text;
+        loop {
+            match self.look(&at, before, known) {
+                Look::Found(kind) => return Ok(with_text(kind, has_text)),
+                Look::Copied(source, rest, set) => {
+                    let next = joined(alloc, source.path, rest)?;
+                    before = self.end_of(source.revision);
+                    at = next;
+                    has_text = has_text | set;
+                }
+            }
+        }
+    }
+
     /// What exists at the path after the first `count` changes. The caller gives what some of the first of all changes left at
     /// their own paths, each kind right after its change, as [`ChangeIndex::kind_behind`] says it. When a look comes to such a
-    /// path, it follows no more copies.
+    /// path, it follows no more copies. It takes memory only where it follows a copy.
     pub fn kind_known(
         &self,
         alloc: Global,
@@ -260,18 +301,12 @@ impl<'a> ChangeIndex<'a> {
         requires known { AreKindsBehind self.now known.now }
         ensures { IfOk result (λ kind. kind ≡ kind_look self.now count (names_of path.now)) }
     {
-        let mut at = Vec::from_slice(alloc, path)?;
-        let mut before = count;
-        let mut has_text = false;
-        loop {
-            match self.look(&at, before, known) {
-                Look::Found(kind) => return Ok(with_text(kind, has_text)),
-                Look::Copied(source, rest, set) => {
-                    let next = joined(alloc, source.path, rest)?;
-                    before = self.end_of(source.revision);
-                    at = next;
-                    has_text = has_text | set;
-                }
+        match self.look(path, count, known) {
+            Look::Found(kind) => Ok(kind),
+            Look::Copied(source, rest, set) => {
+                let from = joined(alloc, source.path, rest)?;
+                let before = self.end_of(source.revision);
+                self.kind_since(alloc, from, before, set, known)
             }
         }
     }
@@ -316,8 +351,8 @@ impl<'a> ChangeIndex<'a> {
         ensures { result ≡ latest_place (sets_at part self.now path.now) count }
     {
         match part {
-            Part::Props => self.props.latest_at(path, count),
-            Part::Text => self.texts.latest_at(path, count),
+            Part::Props => self.props.latest_at(&self.changes, path, count),
+            Part::Text => self.texts.latest_at(&self.changes, path, count),
         }
     }
 

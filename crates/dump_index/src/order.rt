@@ -1,7 +1,7 @@
 //! Changes in the order of their paths, looked up by path.
-ghost use Rattle.std.specs.Prelude.{◌≡◌, ◌||◌, Bool, List, ℕ, IfOk, filter, map};
-ghost use Rattle.dump_index.specs.Listed.{Listed, listed_of};
-ghost use Rattle.dump_index.specs.steps.Keys.{HasKeys, IsSortedKeys, is_key_before, has_effect_at, has_effect_here, has_effect, is_chosen, key_cmp, key_of, latest_place, sets};
+ghost use Rattle.std.specs.Prelude.{◌≡◌, ◌||◌, All, Bool, ℕ, IfOk, filter, length, map, slice_get};
+ghost use Rattle.dump_index.specs.Listed.{listed_of};
+ghost use Rattle.dump_index.specs.steps.Keys.{AreFirstPlaces, IsKeyIn, IsOrder, IsSortedKeys, key_of, place_of, is_key_before, has_effect_at, has_effect_here, has_effect, key_cmp, key_in, keys_in, latest_place, path_there, sets};
 ghost use Rattle.dump_index.specs.steps.Touching.{later, moves_above};
 ghost use Rattle.dump_index.specs.steps.Below.{AreFrom, IsBehind, IsNextChildKey, NoneBelow};
 
@@ -51,26 +51,37 @@ impl Effect {
     }
 }
 
-/// A change by its path and its place in the dump.
+/// The path of the change at this place; that of the root, if there is none.
+fn path_at<'a>(changes: &[NodeChange<'a>], place: u32) -> &'a [u8]
+    ensures { result.now ≡ path_there (slice_get (map listed_of changes.now) place) }
+{
+    match changes.get(place as usize) {
+        Some(change) => change.path,
+        None => b"",
+    }
+}
+
+/// Whether the change at this place comes before a path and a place: by the paths, and then by the places.
+fn is_before(changes: &[NodeChange<'_>], place: u32, path: &[u8], other: usize) -> bool
+    ensures { result ≡ is_key_before (key_in (map listed_of changes.now) place) (path.now, other) }
+{
+    let own = path_at(changes, place);
+    own.cmp(path).then((place as usize).cmp(&other)).is_lt()
+}
+
+/// A change by its path and its place, as they are sorted.
 #[derive(Clone, Copy)]
 pub(crate) struct Key<'a> {
     path: &'a [u8],
-    place: usize,
+    place: u32,
 }
 
 impl Key<'_> {
-    /// How the key compares to that of a path and a place: by the paths, and then by the places.
-    fn compare(&self, path: &[u8], place: usize) -> Ordering
-        ensures { result ≡ key_cmp (key_of self.now) (path.now, place) }
+    /// How two keys compare: by the paths, and then by the places.
+    fn compare(&self, other: &Key<'_>) -> Ordering
+        ensures { result ≡ key_cmp (key_of self.now) (key_of other.now) }
     {
-        self.path.cmp(path).then(self.place.cmp(&place))
-    }
-
-    /// Whether the key comes before that of a path and a place.
-    fn is_before(&self, path: &[u8], place: usize) -> bool
-        ensures { result ≡ is_key_before (key_of self.now) (path.now, place) }
-    {
-        self.compare(path, place).is_lt()
+        self.path.cmp(other.path).then(self.place.cmp(&other.place))
     }
 }
 
@@ -82,23 +93,19 @@ pub(crate) struct Child<'a> {
     pub(crate) behind: usize,
 }
 
-/// The changes of one effect, in the order of their paths, and among those of one path in the order of the dump.
+/// The changes of one effect, in the order of their paths, and among those of one path in the order of the dump. It has their
+/// places in a list of changes, which each call is given.
 #[derive(Drop)]
-pub(crate) struct PathOrder<'a> {
-    keys: Vec<Key<'a>>,
+pub(crate) struct PathOrder {
+    places: Vec<u32>,
 }
 
-impl<'a> Model for PathOrder<'a> {
-    ghost use Rattle.std.specs.Prelude.{ℕ, List, map};
-    ghost use Rattle.std.specs.List.Sorted.{IsSortedBy};
+impl Model for PathOrder {
+    ghost use Rattle.std.specs.Prelude.{ℕ, List};
 
-    ghost Value = { List (List ℕ × ℕ) };
+    ghost Value = { List ℕ };
 
-    ghost use Rattle.dump_index.specs.steps.Keys.{is_key_before, key_of};
-
-    ghost view = { λ o. map key_of o.keys.items };
-
-    ghost invariant = { λ o. IsSortedBy (λ a b. is_key_before (key_of a) (key_of b)) o.keys.items };
+    ghost view = { λ o. o.places.items };
 }
 
 /// The later of two places, if there is one.
@@ -112,99 +119,123 @@ pub(crate) fn later(one: Option<usize>, other: Option<usize>) -> Option<usize>
     }
 }
 
-/// The keys of the changes with this effect, in the order of the dump.
-fn keys_of<'a>(
-    alloc: Global,
-    changes: &[NodeChange<'a>],
-    effect: Effect,
-) -> Result<Vec<Key<'a>>, Memory>
-    ensures { IfOk result (λ keys. HasKeys effect (map listed_of changes.now) (map key_of keys.items)) }
+/// The keys of all changes, in the order of the dump.
+fn keys_of<'a>(alloc: Global, changes: &[NodeChange<'a>]) -> Result<Vec<Key<'a>>, Memory>
+    ensures places { IfOk result (λ keys. AreFirstPlaces (length changes.now) (map place_of keys.items)) }
+    ensures paths { IfOk result (λ keys. All (IsKeyIn (map listed_of changes.now)) keys.items) }
 {
-    let mut keys = Vec::new(alloc);
+    let mut keys = Vec::with_capacity(alloc, changes.len())?;
     for (place, change) in changes.iter().enumerate() {
-        if effect.has(change) {
-            let path = change.path;
-            keys.push(Key { path, place })?;
-        }
+        let Ok(short) = u32::try_from(place) else {
+            return Err(Memory);
+        };
+        keys.push(Key {
+            path: change.path,
+            place: short,
+        })?;
     }
     Ok(keys)
 }
 
+/// The places in these keys.
+fn places_of(alloc: Global, keys: &[Key<'_>]) -> Result<Vec<u32>, Memory>
+    ensures { IfOk result (λ places. places.items ≡ map place_of keys.now) }
+{
+    let mut places = Vec::with_capacity(alloc, keys.len())?;
+    for key in keys {
+        places.push(key.place)?;
+    }
+    Ok(places)
+}
+
 /// Whether the change at this place has this effect.
-fn has_effect(changes: &[NodeChange<'_>], place: usize, effect: Effect) -> bool
+fn has_effect(changes: &[NodeChange<'_>], place: u32, effect: Effect) -> bool
     ensures { result ≡ has_effect_here effect (map listed_of changes.now) place }
 {
-    match changes.get(place) {
+    match changes.get(place as usize) {
         Some(change) => effect.has(change),
         None => false,
     }
 }
 
-/// Those of the keys whose changes have this effect.
-fn chosen<'a>(
-    alloc: Global,
-    keys: &[Key<'a>],
-    changes: &[NodeChange<'a>],
-    effect: Effect,
-) -> Result<Vec<Key<'a>>, Memory>
-    ensures { IfOk result (λ found. found.items ≡ filter (is_chosen effect (map listed_of changes.now)) keys.now) }
+/// How many of the changes have this effect.
+fn count_of(changes: &[NodeChange<'_>], effect: Effect) -> usize
+    ensures { result ≡ length (filter (λ change. has_effect effect (listed_of change)) changes.now) }
 {
-    let mut found = Vec::new(alloc);
-    for key in keys {
-        if has_effect(changes, key.place, effect) {
-            found.push(*key)?;
+    changes.iter().filter(|change| effect.has(change)).count()
+}
+
+/// Those of the places whose changes have this effect.
+fn chosen(
+    alloc: Global,
+    places: &[u32],
+    changes: &[NodeChange<'_>],
+    effect: Effect,
+) -> Result<Vec<u32>, Memory>
+    ensures { IfOk result (λ found. found.items ≡ filter (has_effect_here effect (map listed_of changes.now)) places.now) }
+{
+    // of the right size at once, so that no memory is taken in vain
+    let mut found = Vec::with_capacity(alloc, count_of(changes, effect))?;
+    for place in places {
+        if has_effect(changes, *place, effect) {
+            found.push(*place)?;
         }
     }
     Ok(found)
 }
 
-impl<'a> PathOrder<'a> {
+impl PathOrder {
+    /// All changes.
+    pub(crate) fn new(alloc: Global, changes: &[NodeChange<'_>]) -> Result<PathOrder, Memory>
+        ensures { IfOk result (λ order. IsOrder Effect.Any (map listed_of changes.now) order) }
+    {
+        // the paths are in the keys, so that a sort reads them from one place less
+        let mut keys = keys_of(alloc, changes)?;
+        keys.sort_unstable_by(|a, b| a.compare(b));
+        let places = places_of(alloc, &keys)?;
+        Ok(PathOrder { places })
+    }
+
     /// Those of all changes that have this effect.
     pub(crate) fn with_effect(
         &self,
         alloc: Global,
-        changes: &[NodeChange<'a>],
+        changes: &[NodeChange<'_>],
         effect: Effect,
-    ) -> Result<PathOrder<'a>, Memory>
-        requires { HasKeys Effect.Any (map listed_of changes.now) self.now }
-        ensures { IfOk result (λ order. HasKeys effect (map listed_of changes.now) order) }
+    ) -> Result<PathOrder, Memory>
+        requires { IsOrder Effect.Any (map listed_of changes.now) self.now }
+        ensures { IfOk result (λ order. IsOrder effect (map listed_of changes.now) order) }
     {
-        let keys = chosen(alloc, &self.keys, changes, effect)?;
-        Ok(PathOrder { keys })
+        let places = chosen(alloc, &self.places, changes, effect)?;
+        Ok(PathOrder { places })
     }
 
     /// Keeps those of all changes that have this effect.
-    pub(crate) fn keep_effect(&mut self, changes: &[NodeChange<'a>], effect: Effect)
-        requires { HasKeys Effect.Any (map listed_of changes.now) self.old }
-        ensures { HasKeys effect (map listed_of changes.now) self.new }
+    pub(crate) fn keep_effect(&mut self, changes: &[NodeChange<'_>], effect: Effect)
+        requires { IsOrder Effect.Any (map listed_of changes.now) self.old }
+        ensures { IsOrder effect (map listed_of changes.now) self.new }
     {
-        self.keys
-            .retain(|key| has_effect(changes, key.place, effect));
-    }
-
-    /// The changes with this effect.
-    pub(crate) fn new(
-        alloc: Global,
-        changes: &[NodeChange<'a>],
-        effect: Effect,
-    ) -> Result<PathOrder<'a>, Memory>
-        ensures { IfOk result (λ order. HasKeys effect (map listed_of changes.now) order) }
-    {
-        let mut keys = keys_of(alloc, changes, effect)?;
-        keys.sort_unstable_by(|a, b| a.compare(b.path, b.place));
-        Ok(PathOrder { keys })
+        self.places
+            .retain(|place| has_effect(changes, *place, effect));
     }
 
     /// The place of the latest of the first `count` changes that has this effect and is at this path.
-    pub(crate) fn latest_at(&self, path: &[u8], count: usize) -> Option<usize>
-        ensures { (effect : Effect) (listed : List Listed) → HasKeys effect listed self.now
-            → result ≡ latest_place (has_effect_at effect listed path.now) count }
+    pub(crate) fn latest_at(
+        &self,
+        changes: &[NodeChange<'_>],
+        path: &[u8],
+        count: usize,
+    ) -> Option<usize>
+        ensures { (effect : Effect) → IsOrder effect (map listed_of changes.now) self.now
+            → result ≡ latest_place (has_effect_at effect (map listed_of changes.now) path.now) count }
     {
-        let behind = self.keys.partition_point(|key| key.is_before(path, count));
+        let behind = self
+            .places
+            .partition_point(|place| is_before(changes, *place, path, count));
         let last = behind.checked_sub(1)?;
-        let key = self.keys[last];
-        if key.path == path {
-            Some(key.place)
+        let place = self.places[last];
+        if path_at(changes, place) == path {
+            Some(place as usize)
         } else {
             None
         }
@@ -214,61 +245,71 @@ impl<'a> PathOrder<'a> {
     /// one. It looks up each part of the path before a slash.
     pub(crate) fn latest_above(
         &self,
+        changes: &[NodeChange<'_>],
         path: &[u8],
         count: usize,
         here: Option<usize>,
     ) -> Option<usize>
-        ensures { (listed : List Listed) (test : ℕ → Bool) → HasKeys Effect.Moving listed self.now
+        ensures { (test : ℕ → Bool) → IsOrder Effect.Moving (map listed_of changes.now) self.now
             → here ≡ latest_place test count
-            → result ≡ latest_place (λ place. test place || moves_above listed path.now place) count }
+            → result ≡ latest_place (λ place. test place || moves_above (map listed_of changes.now) path.now place) count }
     {
-        let mut last = later(here, self.latest_at(b"", count));
+        let mut last = later(here, self.latest_at(changes, b"", count));
         for (place, byte) in path.iter().enumerate() {
             if *byte == b'/' {
-                last = later(last, self.latest_at(&path[..place], count));
+                last = later(last, self.latest_at(changes, &path[..place], count));
             }
         }
         last
     }
 }
 
-/// How many keys come before the first one that is after all keys whose paths begin with the front.
-fn behind(keys: &[Key<'_>], front: &[u8]) -> usize
-    requires { IsSortedKeys keys.now }
-    ensures { IsBehind (map key_of keys.now) front.now result }
+/// How many places come before the first one whose path is after all paths that begin with the front.
+fn behind(changes: &[NodeChange<'_>], places: &[u32], front: &[u8]) -> usize
+    requires { IsSortedKeys (map listed_of changes.now) places.now }
+    ensures { IsBehind (keys_in (map listed_of changes.now) places.now) front.now result }
 {
-    keys.partition_point(|key| ends_up_to(key.path, front))
+    places.partition_point(|place| ends_up_to(path_at(changes, *place), front))
 }
 
-impl<'a> PathOrder<'a> {
-    /// How many keys come before those whose paths begin with this.
-    pub(crate) fn first_from(&self, top: &[u8]) -> usize
-        ensures front { NoneBelow self.now top.now 0 result }
-        ensures behind { AreFrom self.now top.now result }
+impl PathOrder {
+    /// How many changes come before those whose paths begin with this.
+    pub(crate) fn first_from(&self, changes: &[NodeChange<'_>], top: &[u8]) -> usize
+        requires { IsSortedKeys (map listed_of changes.now) self.now }
+        ensures front { NoneBelow (keys_in (map listed_of changes.now) self.now) top.now 0 result }
+        ensures behind { AreFrom (keys_in (map listed_of changes.now) self.now) top.now result }
     {
-        self.keys.partition_point(|key| key.is_before(top, 0))
+        self.places
+            .partition_point(|place| is_before(changes, *place, top, 0))
     }
 
-    /// The first change, from this key on, whose path is right below the directory. It passes over what is further below, by
-    /// one binary search for each directory there.
-    pub(crate) fn next_child(&self, top: &[u8], from: usize) -> Option<Child<'a>>
-        requires { AreFrom self.now top.now from }
-        ensures { IsNextChildKey self.now top.now from result }
+    /// The first change, from this one of the order on, whose path is right below the directory. It passes over what is
+    /// further below, by one binary search for each directory there.
+    pub(crate) fn next_child<'a>(
+        &self,
+        changes: &[NodeChange<'a>],
+        top: &[u8],
+        from: usize,
+    ) -> Option<Child<'a>>
+        requires sorted { IsSortedKeys (map listed_of changes.now) self.now }
+        requires from { AreFrom (keys_in (map listed_of changes.now) self.now) top.now from }
+        ensures { IsNextChildKey (keys_in (map listed_of changes.now) self.now) top.now from result }
     {
-        let keys = self.keys.as_slice();
+        let places = self.places.as_slice();
         let mut at = from;
-        while let Some(key) = keys.get(at) {
-            match stand_below(top, key.path) {
+        while let Some(place) = places.get(at) {
+            let path = path_at(changes, *place);
+            match stand_below(top, path) {
                 Below::Outside => return None,
                 Below::Itself => at += 1,
                 Below::Child(name) => {
                     return Some(Child {
                         name,
-                        place: key.place,
+                        place: *place as usize,
                         behind: at + 1,
                     });
                 }
-                Below::Further(front) => at = behind(keys, front),
+                Below::Further(front) => at = behind(changes, places, front),
             }
         }
         None

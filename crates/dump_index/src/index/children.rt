@@ -6,7 +6,7 @@ ghost use Rattle.dump_index.specs.InOrder.{are_in_order, ends_in_slash};
 ghost use Rattle.dump_index.specs.Listed.{all_placed, listed_of};
 ghost use Rattle.dump_index.specs.Children.{AreChildren, is_child_named, stands_in};
 ghost use Rattle.dump_index.specs.NamesEver.{AreNamesEver};
-ghost use Rattle.dump_index.specs.steps.Keys.{HasKeys};
+ghost use Rattle.dump_index.specs.steps.Keys.{IsOrder};
 ghost use Rattle.dump_index.specs.steps.Names.{AddsNames, AreNames, makes_at, texts_of};
 
 use super::ChangeIndex;
@@ -31,20 +31,20 @@ fn makes_at(changes: &[NodeChange<'_>], place: usize) -> bool
 fn push_made<'a>(
     alloc: Global,
     changes: &[NodeChange<'a>],
-    shaping: &PathOrder<'a>,
+    shaping: &PathOrder,
     names: &mut Vec<&'a [u8]>,
     path: &[u8],
     count: usize,
 ) -> Result<(), Memory>
     requires ordered { are_in_order 0 changes.now ≡ true }
-    requires keys { HasKeys Effect.Shaping (map listed_of changes.now) shaping.now }
+    requires keys { IsOrder Effect.Shaping (map listed_of changes.now) shaping.now }
     ensures named { OnOk result (AddsNames names.old.items names.new.items
         (is_child_named (names_made (all_placed (map listed_of changes.now)) count (names_of path.now)))) }
     ensures names { OnOk result (AreNames names.old.items → AreNames names.new.items) }
 {
     let top = top_of(alloc, path)?;
-    let mut from = shaping.first_from(&top);
-    while let Some(child) = shaping.next_child(&top, from) {
+    let mut from = shaping.first_from(changes, &top);
+    while let Some(child) = shaping.next_child(changes, &top, from) {
         if child.place < count && makes_at(changes, child.place) {
             names.push(child.name)?;
         }

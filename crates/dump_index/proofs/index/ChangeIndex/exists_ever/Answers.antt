@@ -1,9 +1,9 @@
-use Rattle.std.proofs.Common.{List, is_some, ap, sym, subst, ◌∙◌}
+use Rattle.std.proofs.Common.{List, arith, is_some, ap, sym, subst, ◌∙◌}
 use Rattle.dump_trees.specs.Paths.{names_of}
 use Rattle.dump_trees.proofs.expansions.BackLemmas.{LooksBack}
 use Rattle.dump_index.specs.Listed.{Listed, all_placed}
 use Rattle.dump_index.proofs.OrderLemmas.{all_look_back}
-use Rattle.dump_index.proofs.ExistsLemmas.{none_since, none_ever, touching_low}
+use Rattle.dump_index.proofs.ExistsLemmas.{within_some, none_since, none_ever, touching_low}
 use Rattle.dump_index.proofs.index.ChangeIndex.exists_ever.Goals as goal
 use Rattle.dump_index.proofs.index.ChangeIndex.exists_ever.Goals.{After-len-count}
 
@@ -24,6 +24,12 @@ loop-kind-preserved c =
     ∙ none_since c.args.self.now (names_of c.args.path.now) (back p) c.loop-kind.count c.in-Some.place
     (sym c.latest_touching.ensures ∙ c.in-Some.is)
     (ap (λ kind. is_some kind) (sym c.in_ok-kind.ensures) ∙ sym c.is_some.ensures ∙ c.if-is_some.false)
+
+pub returns-then-is_some : goal.returns-then-is_some
+returns-then-is_some c =
+    sym (c.loop-kind.invariant
+    ∙ within_some c.args.self.now (names_of c.args.path.now) c.loop-kind.count c.loop-kind.count (omega arith)
+    (ap (λ kind. is_some kind) (sym c.in_ok-kind.ensures) ∙ sym c.is_some.ensures ∙ c.if-is_some.true))
 
 pub returns-in-None : goal.returns-in-None
 returns-in-None c =

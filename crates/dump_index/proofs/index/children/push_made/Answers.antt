@@ -5,6 +5,7 @@ use Rattle.dump_trees.specs.Paths.{names_of, is_name}
 use Rattle.dump_trees.specs.Listing.{names_made}
 use Rattle.dump_index.specs.Listed.{listed_of, all_placed}
 use Rattle.dump_index.specs.Children.{is_child_named}
+use Rattle.dump_index.specs.steps.Keys.{keys_in}
 use Rattle.dump_index.specs.steps.Names.{texts_of}
 use Rattle.dump_index.specs.steps.Below.{AreFrom, NoneBelow, HasChild}
 use Rattle.dump_index.specs.steps.Names.{makes_at, makes_key}
@@ -25,21 +26,21 @@ pub loop-child-init : goal.loop-child-init
 loop-child-init c =
     let top = c.deref.ensures.value in
     record {
-      ahead = subst (λ (text : List ℕ). AreFrom c.args.shaping.now text c.first_from-from.result) top
+      ahead = subst (λ (text : List ℕ). AreFrom (keys_in (map listed_of c.args.changes.now) c.args.shaping.now) text c.first_from-from.result) top
           c.first_from-from.ensures.behind;
       named = λ name.
           sym (or_none (is_child_named (texts_of c.args.names.now.items) name))
           ∙ ap (λ b. is_child_named (texts_of c.args.names.now.items) name || b)
-          (sym (among_none (map listed_of c.args.changes.now) c.args.count c.args.shaping.now c.in_ok-top.top.items
+          (sym (among_none (map listed_of c.args.changes.now) c.args.count (keys_in (map listed_of c.args.changes.now) c.args.shaping.now) c.in_ok-top.top.items
           c.first_from-from.result
-          (subst (λ (text : List ℕ). NoneBelow c.args.shaping.now text 0 c.first_from-from.result) top
+          (subst (λ (text : List ℕ). NoneBelow (keys_in (map listed_of c.args.changes.now) c.args.shaping.now) text 0 c.first_from-from.result) top
           c.first_from-from.ensures.front) name));
     }
 
 pub loop-child-smaller-in_ok-push : goal.loop-child-smaller-in_ok-push
 loop-child-smaller-in_ok-push c =
     let has = c.in-Some.ensures in
-    let inside = get_inside c.args.shaping.now has.at _ has.is in
+    let inside = get_inside (keys_in (map listed_of c.args.changes.now) c.args.shaping.now) has.at _ has.is in
     let low = inside.0 in
     let first = has.first in
     let next = has.next in
@@ -49,7 +50,7 @@ pub loop-child-preserved-in_ok-push : goal.loop-child-preserved-in_ok-push
 loop-child-preserved-in_ok-push c =
     let listed = map listed_of c.args.changes.now in
     let child = c.in-Some.child in
-    let has = subst (λ (text : List ℕ). HasChild c.args.shaping.now text c.loop-child.from child)
+    let has = subst (λ (text : List ℕ). HasChild (keys_in (map listed_of c.args.changes.now) c.args.shaping.now) text c.loop-child.from child)
     c.deref-in-loop-child.ensures.value c.in-Some.ensures in
     let first = has.first in
     let next = has.next in
@@ -59,18 +60,18 @@ loop-child-preserved-in_ok-push c =
           ap (λ items. is_child_named (texts_of items) name) c.in_ok-push.ensures.items
           ∙ pushed_named c.loop-child.names.items child.name name
           ∙ named_pushed (is_child_named (texts_of c.loop-child.names.items) name) (is_child_named (texts_of c.args.names.now.items) name)
-          (among listed c.args.count c.args.shaping.now c.in_ok-top.top.items c.loop-child.from name)
-          (among listed c.args.count c.args.shaping.now c.in_ok-top.top.items child.behind name)
+          (among listed c.args.count (keys_in (map listed_of c.args.changes.now) c.args.shaping.now) c.in_ok-top.top.items c.loop-child.from name)
+          (among listed c.args.count (keys_in (map listed_of c.args.changes.now) c.args.shaping.now) c.in_ok-top.top.items child.behind name)
           (bytes_eq child.name.now name) (nat_lt child.place c.args.count) (makes_at listed child.place)
           (c.loop-child.invariant.named name)
-          (among_more listed c.args.count c.args.shaping.now c.in_ok-top.top.items c.loop-child.from child has name)
+          (among_more listed c.args.count (keys_in (map listed_of c.args.changes.now) c.args.shaping.now) c.in_ok-top.top.items c.loop-child.from child has name)
           (lt-ltb child.place c.args.count c.if-child-count.true) (sym c.makes_at.ensures ∙ c.if-makes_at.true);
     }
 
 pub loop-child-smaller : goal.loop-child-smaller
 loop-child-smaller c =
     let has = c.in-Some.ensures in
-    let inside = get_inside c.args.shaping.now has.at _ has.is in
+    let inside = get_inside (keys_in (map listed_of c.args.changes.now) c.args.shaping.now) has.at _ has.is in
     let low = inside.0 in
     let first = has.first in
     let next = has.next in
@@ -80,7 +81,7 @@ pub loop-child-preserved : goal.loop-child-preserved
 loop-child-preserved c =
     let listed = map listed_of c.args.changes.now in
     let child = c.in-Some.child in
-    let has = subst (λ (text : List ℕ). HasChild c.args.shaping.now text c.loop-child.from child)
+    let has = subst (λ (text : List ℕ). HasChild (keys_in (map listed_of c.args.changes.now) c.args.shaping.now) text c.loop-child.from child)
     c.deref-in-loop-child.ensures.value c.in-Some.ensures in
     let first = has.first in
     let next = has.next in
@@ -95,11 +96,11 @@ loop-child-preserved c =
       ahead = λ n key high at. c.loop-child.invariant.ahead n key (omega arith) at;
       named = λ name.
           named_kept (is_child_named (texts_of c.loop-child.names.items) name) (is_child_named (texts_of c.args.names.now.items) name)
-          (among listed c.args.count c.args.shaping.now c.in_ok-top.top.items c.loop-child.from name)
-          (among listed c.args.count c.args.shaping.now c.in_ok-top.top.items child.behind name)
+          (among listed c.args.count (keys_in (map listed_of c.args.changes.now) c.args.shaping.now) c.in_ok-top.top.items c.loop-child.from name)
+          (among listed c.args.count (keys_in (map listed_of c.args.changes.now) c.args.shaping.now) c.in_ok-top.top.items child.behind name)
           (bytes_eq child.name.now name) (nat_lt child.place c.args.count && makes_at listed child.place)
           (c.loop-child.invariant.named name)
-          (among_more listed c.args.count c.args.shaping.now c.in_ok-top.top.items c.loop-child.from child has name) none;
+          (among_more listed c.args.count (keys_in (map listed_of c.args.changes.now) c.args.shaping.now) c.in_ok-top.top.items c.loop-child.from child has name) none;
     }
 
 -- what is found by the end
@@ -109,14 +110,14 @@ named : (c : After-drop-top-2) (name : List ℕ) → is_child_named (texts_of c.
 named c name =
     let listed = map listed_of c.args.changes.now in
     let count = c.args.count in
-    let keys = c.args.shaping.now in
+    let keys = keys_in listed c.args.shaping.now in
     c.loop-child.invariant.named name
     ∙ ap (λ b. is_child_named (texts_of c.args.names.now.items) name || b)
     (among_all listed count keys c.in_ok-top.top.items c.loop-child.from
     (subst (λ (text : List ℕ). NoneBelow keys text c.loop-child.from (length keys)) c.deref-in-loop-child.ensures.value
     c.in_default.ensures) name
     ∙ ap (λ (text : List ℕ). is_name name && list_any (makes_key listed count (text ++ name)) keys) c.in_ok-top.ensures
-    ∙ keys_are listed (bare_at 0 c.args.changes.now c.requires.ordered) c.args.path.now name count keys c.requires.keys)
+    ∙ keys_are listed (bare_at 0 c.args.changes.now c.requires.ordered) c.args.path.now name count keys c.requires.keys.keys)
 
 pub returns-clause-named : goal.returns-clause-named
 returns-clause-named c = named (goal.at.returns-clause-named c).After-drop-top-2

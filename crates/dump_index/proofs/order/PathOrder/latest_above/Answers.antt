@@ -1,5 +1,6 @@
-use Rattle.std.proofs.Common.{◌≡◌, ℕ, false, ◌||◌, nat_eq, get_or, take, ap₂, ◌∙◌, ◌≢◌, [], eq-eqb}
+use Rattle.std.proofs.Common.{◌≡◌, ℕ, false, ◌||◌, nat_eq, get_or, take, ap₂, ◌∙◌, ◌≢◌, [], eq-eqb, map}
 use Rattle.std.proofs.lemmas.Bool.{eqb-true, false_from_ne_true}
+use Rattle.dump_index.specs.Listed.{listed_of}
 use Rattle.dump_index.specs.steps.Keys.{has_effect_at}
 use Rattle.dump_index.specs.declared.order.Effect.TheVariants.{Moving}
 use Rattle.dump_index.specs.steps.Touching.{later, moves_within}
@@ -12,20 +13,22 @@ other : (byte : ℕ) → (byte ≢ 47) → nat_eq byte 47 ≡ false
 other byte isnt = false_from_ne_true (nat_eq byte 47) (λ is. isnt (eqb-true byte 47 is))
 
 pub loop-place-init : goal.loop-place-init
-loop-place-init c listed test keys here =
-    c.later-last.ensures ∙ ap₂ later here (c.latest_at.ensures Moving listed keys)
+loop-place-init c test keys here =
+    let listed = map listed_of c.args.changes.now in
+    c.later-last.ensures ∙ ap₂ later here (c.latest_at.ensures Moving keys)
     ∙ latest_or test (has_effect_at Moving listed []) c.args.count
     ∙ latest_same _ _ c.args.count (λ place low. within_none listed c.args.path.now test place)
 
 pub loop-place-preserved : goal.loop-place-preserved
-loop-place-preserved c listed test keys here =
+loop-place-preserved c test keys here =
+    let listed = map listed_of c.args.changes.now in
     let path = c.args.path.now in
     let k = c.loop-place.place in
-    let before = c.loop-place.invariant listed test keys here in
+    let before = c.loop-place.invariant test keys here in
     elim c.if-byte-eq47.branch [
       | then-byte-eq47 w ↦
           w.last-is ∙ w.later-last-then-byte-eq47.ensures
-          ∙ ap₂ later before (w.latest_at-then-byte-eq47.ensures Moving listed keys)
+          ∙ ap₂ later before (w.latest_at-then-byte-eq47.ensures Moving keys)
           ∙ latest_or (λ place. test place || moves_within k listed path place) (has_effect_at Moving listed (take k path)) c.args.count
           ∙ latest_same _ _ c.args.count (λ place low. within_more listed path test k c.loop-place-test.true
           (eq-eqb (get_or path k 0) 47 w.if-byte-eq47.true) place)
@@ -36,7 +39,8 @@ loop-place-preserved c listed test keys here =
     ]
 
 pub returns : goal.returns
-returns c listed test keys here =
-    c.loop-place.invariant listed test keys here
+returns c test keys here =
+    let listed = map listed_of c.args.changes.now in
+    c.loop-place.invariant test keys here
     ∙ latest_same _ _ c.args.count (λ place low. within_all listed c.args.path.now test c.loop-place.place
     c.loop-place-test.false place)

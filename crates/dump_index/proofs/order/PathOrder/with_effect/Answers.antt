@@ -1,25 +1,16 @@
 use Rattle.std.proofs.Common.{map, subst, sym, ◌∙◌, ap}
 use Rattle.std.specs.List.{filter}
-use Rattle.std.proofs.lemmas.List.Kept.{IsSortedBy-filter}
-use Rattle.std.proofs.lemmas.List.Sorted.{ranks_by}
 use Rattle.dump_index.specs.Listed.{listed_of}
 use Rattle.dump_index.specs.declared.order.Effect.TheVariants.{Any}
-use Rattle.dump_index.specs.steps.Keys.{HasKeys, IsSortedKeys, is_chosen, is_key_before, key_of}
-use Rattle.dump_index.proofs.KeyLemmas.{keys_chosen, keys_total}
+use Rattle.dump_index.specs.steps.Keys.{IsOrder, has_effect_here}
+use Rattle.dump_index.proofs.KeyLemmas.{order_chosen}
 use Rattle.dump_index.proofs.order.PathOrder.with_effect.Goals as goal
-
-pub invariant_of-result : goal.invariant_of-result
-invariant_of-result c =
-    let test = is_chosen c.args.effect (map listed_of c.args.changes.now) in
-    subst IsSortedKeys (sym (c.in_ok-keys.ensures ∙ ap (filter test) c.deref.ensures.value))
-    (IsSortedBy-filter (λ a b. is_key_before (key_of a) (key_of b)) (ranks_by keys_total key_of) test c.self.inside.keys.items
-    c.self.invariant)
 
 pub returns : goal.returns
 returns c =
     let listed = map listed_of c.args.changes.now in
-    let test = is_chosen c.args.effect listed in
-    subst (λ keys. HasKeys c.args.effect listed (map key_of keys))
-    (sym (c.in_ok-keys.ensures ∙ ap (filter test) c.deref.ensures.value))
-    (keys_chosen c.args.effect listed c.self.inside.keys.items
-    (subst (HasKeys Any listed) (sym c.self.view_is) c.requires))
+    let test = has_effect_here c.args.effect listed in
+    subst (IsOrder c.args.effect listed)
+    (sym (c.in_ok-places.ensures ∙ ap (filter test) c.deref.ensures.value))
+    (order_chosen c.args.effect listed c.self.inside.places.items
+    (subst (IsOrder Any listed) (sym c.self.view_is) c.requires))
