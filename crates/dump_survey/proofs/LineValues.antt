@@ -1,5 +1,5 @@
 -- Worked lines, computed and proved by the kernel.
-use Rattle.dump_survey.proofs.Prelude.{◌≡◌, ℕ, List, [], Option, Some, None, refl, codes, Ending, Finding, DumpFinding, FaultKind, CopySource}
+use Rattle.dump_survey.proofs.Prelude.{◌≡◌, ℕ, List, [], Option, Some, None, refl, codes, Ending, Finding, DumpFinding, CopySource}
 use Rattle.std.specs.Fmt.{digits}
 use Rattle.dump_text.specs.declared.fault.FaultKind.TheVariants.{HeaderCut}
 use Rattle.dump_survey.specs.Kinds.{dump_advice, dump_kind, dump_kind_line, dump_what, finding_advice, finding_kind, finding_what, kind_line}

@@ -147,6 +147,7 @@ pub use Rattle.dump_survey.specs.declared.prefix_findings.PrefixFinding.TheVaria
 pub use Rattle.dump_survey.specs.declared.prefix_findings.ToldPrefix.{ToldPrefix}
 pub use Rattle.dump_survey.specs.declared.revision_numbers.Numbers.{Numbers}
 pub use Rattle.dump_survey.specs.declared.surveyor.End.{End}
+pub use Rattle.dump_survey.specs.declared.surveyor.Known.{Known}
 pub use Rattle.dump_survey.specs.declared.surveyor.Step.{Step}
 pub use Rattle.dump_survey.specs.declared.surveyor.Step.TheVariants.{Finished, Node}
 pub use Rattle.dump_survey.specs.declared.surveyor.SurveyEnd.{SurveyEnd}

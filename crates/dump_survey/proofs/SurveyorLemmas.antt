@@ -1,5 +1,5 @@
 -- What a surveyor knows goes on to one more record, and tells what is found where the records end.
-use Rattle.dump_survey.proofs.Prelude.{◌≡◌, ◌⊎◌, ◌↔◌, ℕ, ◌+◌, ◌^◌, ◌<◌, ◌≤◌, Bool, true, false, not, ◌&&◌, ◌||◌, List, [], ◌∷◌, ◌++◌, length, length-append, map, filter, cond, Option, Some, None, refl, sym, ap, ap₂, ◌∙◌, subst, arith, inl, inr, Result, Ok, Err, IsTrue, MatchBool, list_all, and_from, Record, DumpRecord, record_text, is_lawful, IsCutInto, BeginsWithRecords, HasRecords, CutterState, EndsAfter, IsRecordOf, record_item, record_number, CutStep, count_fits, each_dump_has_one_list, begins_prefix, one_more, whole_list, Settings, bare_prefix, is_revision_record, is_node, alone, DumpPlaces, Place, DumpFindings, Tally, leaves_number, LeaveNumber, no_tally, next_tally, numbers_of, tally_behind, tally_findings, no_places, AreNextPlaces, ArePlaces, Finding, every_finding, is_found, AreFindingsOf, IsUnreadRevision, HasUnreadRevision, AreDumpFindingsOf, TellsNaming, findings_once, Found, End, SurveyEnd, Step, Node, Finished, Memory, Numbers, has_found, node_faults, IsFoundIn, AreNumbersBehind, SurveyedNode, NodeTold, IsToldOfNode, IsToldOf, told_in, told_naming, listed, told_of_finding, told_of_node, listed_findings, survey_ending, HaveSame, PrefixTold, AreWithout, is_touched_by, prefixes_by, Surveying, Surveys, IsStepOf, TellsEnd, ComesNext, open_behind, SurveyStep, ArePrefixesTold}
+use Rattle.dump_survey.proofs.Prelude.{◌≡◌, ◌⊎◌, ◌↔◌, ℕ, ◌+◌, ◌^◌, ◌<◌, ◌≤◌, Bool, true, false, not, ◌&&◌, ◌||◌, List, [], ◌∷◌, ◌++◌, length, length-append, map, filter, cond, Option, Some, None, refl, sym, ap, ap₂, ◌∙◌, subst, arith, inl, inr, Result, Ok, Err, IsTrue, MatchBool, list_all, and_from, Record, DumpRecord, record_text, is_lawful, IsCutInto, BeginsWithRecords, HasRecords, CutterState, EndsAfter, IsRecordOf, record_item, record_number, CutStep, count_fits, each_dump_has_one_list, begins_prefix, one_more, whole_list, Settings, bare_prefix, is_revision_record, is_node, alone, Place, DumpFindings, Tally, leaves_number, LeaveNumber, no_tally, next_tally, numbers_of, tally_behind, tally_findings, no_places, AreNextPlaces, ArePlaces, Finding, every_finding, is_found, AreFindingsOf, IsUnreadRevision, HasUnreadRevision, AreDumpFindingsOf, TellsNaming, findings_once, Found, End, Known, SurveyEnd, Step, Node, Finished, Memory, Numbers, has_found, node_faults, IsFoundIn, AreNumbersBehind, SurveyedNode, NodeTold, IsToldOfNode, IsToldOf, told_in, told_naming, listed, told_of_finding, told_of_node, listed_findings, survey_ending, HaveSame, PrefixTold, AreWithout, is_touched_by, prefixes_by, Surveying, Surveys, IsStepOf, TellsEnd, ComesNext, open_behind, SurveyStep, ArePrefixesTold}
 use Rattle.std.specs.Result.{IfOk}
 use Rattle.dump_records.specs.declared.cutter.Cut.TheVariants as cuts
 use Rattle.dump_survey.specs.declared.surveyor.Step.TheVariants.{Other}
@@ -63,17 +63,16 @@ begins_with_none dump =
     begins_prefix dump [] records (has.0, has.1, has.2)
 
 -- before the first record
-pub at_first : (dump : List ℕ) (settings : Settings) (prefixes idle : List (List ℕ)) (tally : Tally) (left unread : Bool)
-    (places : DumpPlaces) (cutter : CutterState) → cutter ≡ record { dump = dump; number = 0 }
-    → prefixes ≡ map bare_prefix settings.prefixes
-    → HaveSame idle (map bare_prefix settings.prefixes) → tally ≡ no_tally → left ≡ false → unread ≡ false
-    → places ≡ no_places → Surveys settings prefixes idle tally left unread places cutter
-at_first dump settings prefixes idle tally left unread places cutter is same all none not_left no_unread no_place = record {
+pub at_first : (dump : List ℕ) (settings : Settings) (prefixes : List (List ℕ)) (known : Known) (cutter : CutterState)
+    → cutter ≡ record { dump = dump; number = 0 } → prefixes ≡ map bare_prefix settings.prefixes
+    → HaveSame known.idle (map bare_prefix settings.prefixes) → known.tally ≡ no_tally → known.numbers_left ≡ false
+    → known.unread_revision ≡ false → known.places ≡ no_places → Surveys settings prefixes known cutter
+at_first dump settings prefixes known cutter is same all none not_left no_unread no_place = record {
   prefixes_are = same;
   before = [];
   begins = begins_with_none cutter.dump;
   count = sym (ap (λ (c : CutterState). c.number) is);
-  idle_are = all_idle settings.prefixes idle all;
+  idle_are = all_idle settings.prefixes known.idle all;
   tallied = none;
   left_is = λ names tells. not_left;
   unread_is = subst (λ b. IsTrue b ↔ HasUnreadRevision []) (sym no_unread) none_unread;
@@ -128,16 +127,15 @@ told_of settings before revision r found told node are is =
     subst (λ (b : Bool). MatchBool b (IsToldOfNode settings before revision r told) (told ≡ []))
     (sym node) (found, are, is)
 
-module _ (settings : Settings) (prefixes idle : List (List ℕ)) (tally : Tally) (left unread : Bool)
-    (places : DumpPlaces) (cutter after : CutterState)
-    (knows : Surveys settings prefixes idle tally left unread places cutter) where
+module _ (settings : Settings) (prefixes : List (List ℕ)) (known : Known) (cutter after : CutterState)
+    (knows : Surveys settings prefixes known cutter) where
   -- the surveyor as callers see it
   abbrev seen : CutterState → Surveying
   seen c = record { dump = c.dump; settings = settings; number = c.number }
 
   -- what is known where the records end
   pub ended : (end : End) (told : SurveyEnd) → EndsAfter cutter.dump cutter.number (survey_ending end)
-      → after ≡ cutter → TellsEnd tally left unread places end told
+      → after ≡ cutter → TellsEnd known end told
       → SurveyStep (seen cutter) (Finished told) (seen after)
   ended end told ends same (end_is, places_is, found) =
       let begins = knows.begins in
@@ -148,9 +146,9 @@ module _ (settings : Settings) (prefixes idle : List (List ℕ)) (tally : Tally)
         knows.count,
         told_where_ended settings knows.before told
             (subst (AreDumpFindingsOf settings knows.before)
-            (sym (found ∙ ap (λ (t : Tally). tally_findings t left unread) knows.tallied))
-            (tally_tells settings knows.before left unread (begun_single cutter.dump knows.before begins) knows.left_is
-            knows.unread_is))
+            (sym (found ∙ ap (λ (t : Tally). tally_findings t known.numbers_left known.unread_revision) knows.tallied))
+            (tally_tells settings knows.before known.numbers_left known.unread_revision
+            (begun_single cutter.dump knows.before begins) knows.left_is knows.unread_is))
             (subst (ArePlaces settings knows.before) (sym places_is) knows.places_are),
         subst (ArePlaces settings knows.before) (sym places_is) knows.places_are,
         ap seen same,
@@ -161,7 +159,7 @@ module _ (settings : Settings) (prefixes idle : List (List ℕ)) (tally : Tally)
     next_begins = comes_next cutter.dump knows.before cutter.number (record_item item) knows.begins knows.count step.2
 
     -- the tally has room for one more revision
-    pub room : tally.count + 1 < 2 ^ 64
+    pub room : known.tally.count + 1 < 2 ^ 64
     room =
         let within = count_within settings no_tally knows.before in
         let same = ap (λ (t : Tally). t.count) knows.tallied in
@@ -171,14 +169,14 @@ module _ (settings : Settings) (prefixes idle : List (List ℕ)) (tally : Tally)
         omega arith
 
     -- the tally goes on with the record
-    next_tallied : (next : Tally) → next ≡ next_tally settings tally (record_item item)
+    next_tallied : (next : Tally) → next ≡ next_tally settings known.tally (record_item item)
         → next ≡ tally_behind settings no_tally (knows.before ++ record_item item ∷ [])
     next_tallied next is = is ∙ (ap (λ t. next_tally settings t (record_item item)) knows.tallied
         ∙ sym (tally_more settings no_tally knows.before (record_item item)))
 
     -- and so does what is known of numbers that are left
     next_left : (still : Bool) → ((names : DumpRecord → Bool) → TellsNaming names
-        → still ≡ (left || leaves_number settings names tally (record_item item)))
+        → still ≡ (known.numbers_left || leaves_number settings names known.tally (record_item item)))
         → LeaveNumber settings (knows.before ++ record_item item ∷ []) still
     next_left still still_is = λ names tells. still_is names tells
         ∙ (ap₂ (λ b (t : Tally). b || leaves_number settings names t (record_item item)) (knows.left_is names tells)
@@ -187,7 +185,7 @@ module _ (settings : Settings) (prefixes idle : List (List ℕ)) (tally : Tally)
 
     -- so this is found with the record
     next_found : (next : Tally) (still unread_still : Bool) (flags : DumpFindings)
-        → next ≡ next_tally settings tally (record_item item)
+        → next ≡ next_tally settings known.tally (record_item item)
         → LeaveNumber settings (knows.before ++ record_item item ∷ []) still
         → IsTrue unread_still ↔ HasUnreadRevision (knows.before ++ record_item item ∷ [])
         → listed_findings flags ≡ tally_findings next still unread_still
@@ -199,30 +197,32 @@ module _ (settings : Settings) (prefixes idle : List (List ℕ)) (tally : Tally)
         (begun_single cutter.dump (knows.before ++ record_item item ∷ []) next_begins) left_is unread_is)
 
     -- and the surveyor goes on
-    pub goes_on : (others : List (List ℕ)) (next : Tally) (still unread_still : Bool)
-        → AreWithout (is_touched_by (record_item item)) idle others
-        → next ≡ next_tally settings tally (record_item item)
+    pub goes_on : (next : Known) → AreWithout (is_touched_by (record_item item)) known.idle next.idle
+        → next.tally ≡ next_tally settings known.tally (record_item item)
         → ((names : DumpRecord → Bool) → TellsNaming names
-        → still ≡ (left || leaves_number settings names tally (record_item item)))
-        → IsTrue unread_still ↔ (IsTrue unread ⊎ IsUnreadRevision (record_item item))
-        → (flags : DumpFindings) → listed_findings flags ≡ tally_findings next still unread_still
+        → next.numbers_left ≡ (known.numbers_left || leaves_number settings names known.tally (record_item item)))
+        → IsTrue next.unread_revision ↔ (IsTrue known.unread_revision ⊎ IsUnreadRevision (record_item item))
+        → (flags : DumpFindings)
+        → listed_findings flags ≡ tally_findings next.tally next.numbers_left next.unread_revision
         → (here : Place) → here ≡ record { number = record_number item; place = (record_item item).place }
-        → (new : DumpPlaces) → AreNextPlaces places flags here new
-        → Surveys settings prefixes others next still unread_still new after
-    goes_on others next still unread_still without is still_is unread_so flags flags_are here here_is new new_are = record {
+        → AreNextPlaces known.places flags here next.places → Surveys settings prefixes next after
+    goes_on next without is still_is unread_so flags flags_are here here_is new_are = record {
       prefixes_are = knows.prefixes_are;
       before = knows.before ++ record_item item ∷ [];
       begins = subst (λ (c : CutterState). BeginsWithRecords c.dump (knows.before ++ record_item item ∷ []))
           (sym step.3) next_begins;
       count = length-append knows.before (record_item item ∷ [])
           ∙ (ap (λ n. n + 1) knows.count ∙ sym (ap (λ (c : CutterState). c.number) step.3));
-      idle_are = idle_more knows.before (record_item item) settings.prefixes idle others knows.idle_are without;
-      tallied = next_tallied next is;
-      left_is = next_left still still_is;
-      unread_is = unread_more knows.before (record_item item) unread unread_still knows.unread_is unread_so;
-      places_are = places_next settings knows.before (record_item item) places new flags here knows.places_are
-          (next_found next still unread_still flags is (next_left still still_is)
-          (unread_more knows.before (record_item item) unread unread_still knows.unread_is unread_so) flags_are)
+      idle_are = idle_more knows.before (record_item item) settings.prefixes known.idle next.idle knows.idle_are without;
+      tallied = next_tallied next.tally is;
+      left_is = next_left next.numbers_left still_is;
+      unread_is = unread_more knows.before (record_item item) known.unread_revision next.unread_revision
+          knows.unread_is unread_so;
+      places_are = places_next settings knows.before (record_item item) known.places next.places flags here
+          knows.places_are (next_found next.tally next.numbers_left next.unread_revision flags is
+          (next_left next.numbers_left still_is)
+          (unread_more knows.before (record_item item) known.unread_revision next.unread_revision knows.unread_is
+          unread_so) flags_are)
           (here_is ∙ ap (λ n. record { number = n; place = (record_item item).place }) (step.1 ∙ sym knows.count))
           new_are;
     }
@@ -230,11 +230,11 @@ module _ (settings : Settings) (prefixes idle : List (List ℕ)) (tally : Tally)
     comes : ComesNext (seen cutter) knows.before (record_item item) (seen after)
     comes = record { begins = next_begins; count = knows.count; next = ap seen step.3 }
 
-    present : present_number tally.present ≡ open_behind None knows.before
+    present : present_number known.tally.present ≡ open_behind None knows.before
     present = ap (λ (t : Tally). present_number t.present) knows.tallied ∙ present_is settings no_tally knows.before
 
     -- what is found in the record is told
-    pub stepped : (told : Step) → IsStepOf settings item tally told → SurveyStep (seen cutter) told (seen after)
+    pub stepped : (told : Step) → IsStepOf settings item known.tally told → SurveyStep (seen cutter) told (seen after)
     stepped (Finished end) is = absurd is
     stepped Other is = (
       knows.before,
@@ -259,8 +259,8 @@ module _ (settings : Settings) (prefixes idle : List (List ℕ)) (tally : Tally)
       node_is,
       subst (λ (p : Option ℕ). IsToldOf settings knows.before p r (told_of_node node)) (sym revision ∙ present)
           (told_of settings knows.before node.revision r (listed node.found) (told_of_node node) node_is
-          (found_is settings knows.before (numbers_of tally node.revision) r node.found behind finds)
-          (told_as settings (numbers_of tally node.revision) node finds
+          (found_is settings knows.before (numbers_of known.tally node.revision) r node.found behind finds)
+          (told_as settings (numbers_of known.tally node.revision) node finds
           ∙ ap (λ n. map (told_in settings n node.revision r) (listed node.found)) (number ∙ sym knows.count))),
     )
       where
@@ -273,11 +273,11 @@ module _ (settings : Settings) (prefixes idle : List (List ℕ)) (tally : Tally)
         node_is : is_node r ≡ true
         node_is = ap (λ (i : Record). is_node (record_item i)) same ∙ is
 
-        finds : IsFoundIn settings (numbers_of tally node.revision) r node.found
-        finds = subst (λ (i : Record). IsFoundIn settings (numbers_of tally node.revision) (record_item i) node.found)
+        finds : IsFoundIn settings (numbers_of known.tally node.revision) r node.found
+        finds = subst (λ (i : Record). IsFoundIn settings (numbers_of known.tally node.revision) (record_item i) node.found)
             (sym same) found
 
-        behind : AreNumbersBehind settings knows.before r (numbers_of tally node.revision)
+        behind : AreNumbersBehind settings knows.before r (numbers_of known.tally node.revision)
         behind = subst (λ (t : Tally). AreNumbersBehind settings knows.before r (numbers_of t node.revision))
             (sym knows.tallied) (numbers_behind settings knows.before r node.revision
             (subst (λ (i : Record). list_all is_single (knows.before ++ record_item i ∷ []) ≡ true) (sym same)
@@ -285,22 +285,22 @@ module _ (settings : Settings) (prefixes idle : List (List ℕ)) (tally : Tally)
             (ap (λ (t : Tally). present_number t.present) (sym knows.tallied) ∙ revision))
 
     -- so where there was memory
-    pub stepped_ok : (result : Result Step Memory) → IfOk result (IsStepOf settings item tally)
+    pub stepped_ok : (result : Result Step Memory) → IfOk result (IsStepOf settings item known.tally)
         → IfOk result (λ told. SurveyStep (seen cutter) told (seen after))
     stepped_ok (Ok told) is = stepped told is
     stepped_ok (Err e) is = tt
 
 -- what is told of the prefixes, where there was memory
-pub told_so_far : (settings : Settings) (prefixes idle : List (List ℕ)) (tally : Tally) (left unread : Bool)
-    (places : DumpPlaces) (cutter : CutterState) → Surveys settings prefixes idle tally left unread places cutter → (given : List (List ℕ)) → given ≡ settings.prefixes
+pub told_so_far : (settings : Settings) (prefixes : List (List ℕ)) (known : Known) (cutter : CutterState)
+    → Surveys settings prefixes known cutter → (given : List (List ℕ)) → given ≡ settings.prefixes
     → {V : Type 0} (view : V → List PrefixTold) (result : Result V Memory)
-    → IfOk result (λ told. view told ≡ prefixes_by idle given)
+    → IfOk result (λ told. view told ≡ prefixes_by known.idle given)
     → IfOk result (λ told. ArePrefixesTold (record { dump = cutter.dump; settings = settings; number = cutter.number })
     (view told))
-told_so_far settings prefixes idle tally left unread places cutter knows given same view (Err e) is = tt
-told_so_far settings prefixes idle tally left unread places cutter knows given same view (Ok told) is = (
+told_so_far settings prefixes known cutter knows given same view (Err e) is = tt
+told_so_far settings prefixes known cutter knows given same view (Ok told) is = (
   knows.before,
   knows.begins,
   knows.count,
-  is ∙ (ap (prefixes_by idle) same ∙ told_by_idle knows.before settings.prefixes idle knows.idle_are),
+  is ∙ (ap (prefixes_by known.idle) same ∙ told_by_idle knows.before settings.prefixes known.idle knows.idle_are),
 )

@@ -52,14 +52,12 @@ pub enum Step<'o, 'a> {
     Finished(SurveyEnd),
 }
 
-/// Gives what is found in each record of a dump, in their order.
+/// What a surveyor knows of the records that it has given.
 #[derive(Drop)]
-pub struct Surveyor<'o, 'a> {
-    cutter: Cutter<'a>,
-    options: &'o Options,
-    prefixes: Prefixes<'o>,
-    /// Those that no node has matched so far.
+pub(crate) struct Known {
+    /// The prefixes that no node has matched.
     idle: PrefixSet,
+    /// What the records add up to.
     tally: Tally,
     /// Whether a kept node named a revision after a dropped one, and revisions aren't renumbered.
     numbers_left: bool,
@@ -69,6 +67,15 @@ pub struct Surveyor<'o, 'a> {
     places: DumpPlaces,
 }
 
+/// Gives what is found in each record of a dump, in their order.
+#[derive(Drop)]
+pub struct Surveyor<'o, 'a> {
+    cutter: Cutter<'a>,
+    options: &'o Options,
+    prefixes: Prefixes<'o>,
+    known: Known,
+}
+
 impl<'o, 'a> Model for Surveyor<'o, 'a> {
     ghost use Rattle.dump_survey.specs.steps.Surveying.{Surveying, Surveys};
 
@@ -76,8 +83,7 @@ impl<'o, 'a> Model for Surveyor<'o, 'a> {
 
     ghost view = { λ s. record { dump = s.cutter.dump; settings = s.options.now; number = s.cutter.number } };
 
-    ghost invariant = { λ s. Surveys s.options.now s.prefixes s.idle s.tally s.numbers_left s.unread_revision
-        s.places s.cutter };
+    ghost invariant = { λ s. Surveys s.options.now s.prefixes s.known s.cutter };
 }
 
 /// Where a record is.
@@ -118,20 +124,15 @@ fn step_of<'o, 'a>(
     }))
 }
 
-/// What is known after the records of this tally, which end so, leave numbers or not, and have a revision whose
-/// properties can't be read or none; these are the places.
-fn finished(
-    tally: &Tally,
-    numbers_left: bool,
-    unread_revision: bool,
-    places: DumpPlaces,
-    end: End,
-) -> SurveyEnd
-    ensures { TellsEnd tally.now numbers_left unread_revision places end result }
+/// What a surveyor reports that knows this of the records, which end so.
+fn finished(known: &Known, end: End) -> SurveyEnd
+    ensures { TellsEnd known.now end result }
 {
     SurveyEnd {
-        dump: tally.findings(numbers_left, unread_revision),
-        places,
+        dump: known
+            .tally
+            .findings(known.numbers_left, known.unread_revision),
+        places: known.places,
         end,
     }
 }
@@ -154,11 +155,13 @@ impl<'o, 'a> Surveyor<'o, 'a> {
             cutter: Cutter::new(dump),
             options,
             prefixes,
-            idle,
-            tally: Tally::new(),
-            numbers_left: false,
-            unread_revision: false,
-            places: DumpPlaces::new(),
+            known: Known {
+                idle,
+                tally: Tally::new(),
+                numbers_left: false,
+                unread_revision: false,
+                places: DumpPlaces::new(),
+            },
         })
     }
 
@@ -170,34 +173,26 @@ impl<'o, 'a> Surveyor<'o, 'a> {
         let item = match self.cutter.next() {
             Cut::Item(item) => item,
             Cut::Finished => {
-                let end = finished(
-                    &self.tally,
-                    self.numbers_left,
-                    self.unread_revision,
-                    self.places,
-                    End::Whole,
-                );
+                let end = finished(&self.known, End::Whole);
                 return Ok(Step::Finished(end));
             }
             Cut::Fault { kind, place } => {
-                let end = finished(
-                    &self.tally,
-                    self.numbers_left,
-                    self.unread_revision,
-                    self.places,
-                    End::Broken { kind, place },
-                );
+                let end = finished(&self.known, End::Broken { kind, place });
                 return Ok(Step::Finished(end));
             }
         };
-        leave_touched(&mut self.idle, &item);
-        let before = self.tally;
+        leave_touched(&mut self.known.idle, &item);
+        let before = self.known.tally;
         let kept = is_kept(&item, self.options);
-        self.numbers_left = self.numbers_left || leaves_number(&item, kept, self.options, &before);
-        self.unread_revision = self.unread_revision || is_unread_revision(&item);
-        self.tally = before.with(&item, kept, self.options);
-        let found = self.tally.findings(self.numbers_left, self.unread_revision);
-        self.places.note(&found, place_of(&item));
+        self.known.numbers_left = self.known.numbers_left
+            || leaves_number(&item, kept, self.options, &before);
+        self.known.unread_revision = self.known.unread_revision || is_unread_revision(&item);
+        self.known.tally = before.with(&item, kept, self.options);
+        let found = self
+            .known
+            .tally
+            .findings(self.known.numbers_left, self.known.unread_revision);
+        self.known.places.note(&found, place_of(&item));
         step_of(alloc, item, kept, self.options, &self.prefixes, &before)
     }
 
@@ -206,6 +201,6 @@ impl<'o, 'a> Surveyor<'o, 'a> {
         ensures { IfOk result (λ told. ArePrefixesTold self.now (map prefix_view told.items)) }
     {
         let given = given_prefixes(alloc, self.options)?;
-        told_prefixes(alloc, &given, &self.idle)
+        told_prefixes(alloc, &given, &self.known.idle)
     }
 }

@@ -1,5 +1,5 @@
 -- What a surveyor gives, call by call.
-use Rattle.std.specs.Prelude.{◌≡◌, ◌⊎◌, ℕ, ◌+◌, Bool, true, false, List, [], ◌∷◌, ◌++◌, length, Option, Some, None, option_map}
+use Rattle.std.specs.Prelude.{◌≡◌, ◌⊎◌, ℕ, ◌+◌, true, false, List, [], ◌∷◌, ◌++◌, length, Option, Some, None, option_map}
 use Rattle.dump_records.specs.declared.record.Record.{Record}
 use Rattle.dump_records.specs.RecordText.{DumpRecord}
 use Rattle.dump_records.specs.DumpText.{BeginsWithRecords, HasRecords}
@@ -9,10 +9,10 @@ use Rattle.dump_digest.specs.RecordParts.{is_node}
 use Rattle.dump_survey.specs.declared.tally.Present.{Present}
 use Rattle.dump_survey.specs.declared.tally.Tally.{Tally}
 use Rattle.dump_survey.specs.declared.surveyor.End.{End}
+use Rattle.dump_survey.specs.declared.surveyor.Known.{Known}
 use Rattle.dump_survey.specs.declared.surveyor.SurveyEnd.{SurveyEnd}
 use Rattle.dump_survey.specs.declared.surveyor.Step.{Step}
 use Rattle.dump_survey.specs.declared.surveyor.Step.TheVariants.{Node, Other, Finished}
-use Rattle.dump_survey.specs.declared.places.DumpPlaces.{DumpPlaces}
 use Rattle.dump_survey.specs.DumpFindings.{listed_findings}
 use Rattle.dump_survey.specs.DumpTold.{told_at_end, ArePlaces, AreDumpTold}
 use Rattle.dump_survey.specs.steps.Found.{IsFoundIn}
@@ -32,11 +32,10 @@ IsStepOf settings item tally (Node node) = (node.item ≡ item)
 IsStepOf settings item tally Other = (tally.present ≡ None) ⊎ (is_node (record_item item) ≡ false)
 IsStepOf settings item tally (Finished end) = ⊥
 
--- this end is given, and what is found after the records of the tally, which leave numbers or not, and have a revision
--- whose properties can't be read or none, with these places
-abbrev pub TellsEnd : Tally → (left unread : Bool) → DumpPlaces → End → SurveyEnd → Type 0
-TellsEnd tally left unread places end told =
-    (told.end ≡ end) × (told.places ≡ places) × (listed_findings told.dump ≡ tally_findings tally left unread)
+-- this end is given, and what is found after the records of which this is known, with their places
+abbrev pub TellsEnd : Known → End → SurveyEnd → Type 0
+TellsEnd known end told = (told.end ≡ end) × (told.places ≡ known.places)
+    × (listed_findings told.dump ≡ tally_findings known.tally known.numbers_left known.unread_revision)
 
 -- the revision that a node belongs to which comes after these records, if it would have belonged to this one
 abbrev pub open_behind : Option ℕ → List DumpRecord → Option ℕ

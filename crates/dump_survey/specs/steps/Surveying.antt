@@ -1,14 +1,13 @@
 -- What the contracts see of a surveyor, and what it knows.
-use Rattle.std.specs.Prelude.{◌≡◌, ◌↔◌, ℕ, Bool, List, length, map, IsTrue}
+use Rattle.std.specs.Prelude.{◌≡◌, ◌↔◌, ℕ, List, length, map, IsTrue}
 use Rattle.dump_records.specs.RecordText.{DumpRecord}
 use Rattle.dump_records.specs.DumpText.{BeginsWithRecords}
 use Rattle.dump_records.specs.steps.CutterState.{CutterState}
 use Rattle.dump_rules.specs.Settings.{Settings}
 use Rattle.dump_rules.specs.Prefix.{bare_prefix}
 use Rattle.dump_history.specs.Findings.{HasUnreadRevision}
-use Rattle.dump_survey.specs.declared.tally.Tally.{Tally}
+use Rattle.dump_survey.specs.declared.surveyor.Known.{Known}
 use Rattle.dump_survey.specs.steps.IdlePrefixes.{AreIdle}
-use Rattle.dump_survey.specs.declared.places.DumpPlaces.{DumpPlaces}
 use Rattle.dump_survey.specs.steps.Naming.{LeaveNumber}
 use Rattle.dump_survey.specs.DumpTold.{ArePlaces}
 use Rattle.dump_survey.specs.steps.Tally.{no_tally, tally_behind}
@@ -19,17 +18,16 @@ pub record Surveying : Type 0 where
   pub settings : Settings
   pub number : ℕ
 
--- it holds the options' prefixes, those of them that the records that the cutter has given leave idle, their tally,
--- whether they leave numbers, and have a revision whose properties can't be read, and which of them causes each finding
--- in the dump as a whole
-pub record Surveys (settings : Settings) (prefixes idle : List (List ℕ)) (tally : Tally) (left unread : Bool)
-    (places : DumpPlaces) (cutter : CutterState) : Type 0 where
+-- it holds the options' prefixes, and of the records that the cutter has given: the prefixes that they leave idle, their
+-- tally, whether they leave numbers, and have a revision whose properties can't be read, and which of them causes each
+-- finding in the dump as a whole
+pub record Surveys (settings : Settings) (prefixes : List (List ℕ)) (known : Known) (cutter : CutterState) : Type 0 where
   pub prefixes_are : prefixes ≡ map bare_prefix settings.prefixes
   pub before : List DumpRecord
   pub begins : BeginsWithRecords cutter.dump before
   pub count : length before ≡ cutter.number
-  pub idle_are : AreIdle before settings.prefixes idle
-  pub tallied : tally ≡ tally_behind settings no_tally before
-  pub left_is : LeaveNumber settings before left
-  pub unread_is : IsTrue unread ↔ HasUnreadRevision before
-  pub places_are : ArePlaces settings before places
+  pub idle_are : AreIdle before settings.prefixes known.idle
+  pub tallied : known.tally ≡ tally_behind settings no_tally before
+  pub left_is : LeaveNumber settings before known.numbers_left
+  pub unread_is : IsTrue known.unread_revision ↔ HasUnreadRevision before
+  pub places_are : ArePlaces settings before known.places
