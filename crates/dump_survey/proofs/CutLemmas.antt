@@ -38,15 +38,15 @@ cut_there settings path other = by settings.side
     by Include = refl
     by Exclude = some_passes test settings.prefixes ∙ not_all test settings.prefixes
 
--- so where one is told, and not where none is
-pub told_cut : {E : Type 0} (settings : Settings) (path other : List ℕ) → settings.side ≡ Exclude
+-- so where one is reported, and not where none is
+pub reported_cut : {E : Type 0} (settings : Settings) (path other : List ℕ) → settings.side ≡ Exclude
     → (result : Result (Option (Bor (List ℕ))) E)
     → IfOk result (λ found. option_copied found ≡ first_cut Exclude settings path other)
     → IfOk result (λ found. is_some found ≡ cuts settings path other)
-told_cut settings path other excluded (Ok found) is =
+reported_cut settings path other excluded (Ok found) is =
     some_copied found ∙ (ap is_some (is ∙ ap (λ side. first_cut side settings path other) (sym excluded))
     ∙ cut_there settings path other)
-told_cut settings path other excluded (Err e) is = tt
+reported_cut settings path other excluded (Err e) is = tt
 
 -- the prefix of which the bare one stands at this place
 prefix_at : (all : List (List ℕ)) (items : List (Bor (List ℕ))) (n : ℕ) (d : Bor (List ℕ)) → n < length items

@@ -1,4 +1,4 @@
--- Worked values of the prefix that is told with a copy, computed and proved by the kernel.
+-- Worked values of the prefix that is reported with a copy, computed and proved by the kernel.
 use Rattle.dump_survey.proofs.Prelude.{◌≡◌, ℕ, false, List, [], ◌∷◌, Some, None, refl, codes, DumpRecord, Side, Include, Exclude, Pad, Settings, Finding, line, record_at, cutting_prefix}
 use Rattle.dump_survey.specs.Lines.{cut_words, shown_byte}
 
@@ -43,7 +43,7 @@ of_the_copy = refl
 of_no_side : cutting_prefix (call Exclude (codes "o" ∷ [])) copy Finding.CopyLetsIn ≡ None
 of_no_side = refl
 
--- it is told as it was given
+-- it is reported as it was given
 with_its_slashes : cutting_prefix (call Exclude (codes "/t/f//" ∷ [])) copy Finding.CopyLoses
     ≡ Some (codes "/t/f//")
 with_its_slashes = refl

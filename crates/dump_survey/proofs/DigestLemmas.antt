@@ -1,5 +1,5 @@
 -- Where a survey tells nothing, a record has no fault but that of a digest.
-use Rattle.dump_survey.proofs.Prelude.{◌≡◌, ℕ, ◌<◌, Bool, true, false, not, ◌&&◌, ◌||◌, List, [], ◌∷◌, ◌++◌, length, map, Option, Some, None, is_some, is_none, if◌then◌else◌, MatchBool, Contains, refl, sym, ap, ◌∙◌, subst, inl, inr, arith, append-nil, append_assoc, last_or, both_ways, and_parts, or_cases, Contains-append_right, FaultKind, Property, first_true, second_true, DumpRecord, Settings, finds, is_revision_record, is_node, is_kept_node, has_lost_source, HasPropertyBlock, group_of, groups, group_number, revision_number, revision_numbers, is_whole_file, stays_copy, ends_in_group, HoldsOfRecord, has_ordered_nodes, go_up, Finding, every_finding, NodeFaults, is_found, has_kept_path, IsReadBlock, AreFindingsOf, rise, IsUnreadRevision, AreDumpFindingsOf, none_passes, numbers_rise, all_read, nodes_stand, NodeTold, told_in, present_after, IsToldOfNode, IsToldOf, AreTold, open_behind, is_digest_fault}
+use Rattle.dump_survey.proofs.Prelude.{◌≡◌, ℕ, ◌<◌, Bool, true, false, not, ◌&&◌, ◌||◌, List, [], ◌∷◌, ◌++◌, length, map, Option, Some, None, is_some, is_none, if◌then◌else◌, MatchBool, Contains, refl, sym, ap, ◌∙◌, subst, inl, inr, arith, append-nil, append_assoc, last_or, both_ways, and_parts, or_cases, Contains-append_right, FaultKind, Property, first_true, second_true, DumpRecord, Settings, finds, is_revision_record, is_node, is_kept_node, has_lost_source, HasPropertyBlock, group_of, groups, group_number, revision_number, revision_numbers, is_whole_file, stays_copy, ends_in_group, HoldsOfRecord, has_ordered_nodes, go_up, Finding, every_finding, NodeFaults, is_found, has_kept_path, IsReadBlock, AreFindingsOf, rise, IsUnreadRevision, AreDumpFindingsOf, none_passes, numbers_rise, all_read, nodes_stand, NodeReport, reported_in, present_after, IsReportedOfNode, IsReportedOf, AreReported, open_behind, is_digest_fault}
 use Rattle.std.specs.Prelude.{nat_lt}
 use Rattle.dump_text.specs.declared.fault.FaultKind.TheVariants as faults
 
@@ -69,44 +69,44 @@ rises_past : (ns ms : List ℕ) (n p : ℕ) → rise (ns ++ n ∷ ms) ≡ true �
 rises_past [] ms n p up last = absurd (let bad : None ≡ Some p = last in cc)
 rises_past (x ∷ ns) ms n p up last = above_last x ns ms n p up last
 
--- what is told
+-- what is reported
 
--- where nothing is told of records, nothing is of each
-told_at : (settings : Settings) (front before after : List DumpRecord) (present : Option ℕ) (r : DumpRecord)
-    → AreTold settings front present (before ++ r ∷ after) []
-    → IsToldOf settings (front ++ before) (open_behind present before) r []
-told_at settings front [] after present r (this, others, is, one, more) =
-    subst (λ rs. IsToldOf settings rs present r []) (sym (append-nil front))
-    (subst (IsToldOf settings front present r) (none this others is) one)
+-- where nothing is reported of records, nothing is of each
+reported_at : (settings : Settings) (front before after : List DumpRecord) (present : Option ℕ) (r : DumpRecord)
+    → AreReported settings front present (before ++ r ∷ after) []
+    → IsReportedOf settings (front ++ before) (open_behind present before) r []
+reported_at settings front [] after present r (this, others, is, one, more) =
+    subst (λ rs. IsReportedOf settings rs present r []) (sym (append-nil front))
+    (subst (IsReportedOf settings front present r) (none this others is) one)
   where
-    none : (xs ys : List NodeTold) → [] ≡ xs ++ ys → xs ≡ []
+    none : (xs ys : List NodeReport) → [] ≡ xs ++ ys → xs ≡ []
     none [] ys is = refl
     none (x ∷ xs) ys is = cc
-told_at settings front (x ∷ before) after present r (this, others, is, one, more) =
-    subst (λ rs. IsToldOf settings rs (open_behind (present_after present x) before) r [])
+reported_at settings front (x ∷ before) after present r (this, others, is, one, more) =
+    subst (λ rs. IsReportedOf settings rs (open_behind (present_after present x) before) r [])
     (append_assoc front (x ∷ []) before)
-    (told_at settings (front ++ x ∷ []) before after (present_after present x) r
-    (subst (AreTold settings (front ++ x ∷ []) (present_after present x) (before ++ r ∷ after))
+    (reported_at settings (front ++ x ∷ []) before after (present_after present x) r
+    (subst (AreReported settings (front ++ x ∷ []) (present_after present x) (before ++ r ∷ after))
     (none this others is) more))
   where
-    none : (xs ys : List NodeTold) → [] ≡ xs ++ ys → ys ≡ []
+    none : (xs ys : List NodeReport) → [] ≡ xs ++ ys → ys ≡ []
     none [] ys is = sym is
     none (x ∷ xs) ys is = cc
 
 -- so nothing is found in a node of a revision
 none_of_node : (settings : Settings) (before : List DumpRecord) (present : Option ℕ) (r : DumpRecord)
-    → is_some present ≡ true → is_node r ≡ true → IsToldOf settings before present r []
+    → is_some present ≡ true → is_node r ≡ true → IsReportedOf settings before present r []
     → AreFindingsOf settings before r []
-none_of_node settings before None r bad node told = cc
-none_of_node settings before (Some revision) r some node told =
+none_of_node settings before None r bad node reported = cc
+none_of_node settings before (Some revision) r some node reported =
     let (found, are, is) =
-    subst (λ (b : Bool). MatchBool b (IsToldOfNode settings before revision r nothing) (nothing ≡ [])) node told in
+    subst (λ (b : Bool). MatchBool b (IsReportedOfNode settings before revision r nothing) (nothing ≡ [])) node reported in
     subst (AreFindingsOf settings before r) (none found is) are
   where
-    nothing : List NodeTold
+    nothing : List NodeReport
     nothing = []
 
-    none : (fs : List Finding) → [] ≡ map (told_in settings (length before) revision r) fs → fs ≡ []
+    none : (fs : List Finding) → [] ≡ map (reported_in settings (length before) revision r) fs → fs ≡ []
     none [] is = refl
     none (f ∷ fs) is = cc
 
@@ -187,11 +187,11 @@ module _ (settings : Settings) (before : List DumpRecord) (r : DumpRecord) (othe
   other_digests faults.Lengths h order read = absurd h
   other_digests faults.ContentCut h order read = absurd h
 
--- so where nothing is told of a dump no record has another one
+-- so where nothing is reported of a dump no record has another one
 pub digests_alone : (settings : Settings) (records before after : List DumpRecord) (r : DumpRecord) (kind : FaultKind)
-    → AreDumpFindingsOf settings records [] → AreTold settings [] None records [] → records ≡ before ++ r ∷ after
+    → AreDumpFindingsOf settings records [] → AreReported settings [] None records [] → records ≡ before ++ r ∷ after
     → HoldsOfRecord settings before r kind → is_digest_fault kind ≡ true
-digests_alone settings records before after r kind nothing told are holds = by (is_node r) refl
+digests_alone settings records before after r kind nothing reported are holds = by (is_node r) refl
   where
     ordered : has_ordered_nodes false (before ++ r ∷ after) ≡ true
     ordered = subst (λ rs. has_ordered_nodes false rs ≡ true) are (nodes_stand settings records nothing)
@@ -221,5 +221,5 @@ digests_alone settings records before after r kind nothing told are holds = by (
     by : (b : Bool) → is_node r ≡ b → is_digest_fault kind ≡ true
     by true node = node_digests settings before r
         (none_of_node settings before (open_behind None before) r (belongs None before after r ordered node) node
-        (told_at settings [] before after None r (subst (λ rs. AreTold settings [] None rs []) are told))) kind holds order
+        (reported_at settings [] before after None r (subst (λ rs. AreReported settings [] None rs []) are reported))) kind holds order
     by false other = other_digests settings before r other kind holds order read

@@ -138,32 +138,32 @@ next_front bare n low =
     ++ map (λ front. t ++ front) (fronts (drop (n + 1) bare))) (sym (take_more bare n 0 low)))
 
 -- at a place the path before it is added, where a slash stands there and it isn't kept
-pub place_adds : (settings : Settings) (told : List (List ℕ)) (bare : List ℕ) (n : ℕ) → n < length bare
+pub place_adds : (settings : Settings) (reported : List (List ℕ)) (bare : List ℕ) (n : ℕ) → n < length bare
     → get_or bare n 0 ≡ 47 → keeps_path settings (take n bare) ≡ false
-    → each_once told (left_of settings (fronts_from bare n))
-    ≡ each_once (with_new told (take n bare)) (left_of settings (fronts_from bare (n + 1)))
-place_adds settings told bare n low slash left =
-    ap (λ texts. each_once told (left_of settings texts)) (next_front bare n low
+    → each_once reported (left_of settings (fronts_from bare n))
+    ≡ each_once (with_new reported (take n bare)) (left_of settings (fronts_from bare (n + 1)))
+place_adds settings reported bare n low slash left =
+    ap (λ texts. each_once reported (left_of settings texts)) (next_front bare n low
     ∙ ap (λ b. (if b == 47 then take n bare ∷ [] else []) ++ fronts_from bare (n + 1)) slash)
-    ∙ ap (λ b. each_once told (if not b then take n bare ∷ left_of settings (fronts_from bare (n + 1))
+    ∙ ap (λ b. each_once reported (if not b then take n bare ∷ left_of settings (fronts_from bare (n + 1))
     else left_of settings (fronts_from bare (n + 1)))) left
 
-pub place_passes : (settings : Settings) (told : List (List ℕ)) (bare : List ℕ) (n : ℕ) → n < length bare
+pub place_passes : (settings : Settings) (reported : List (List ℕ)) (bare : List ℕ) (n : ℕ) → n < length bare
     → ((get_or bare n 0 == 47) && not (keeps_path settings (take n bare))) ≡ false
-    → each_once told (left_of settings (fronts_from bare n))
-    ≡ each_once told (left_of settings (fronts_from bare (n + 1)))
-place_passes settings told bare n low none =
-    ap (λ texts. each_once told (left_of settings texts)) (next_front bare n low)
+    → each_once reported (left_of settings (fronts_from bare n))
+    ≡ each_once reported (left_of settings (fronts_from bare (n + 1)))
+place_passes settings reported bare n low none =
+    ap (λ texts. each_once reported (left_of settings texts)) (next_front bare n low)
     ∙ cases (get_or bare n 0 == 47) (keeps_path settings (take n bare)) refl none
   where
     more : List (List ℕ)
     more = fronts_from bare (n + 1)
 
     cases : (a k : Bool) → keeps_path settings (take n bare) ≡ k → (a && not k) ≡ false
-        → each_once told (left_of settings ((if a then take n bare ∷ [] else []) ++ more))
-        ≡ each_once told (left_of settings more)
+        → each_once reported (left_of settings ((if a then take n bare ∷ [] else []) ++ more))
+        ≡ each_once reported (left_of settings more)
     cases false k is none = refl
-    cases true true is none = ap (λ b. each_once told (if not b then take n bare ∷ left_of settings more
+    cases true true is none = ap (λ b. each_once reported (if not b then take n bare ∷ left_of settings more
         else left_of settings more)) is
     cases true false is none = absurd (let bad : true ≡ false = none in cc)
 
@@ -177,9 +177,9 @@ other_passes byte kept other = ap (λ t. t && not kept) (let e : (byte == 47) �
 
 -- prefix by prefix
 
-pub once_append : (told xs ys : List (List ℕ)) → each_once told (xs ++ ys) ≡ each_once (each_once told xs) ys
-once_append told [] ys = refl
-once_append told (x ∷ xs) ys = once_append (with_new told x) xs ys
+pub once_append : (reported xs ys : List (List ℕ)) → each_once reported (xs ++ ys) ≡ each_once (each_once reported xs) ys
+once_append reported [] ys = refl
+once_append reported (x ∷ xs) ys = once_append (with_new reported x) xs ys
 
 pub left_append : (settings : Settings) (xs ys : List (List ℕ))
     → left_of settings (xs ++ ys) ≡ left_of settings xs ++ left_of settings ys
@@ -193,24 +193,24 @@ left_append settings (x ∷ xs) ys = cases (keeps_path settings x) (left_append 
     cases false behind = ap (λ l. x ∷ l) behind
 
 -- what is to be added of one more bare prefix
-prefix_adds : (settings : Settings) (told new : List (List ℕ)) (bare : List ℕ) (others : List (List ℕ))
-    → new ≡ each_once told (left_of settings (fronts bare))
-    → each_once told (left_of settings (flat_map fronts (bare ∷ others)))
+prefix_adds : (settings : Settings) (reported new : List (List ℕ)) (bare : List ℕ) (others : List (List ℕ))
+    → new ≡ each_once reported (left_of settings (fronts bare))
+    → each_once reported (left_of settings (flat_map fronts (bare ∷ others)))
     ≡ each_once new (left_of settings (flat_map fronts others))
-prefix_adds settings told new bare others added =
-    ap (each_once told) (left_append settings (fronts bare) (flat_map fronts others))
-    ∙ (once_append told (left_of settings (fronts bare)) (left_of settings (flat_map fronts others))
+prefix_adds settings reported new bare others added =
+    ap (each_once reported) (left_append settings (fronts bare) (flat_map fronts others))
+    ∙ (once_append reported (left_of settings (fronts bare)) (left_of settings (flat_map fronts others))
     ∙ ap (λ t. each_once t (left_of settings (flat_map fronts others))) (sym added))
 
 first_left : {X : Type 0} (x : X) (left : List X) → take (length (x ∷ left) - 1) (drop 1 (x ∷ left)) ≡ left
 first_left x left = ap (λ n. take n left) (let e : length (x ∷ left) - 1 ≡ length left = omega arith in e) ∙ take-length left
 
-pub next_adds : (settings : Settings) (left : List (Bor (List ℕ))) (d : Bor (List ℕ)) (told new : List (List ℕ))
-    → 1 ≤ length left → new ≡ each_once told (left_of settings (fronts (get_or left 0 d).now))
-    → each_once told (left_of settings (flat_map fronts (map (λ prefix. prefix.now) left)))
+pub next_adds : (settings : Settings) (left : List (Bor (List ℕ))) (d : Bor (List ℕ)) (reported new : List (List ℕ))
+    → 1 ≤ length left → new ≡ each_once reported (left_of settings (fronts (get_or left 0 d).now))
+    → each_once reported (left_of settings (flat_map fronts (map (λ prefix. prefix.now) left)))
     ≡ each_once new (left_of settings (flat_map fronts (map (λ prefix. prefix.now) (take (length left - 1) (drop 1 left)))))
-next_adds settings [] d told new some added = absurd (omega arith)
-next_adds settings (prefix ∷ left) d told new some added =
-    prefix_adds settings told new prefix.now (map (λ (p : Bor (List ℕ)). p.now) left) added
+next_adds settings [] d reported new some added = absurd (omega arith)
+next_adds settings (prefix ∷ left) d reported new some added =
+    prefix_adds settings reported new prefix.now (map (λ (p : Bor (List ℕ)). p.now) left) added
     ∙ ap (λ (l : List (Bor (List ℕ))). each_once new (left_of settings (flat_map fronts (map (λ p. p.now) l))))
     (sym (first_left prefix left))

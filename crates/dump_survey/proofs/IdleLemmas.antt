@@ -1,5 +1,5 @@
--- The bare prefixes that no node has matched go on to one more record, and say what is told of the prefixes.
-use Rattle.dump_survey.proofs.Prelude.{◌≡◌, ℕ, Bool, true, false, not, ◌&&◌, ◌||◌, List, [], ◌∷◌, ◌++◌, map, Option, Some, None, option_map, bytes_eq, refl, sym, ap, ap₂, ◌∙◌, append_assoc, if◌then◌else◌, and-true, or-false, list_any, cons_option, or_left, or_right, map-append, list_any-append, bytes_eq-Decides, DumpRecord, bare_prefix, bare_path, begins_path, is_node, is_copy, node_path, copy_path, makes_copy, PrefixFinding, NotShort, Idle, ToldPrefix, PrefixTold, is_short_prefix, prefix_view, told_of_prefix, told_prefixes, HaveSame, is_among, AreWithout, is_begun_by, is_below_copy, is_touched_by, AreIdle, told_by, prefixes_by}
+-- The bare prefixes that no node has matched go on to one more record, and say what is reported of the prefixes.
+use Rattle.dump_survey.proofs.Prelude.{◌≡◌, ℕ, Bool, true, false, not, ◌&&◌, ◌||◌, List, [], ◌∷◌, ◌++◌, map, Option, Some, None, option_map, bytes_eq, refl, sym, ap, ap₂, ◌∙◌, append_assoc, if◌then◌else◌, and-true, or-false, list_any, cons_option, or_left, or_right, map-append, list_any-append, bytes_eq-Decides, DumpRecord, bare_prefix, bare_path, begins_path, is_node, is_copy, node_path, copy_path, makes_copy, PrefixFinding, NotShort, Idle, ReportedPrefix, PrefixReport, is_short_prefix, prefix_view, reported_of_prefix, reported_prefixes, HaveSame, is_among, AreWithout, is_begun_by, is_below_copy, is_touched_by, AreIdle, reported_by, prefixes_by}
 
 -- a set of texts, text by text
 
@@ -93,26 +93,26 @@ idle_more records r prefixes idle new so_far without =
     (both_without (λ bare. list_any (λ x. is_touched_by x bare) records) (is_touched_by r) (map bare_prefix prefixes) idle new
     so_far without)
 
--- what is told of the prefixes
+-- what is reported of the prefixes
 
 module _ (records : List DumpRecord) (prefixes idle : List (List ℕ)) (are : AreIdle records prefixes idle) where
   -- a prefix of the list is idle where its bare form is left
-  told_of_each : (prefix : List ℕ) → is_among (bare_prefix prefix) (map bare_prefix prefixes) ≡ true
-      → told_by idle prefix ≡ told_of_prefix records prefix
-  told_of_each prefix here =
-      ap (λ b. option_map (λ (f : PrefixFinding). told f)
+  reported_of_each : (prefix : List ℕ) → is_among (bare_prefix prefix) (map bare_prefix prefixes) ≡ true
+      → reported_by idle prefix ≡ reported_of_prefix records prefix
+  reported_of_each prefix here =
+      ap (λ b. option_map (λ (f : PrefixFinding). reported f)
       (if is_short_prefix prefix then (if b then Some Idle else None) else Some NotShort))
       (are (bare_prefix prefix) ∙ ap (λ b. b && not (list_any (λ r. is_touched_by r (bare_prefix prefix)) records)) here)
     where
-      told : PrefixFinding → PrefixTold
-      told f = record { prefix = prefix; finding = f }
+      reported : PrefixFinding → PrefixReport
+      reported f = record { prefix = prefix; finding = f }
 
-  told_of_rest : (front rest : List (List ℕ)) → prefixes ≡ front ++ rest
-      → prefixes_by idle rest ≡ told_prefixes records rest
-  told_of_rest front [] all = refl
-  told_of_rest front (prefix ∷ rest) all =
-      ap₂ (λ (t : Option PrefixTold) (ts : List PrefixTold). cons_option t ts) (told_of_each prefix here)
-      (told_of_rest (front ++ prefix ∷ []) rest (all ∙ sym (append_assoc front (prefix ∷ []) rest)))
+  reported_of_rest : (front rest : List (List ℕ)) → prefixes ≡ front ++ rest
+      → prefixes_by idle rest ≡ reported_prefixes records rest
+  reported_of_rest front [] all = refl
+  reported_of_rest front (prefix ∷ rest) all =
+      ap₂ (λ (t : Option PrefixReport) (ts : List PrefixReport). cons_option t ts) (reported_of_each prefix here)
+      (reported_of_rest (front ++ prefix ∷ []) rest (all ∙ sym (append_assoc front (prefix ∷ []) rest)))
     where
       here : is_among (bare_prefix prefix) (map bare_prefix prefixes) ≡ true
       here =
@@ -122,20 +122,20 @@ module _ (records : List DumpRecord) (prefixes idle : List (List ℕ)) (are : Ar
           (map bare_prefix (prefix ∷ rest))
           ∙ or_right _ _ (or_left _ _ ((bytes_eq-Decides (bare_prefix prefix) (bare_prefix prefix)).1 refl))))
 
-  pub told_by_idle : prefixes_by idle prefixes ≡ told_prefixes records prefixes
-  told_by_idle = told_of_rest [] prefixes refl
+  pub reported_by_idle : prefixes_by idle prefixes ≡ reported_prefixes records prefixes
+  reported_by_idle = reported_of_rest [] prefixes refl
 
--- what is told of the first of those that are left is told next
+-- what is reported of the first of those that are left is reported next
 
-module _ (idle : List (List ℕ)) (items : List ToldPrefix) (prefix : List ℕ) (left : List (List ℕ)) where
-  pub told_next : (told : ToldPrefix) → told_by idle prefix ≡ Some (prefix_view told)
+module _ (idle : List (List ℕ)) (items : List ReportedPrefix) (prefix : List ℕ) (left : List (List ℕ)) where
+  pub reported_next : (reported : ReportedPrefix) → reported_by idle prefix ≡ Some (prefix_view reported)
       → map prefix_view items ++ prefixes_by idle (prefix ∷ left)
-      ≡ map prefix_view (items ++ told ∷ []) ++ prefixes_by idle left
-  told_next told is =
-      ap (λ (t : Option PrefixTold). map prefix_view items ++ cons_option t (prefixes_by idle left)) is
-      ∙ (sym (append_assoc (map prefix_view items) (prefix_view told ∷ []) (prefixes_by idle left))
-      ∙ ap (λ l. l ++ prefixes_by idle left) (sym (map-append prefix_view items (told ∷ []))))
+      ≡ map prefix_view (items ++ reported ∷ []) ++ prefixes_by idle left
+  reported_next reported is =
+      ap (λ (t : Option PrefixReport). map prefix_view items ++ cons_option t (prefixes_by idle left)) is
+      ∙ (sym (append_assoc (map prefix_view items) (prefix_view reported ∷ []) (prefixes_by idle left))
+      ∙ ap (λ l. l ++ prefixes_by idle left) (sym (map-append prefix_view items (reported ∷ []))))
 
-  pub none_next : told_by idle prefix ≡ None
+  pub none_next : reported_by idle prefix ≡ None
       → map prefix_view items ++ prefixes_by idle (prefix ∷ left) ≡ map prefix_view items ++ prefixes_by idle left
-  none_next is = ap (λ (t : Option PrefixTold). map prefix_view items ++ cons_option t (prefixes_by idle left)) is
+  none_next is = ap (λ (t : Option PrefixReport). map prefix_view items ++ cons_option t (prefixes_by idle left)) is

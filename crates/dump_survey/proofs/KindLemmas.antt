@@ -1,5 +1,5 @@
--- How often each kind is told of nodes, node by node.
-use Rattle.dump_survey.proofs.Prelude.{◌≡◌, ◌≤◌, ℕ, ◌+◌, ◌==◌, Bool, true, false, List, [], ◌∷◌, ◌++◌, length, get_or, map, flat_map, filter, cond, refl, sym, ap, ap₂, ◌∙◌, arith, list_any, eqb-true, or_parts, Finding, every_finding, Counts, Found, SurveyedNode, finding_place, times_told, NodeTold, AreWithNode, count_in, no_counts, has_found, listed, told_of_node}
+-- How often each kind is reported of nodes, node by node.
+use Rattle.dump_survey.proofs.Prelude.{◌≡◌, ◌≤◌, ℕ, ◌+◌, ◌==◌, Bool, true, false, List, [], ◌∷◌, ◌++◌, length, get_or, map, flat_map, filter, cond, refl, sym, ap, ap₂, ◌∙◌, arith, list_any, eqb-true, or_parts, Finding, every_finding, Counts, Found, SurveyedNode, finding_place, times_reported, NodeReport, AreWithNode, count_in, no_counts, has_found, listed, reported_of_node}
 
 -- a finding is known by its place
 at_place : (f : Finding) → get_or every_finding (finding_place f) Finding.UnreadBlock ≡ f
@@ -79,23 +79,23 @@ module _ (f : Finding) where
           ap (λ b. length (cond b (g ∷ filter is_it (filter test gs)) (filter is_it (filter test gs)))) is ∙ more
       by false is false passes more = more
 
-  -- told in a node it is the same
-  told_each : (tell : Finding → NodeTold) → ((g : Finding) → (tell g).finding ≡ g) → (gs : List Finding)
-      → times_told (map tell gs) f ≡ length (filter is_it gs)
-  told_each tell same [] = refl
-  told_each tell same (g ∷ gs) =
-      counted (is_it (tell g).finding) (tell g) (filter (λ (t : NodeTold). is_it t.finding) (map tell gs))
-      ∙ (ap₂ (λ (b : Bool) n. cond b (n + 1) n) (ap is_it (same g)) (told_each tell same gs)
+  -- reported in a node it is the same
+  reported_each : (report : Finding → NodeReport) → ((g : Finding) → (report g).finding ≡ g) → (gs : List Finding)
+      → times_reported (map report gs) f ≡ length (filter is_it gs)
+  reported_each report same [] = refl
+  reported_each report same (g ∷ gs) =
+      counted (is_it (report g).finding) (report g) (filter (λ (t : NodeReport). is_it t.finding) (map report gs))
+      ∙ (ap₂ (λ (b : Bool) n. cond b (n + 1) n) (ap is_it (same g)) (reported_each report same gs)
       ∙ sym (counted (is_it g) g (filter is_it gs)))
 
-  times_both : (xs ys : List NodeTold) → times_told (xs ++ ys) f ≡ times_told xs f + times_told ys f
+  times_both : (xs ys : List NodeReport) → times_reported (xs ++ ys) f ≡ times_reported xs f + times_reported ys f
   times_both [] ys = omega arith
   times_both (x ∷ xs) ys = by (is_it x.finding) (times_both xs ys)
     where
-      here : NodeTold → Bool
+      here : NodeReport → Bool
       here t = finding_place t.finding == finding_place f
 
-      by : (b : Bool) → times_told (xs ++ ys) f ≡ times_told xs f + times_told ys f
+      by : (b : Bool) → times_reported (xs ++ ys) f ≡ times_reported xs f + times_reported ys f
           → length (cond b (x ∷ filter here (xs ++ ys)) (filter here (xs ++ ys)))
           ≡ length (cond b (x ∷ filter here xs) (filter here xs)) + length (filter here ys)
       by true more = omega (arith, more)
@@ -129,16 +129,16 @@ low_with_node old new node count low more f = by (has_found node.found f) (more 
     by false is = let below = low f in omega (arith, is, below)
 
 -- the counts go on to one more node
-pub counts_with_node : (old new : Counts) (told : List NodeTold) (node : SurveyedNode)
-    → ((f : Finding) → count_in old f ≡ times_told told f) → AreWithNode old node.found new
-    → (f : Finding) → count_in new f ≡ times_told (told ++ told_of_node node) f
-counts_with_node old new told node so_far more f =
-    more f ∙ (by (has_found node.found f) ∙ sym (times_both f told (told_of_node node)
-    ∙ ap (λ n. times_told told f + n) (told_each f _ (λ g. refl) (filter (λ g. has_found node.found g) every_finding)
+pub counts_with_node : (old new : Counts) (reported : List NodeReport) (node : SurveyedNode)
+    → ((f : Finding) → count_in old f ≡ times_reported reported f) → AreWithNode old node.found new
+    → (f : Finding) → count_in new f ≡ times_reported (reported ++ reported_of_node node) f
+counts_with_node old new reported node so_far more f =
+    more f ∙ (by (has_found node.found f) ∙ sym (times_both f reported (reported_of_node node)
+    ∙ ap (λ n. times_reported reported f + n) (reported_each f _ (λ g. refl) (filter (λ g. has_found node.found g) every_finding)
     ∙ (among_those f (λ g. has_found node.found g) every_finding
     ∙ ap (λ n. cond (has_found node.found f) n 0) (once f)))))
   where
-    by : (b : Bool) → cond b (count_in old f + 1) (count_in old f) ≡ times_told told f + cond b 1 0
+    by : (b : Bool) → cond b (count_in old f + 1) (count_in old f) ≡ times_reported reported f + cond b 1 0
     by true = ap (λ n. n + 1) (so_far f)
     by false = let here = so_far f in omega (arith, here)
 
@@ -150,7 +150,7 @@ none_passes test (f ∷ fs) none =
     ap (λ b. cond b (f ∷ filter test fs) (filter test fs)) parts.0 ∙ none_passes test fs parts.1
 
 module _ (found : Found) (none : list_any (has_found found) every_finding ≡ false) where
-  -- of a node in which nothing is found nothing is told
+  -- of a node in which nothing is found nothing is reported
   pub nothing_listed : listed found ≡ []
   nothing_listed = none_passes (has_found found) every_finding none
 

@@ -1,4 +1,4 @@
--- Record by record it is told whether a kept node names a revision behind a dropped one.
+-- Whether a kept node names a revision after a dropped one, record by record.
 use Rattle.dump_survey.proofs.Prelude.{◌≡◌, ◌↔◌, Bool, true, false, IsTrue, not, ◌&&◌, ◌||◌, ◌==◌, List, [], ◌∷◌, ◌++◌, length, Option, Some, None, is_some, if◌then◌else◌, refl, sym, ap, ap₂, ◌∙◌, and-true, or-false, or_assoc, list_all, list_any, and_parts, DumpRecord, Settings, keeps_path, is_revision_record, is_node, is_kept_node, node_path, Group, group_of, groups, keeps_group, keeps_empty, every_dump_finding, copies_from_before, is_found_in_dump, HasUnreadRevision, AreDumpFindingsOf, NamesRevision, TellsNaming, nodes_name, groups_name, groups_name_behind, same_truth, names_test, test_tells, behind_told, Present, Tally, is_behind_dropped, leaves_number, leave_number, LeaveNumber, no_tally, keeps_present, revision_tally, node_tally, other_tally, next_tally, tally_behind, is_tallied, tally_findings}
 use Rattle.dump_survey.proofs.TallyLemmas.{is_single, filter_same, closes, closes_none, some_left, nodes, nodes_more, nodes_none, each_tallied}
 
@@ -143,8 +143,8 @@ module _ (settings : Settings) (names : DumpRecord → Bool) where
 pub left_named : (settings : Settings) (t : Tally) (r : DumpRecord) (named : Bool) → settings.renumber ≡ false
     → is_behind_dropped t ≡ true → is_kept_node settings r ≡ true → IsTrue named ↔ NamesRevision r
     → (names : DumpRecord → Bool) → TellsNaming names → named ≡ leaves_number settings names t r
-left_named settings t r named plain behind kept told names tells =
-    same_truth named (names r) told (tells r)
+left_named settings t r named plain behind kept reported names tells =
+    same_truth named (names r) reported (tells r)
     ∙ sym (λ i. not (plain i) && (behind i && (kept i && names r)))
 
 -- so the tally tells what is found in the dump

@@ -4,7 +4,7 @@ mod CutValues
 pub mod DigestLemmas
 pub mod FolderLemmas
 pub mod GivenLemmas
-pub mod GrowthLemmas
+pub mod GrowingPrefixLemmas
 pub mod IdleLemmas
 pub mod KindLemmas
 pub mod LeavingLemmas
@@ -22,6 +22,7 @@ pub mod PlaceLemmas
 pub mod PrefixLemmas
 mod PrefixValues
 pub mod RefusedLemmas
+pub mod ReportedLemmas
 pub mod RevisionMapLemmas
 mod RevisionMapValues
 pub mod SilentLemmas
@@ -30,6 +31,5 @@ pub mod SurveyTextLemmas
 pub mod SurveyorLemmas
 pub mod TallyLemmas
 pub mod TieLemmas
-pub mod ToldLemmas
 pub mod UnreadLemmas
 pub mod WritingLemmas

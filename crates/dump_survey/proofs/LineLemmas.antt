@@ -1,6 +1,6 @@
 -- The lines of what is found, one behind the other.
-use Rattle.dump_survey.proofs.Prelude.{◌≡◌, ℕ, Bool, true, false, List, [], ◌∷◌, ◌++◌, flat_map, filter, map, cond, refl, sym, ap, ◌∙◌, append-nil, append_assoc, Result, Ok, Err, concat, OnOk, DumpFinding, every_dump_finding, SurveyEnd, DumpFindings, has_dump_finding, listed_findings, told_at_end, dump_line}
-use Rattle.dump_survey.specs.DumpTold.{told_of_dump}
+use Rattle.dump_survey.proofs.Prelude.{◌≡◌, ℕ, Bool, true, false, List, [], ◌∷◌, ◌++◌, flat_map, filter, map, cond, refl, sym, ap, ◌∙◌, append-nil, append_assoc, Result, Ok, Err, concat, OnOk, DumpFinding, every_dump_finding, SurveyEnd, DumpFindings, has_dump_finding, listed_findings, reported_at_end, dump_line}
+use Rattle.dump_survey.specs.DumpReport.{reported_of_dump}
 
 -- the lines of those that pass the test, each where it passes
 lines_of_those : {F : Type 0} (test : F → Bool) (line : F → List ℕ) (fs : List F)
@@ -29,15 +29,15 @@ pub dump_lines : (line : DumpFinding → List ℕ) (found : DumpFindings)
     → flat_map line (listed_findings found) ≡ concat (lines_if line found)
 dump_lines line found = lines_of_those (λ f. has_dump_finding found f) line every_dump_finding
 
--- what is told of them at the end, line by line
-pub told_lines : (end : SurveyEnd)
-    → flat_map dump_line (told_at_end end) ≡ concat (lines_if (λ f. dump_line (told_of_dump end f)) end.dump)
-told_lines end = each (listed_findings end.dump) ∙ dump_lines (λ f. dump_line (told_of_dump end f)) end.dump
+-- what is reported of them at the end, line by line
+pub reported_lines : (end : SurveyEnd)
+    → flat_map dump_line (reported_at_end end) ≡ concat (lines_if (λ f. dump_line (reported_of_dump end f)) end.dump)
+reported_lines end = each (listed_findings end.dump) ∙ dump_lines (λ f. dump_line (reported_of_dump end f)) end.dump
   where
     each : (fs : List DumpFinding)
-        → flat_map dump_line (map (told_of_dump end) fs) ≡ flat_map (λ f. dump_line (told_of_dump end f)) fs
+        → flat_map dump_line (map (reported_of_dump end) fs) ≡ flat_map (λ f. dump_line (reported_of_dump end f)) fs
     each [] = refl
-    each (f ∷ fs) = ap (λ l. dump_line (told_of_dump end f) ++ l) (each fs)
+    each (f ∷ fs) = ap (λ l. dump_line (reported_of_dump end f) ++ l) (each fs)
 
 -- the parts are added one behind the other
 abbrev pub AreAdded : List ℕ → List (List ℕ) → List ℕ → Type 0

@@ -4,7 +4,7 @@ use Rattle.std.specs.Fmt.{digits}
 use Rattle.dump_text.specs.declared.fault.FaultKind.TheVariants.{HeaderCut}
 use Rattle.dump_survey.specs.Kinds.{dump_advice, dump_kind, dump_kind_line, dump_what, finding_advice, finding_kind, finding_what, kind_line}
 use Rattle.dump_survey.specs.Lines.{broken_line, cut_words, dump_line, dump_words, ending_line, fault_and_place, finding_words, node_line, place_text, shown_byte, shown_path, source_text}
-use Rattle.dump_survey.specs.Told.{NodeTold}
+use Rattle.dump_survey.specs.Reported.{NodeReport}
 
 -- what stands in parentheses
 
@@ -22,8 +22,8 @@ record_alone = refl
 
 -- lines of nodes
 
-abbrev told : Finding → Option (List ℕ) → NodeTold
-told finding prefix = record {
+abbrev reported : Finding → Option (List ℕ) → NodeReport
+reported finding prefix = record {
   finding = finding;
   number = 38;
   place = 66371;
@@ -34,18 +34,18 @@ told finding prefix = record {
   prefix = prefix;
 }
 
-copy_without_its_source : node_line (told Finding.NoWholeFile None)
+copy_without_its_source : node_line (reported Finding.NoWholeFile None)
     ≡ codes "r12: /tags/1.0, copied from /trunk@11: the source is excluded: svndumpfilter stops here (fault 12, record 38, byte 66371)\n"
 unfolding node_line shown_path shown_byte source_text finding_words cut_words fault_and_place place_text digits
 copy_without_its_source = refl
 
-copy_that_is_cut : node_line (told Finding.CopyLoses (Some (codes "/trunk/f/")))
+copy_that_is_cut : node_line (reported Finding.CopyLoses (Some (codes "/trunk/f/")))
     ≡ codes "r12: /tags/1.0, copied from /trunk@11: the copy may lack paths that are excluded at its source: prefix /trunk/f/ (record 38, byte 66371)\n"
 unfolding node_line shown_path shown_byte source_text finding_words cut_words fault_and_place place_text digits
 copy_that_is_cut = refl
 
 -- a line that doesn't name the copy source
-deleted_directory : node_line (told Finding.FolderTakes None)
+deleted_directory : node_line (reported Finding.FolderTakes None)
     ≡ codes "r12: /tags/1.0: this excluded directory is deleted: what is included below it may stay (record 38, byte 66371)\n"
 unfolding node_line shown_path shown_byte finding_words cut_words fault_and_place place_text digits
 deleted_directory = refl

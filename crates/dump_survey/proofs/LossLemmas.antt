@@ -15,8 +15,8 @@ no_losses = record {
 
 module _ (settings : Settings) (r : DumpRecord) (kept : has_kept_path settings r ≡ true) where
   -- a kept node that is no copy
-  pub plain_losses : is_copy r ≡ false → AreLossesOf settings r no_losses
-  plain_losses copy = record {
+  pub no_copy_losses : is_copy r ≡ false → AreLossesOf settings r no_losses
+  no_copy_losses copy = record {
     no_whole_file = rw (kept, copy) refl;
     properties_lost = rw (kept, copy, and-false (makes r)) refl;
     copy_loses = rw (kept, copy, and-false (makes r)) refl;

@@ -9,7 +9,7 @@ pub merge_goes : (ps qs : List Property) (p : Property) → ps ≡ p ∷ qs → 
     → list_any is_mergeinfo ps ≡ list_any is_mergeinfo qs
 merge_goes ps qs p is other = ap (list_any is_mergeinfo) is ∙ ap (λ b. b || list_any is_mergeinfo qs) other
 
--- where the block is read, its properties tell whether the node sets mergeinfo
+-- where the block is read, its properties say whether the node sets mergeinfo
 pub merges_read : (r : DumpRecord) (props : Props) (sets : Bool) → HasPropertyBlock r → props_bytes props ≡ r.props
     → ((ps : List Property) → IsPropertyBlock (props_bytes props) ps → sets ≡ list_any is_mergeinfo ps)
     → IsTrue sets ↔ SetsMergeinfo r

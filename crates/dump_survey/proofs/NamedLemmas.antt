@@ -1,13 +1,13 @@
--- With each copy that is told to be cut otherwise than its source a prefix is told, and with nothing else.
-use Rattle.dump_survey.proofs.Prelude.{◌≡◌, ℕ, Bool, true, false, ◌&&◌, List, [], ◌∷◌, ◌++◌, length, map, filter, cond, Option, Some, None, is_some, MatchBool, refl, sym, ap, ap₂, ◌∙◌, map-append, Property, DumpRecord, Settings, is_node, node_path, copy_path, Finding, NodeFaults, cuts, every_finding, has_kept_path, has_kept_source, is_found, makes_copy, cutting_prefix, tells_cut, EachCutNamesPrefix, NodeTold, told_in, present_after, IsToldOfNode, IsToldOf, AreTold}
+-- With each copy that is reported to be cut otherwise than its source a prefix is reported, and with nothing else.
+use Rattle.dump_survey.proofs.Prelude.{◌≡◌, ℕ, Bool, true, false, ◌&&◌, List, [], ◌∷◌, ◌++◌, length, map, filter, cond, Option, Some, None, is_some, MatchBool, refl, sym, ap, ap₂, ◌∙◌, map-append, Property, DumpRecord, Settings, is_node, node_path, copy_path, Finding, NodeFaults, cuts, every_finding, has_kept_path, has_kept_source, is_found, makes_copy, cutting_prefix, tells_cut, EachCutNamesPrefix, NodeReport, reported_in, present_after, IsReportedOfNode, IsReportedOf, AreReported}
 use Rattle.dump_survey.proofs.CutLemmas.{cut_there}
 
--- for each whether a prefix is told, and whether the finding wants one
-abbrev named : List NodeTold → List Bool
-named told = map (λ (t : NodeTold). is_some t.prefix) told
+-- for each whether a prefix is reported, and whether the finding wants one
+abbrev named : List NodeReport → List Bool
+named reported = map (λ (t : NodeReport). is_some t.prefix) reported
 
-abbrev wanted : List NodeTold → List Bool
-wanted told = map (λ (t : NodeTold). tells_cut t.finding) told
+abbrev wanted : List NodeReport → List Bool
+wanted reported = map (λ (t : NodeReport). tells_cut t.finding) reported
 
 last_holds : (a b c d : Bool) → (a && b && c && d) ≡ true → d ≡ true
 last_holds true true true d is = is
@@ -38,8 +38,8 @@ module _ (settings : Settings) (r : DumpRecord) (ps : Option (List Property)) (m
   found_named Finding.TextComesIn is = refl
 
   all_named : (number revision : ℕ) (fs : List Finding)
-      → named (map (told_in settings number revision r) (filter (λ f. is_found settings r ps m f) fs))
-      ≡ wanted (map (told_in settings number revision r) (filter (λ f. is_found settings r ps m f) fs))
+      → named (map (reported_in settings number revision r) (filter (λ f. is_found settings r ps m f) fs))
+      ≡ wanted (map (reported_in settings number revision r) (filter (λ f. is_found settings r ps m f) fs))
   all_named number revision [] = refl
   all_named number revision (f ∷ fs) = by (is_found settings r ps m f) refl (all_named number revision fs)
     where
@@ -47,32 +47,32 @@ module _ (settings : Settings) (r : DumpRecord) (ps : Option (List Property)) (m
       those = filter (λ g. is_found settings r ps m g) fs
 
       by : (b : Bool) → is_found settings r ps m f ≡ b
-          → named (map (told_in settings number revision r) those) ≡ wanted (map (told_in settings number revision r) those)
-          → named (map (told_in settings number revision r) (cond b (f ∷ those) those))
-          ≡ wanted (map (told_in settings number revision r) (cond b (f ∷ those) those))
+          → named (map (reported_in settings number revision r) those) ≡ wanted (map (reported_in settings number revision r) those)
+          → named (map (reported_in settings number revision r) (cond b (f ∷ those) those))
+          ≡ wanted (map (reported_in settings number revision r) (cond b (f ∷ those) those))
       by true is more = ap₂ (λ b bs. b ∷ bs) (found_named f is) more
       by false is more = more
 
 named_of_record : (settings : Settings) (before : List DumpRecord) (present : Option ℕ) (r : DumpRecord)
-    (told : List NodeTold) → IsToldOf settings before present r told → named told ≡ wanted told
-named_of_record settings before None r told is = ap named is ∙ sym (ap wanted is)
-named_of_record settings before (Some revision) r told is = by (is_node r) is
+    (reported : List NodeReport) → IsReportedOf settings before present r reported → named reported ≡ wanted reported
+named_of_record settings before None r reported is = ap named is ∙ sym (ap wanted is)
+named_of_record settings before (Some revision) r reported is = by (is_node r) is
   where
-    by : (b : Bool) → MatchBool b (IsToldOfNode settings before revision r told) (told ≡ []) → named told ≡ wanted told
+    by : (b : Bool) → MatchBool b (IsReportedOfNode settings before revision r reported) (reported ≡ []) → named reported ≡ wanted reported
     by true (fs, (ps, m, read, of, found), is) =
-        let all = is ∙ ap (map (told_in settings (length before) revision r)) found in
+        let all = is ∙ ap (map (reported_in settings (length before) revision r)) found in
         ap named all ∙ (all_named settings r ps m (length before) revision every_finding ∙ sym (ap wanted all))
     by false is = ap named is ∙ sym (ap wanted is)
 
 named_of_records : (settings : Settings) (before : List DumpRecord) (present : Option ℕ) (records : List DumpRecord)
-    (told : List NodeTold) → AreTold settings before present records told → named told ≡ wanted told
-named_of_records settings before present [] told is = ap named is ∙ sym (ap wanted is)
-named_of_records settings before present (r ∷ records) told (this, others, is, one, more) =
+    (reported : List NodeReport) → AreReported settings before present records reported → named reported ≡ wanted reported
+named_of_records settings before present [] reported is = ap named is ∙ sym (ap wanted is)
+named_of_records settings before present (r ∷ records) reported (this, others, is, one, more) =
     ap named is
-    ∙ (map-append (λ (t : NodeTold). is_some t.prefix) this others
+    ∙ (map-append (λ (t : NodeReport). is_some t.prefix) this others
     ∙ (ap₂ (λ l m. l ++ m) (named_of_record settings before present r this one)
     (named_of_records settings (before ++ r ∷ []) (present_after present r) records others more)
-    ∙ (sym (map-append (λ (t : NodeTold). tells_cut t.finding) this others) ∙ sym (ap wanted is))))
+    ∙ (sym (map-append (λ (t : NodeReport). tells_cut t.finding) this others) ∙ sym (ap wanted is))))
 
 pub each_cut_names_prefix : EachCutNamesPrefix
-each_cut_names_prefix settings records told is = named_of_records settings [] None records told is
+each_cut_names_prefix settings records reported is = named_of_records settings [] None records reported is

@@ -1,9 +1,9 @@
 -- What copies need, record by record, and what is to be kept as well.
-use Rattle.dump_survey.proofs.Prelude.{◌≡◌, ℕ, ◌+◌, ◌-◌, ◌≤◌, ◌<◌, Bool, true, false, not, ◌&&◌, ◌||◌, List, [], ◌∷◌, ◌++◌, length, length-append, map, take, get_or, reverse, Option, Some, None, option_map, bytes_eq, Bor, Vec, Global, Result, Ok, Err, cond, refl, sym, ap, ap₂, ◌∙◌, subst, arith, append-nil, append_assoc, list_any, filter_map, cons_option, IsPermutation, list_any-IsPermutation, any_mapped, or_from, and_parts, and_from, take-length, map-append, take_more, reverse-append, reverse-reverse, list_any-append, filter_map-append, Record, DumpRecord, Ending, BeginsWithRecords, HasRecords, CutterState, EndsAfter, record_item, CutStep, whole_list, bare_prefix, bare_path, begins_path, matches_path, BeginSame, Side, Include, Exclude, Settings, side_keeps, is_node, is_copy, node_path, is_whole_file, copy_path, Memory, Need, with_prefixes, stops_at, wanted_path, matches_itself, is_wanted, AreWanted, covers, uncovered, are_apart, stops_somewhere, AreKeptAsWell, AreKeptAsWellIn, PathNeed, need_view, need_of, needs_of, can_not_stand, copy_need, is_matched, is_unmet, AreNeeded, each_matches_itself}
+use Rattle.dump_survey.proofs.Prelude.{◌≡◌, ℕ, ◌+◌, ◌-◌, ◌≤◌, ◌<◌, Bool, true, false, not, ◌&&◌, ◌||◌, List, [], ◌∷◌, ◌++◌, length, length-append, map, take, get_or, reverse, Option, Some, None, option_map, bytes_eq, Bor, Vec, Global, Result, Ok, Err, cond, refl, sym, ap, ap₂, ◌∙◌, subst, arith, append-nil, append_assoc, list_any, filter_map, cons_option, IsPermutation, list_any-IsPermutation, any_mapped, or_from, and_parts, and_from, take-length, map-append, take_more, reverse-append, reverse-reverse, list_any-append, filter_map-append, Record, DumpRecord, Ending, BeginsWithRecords, HasRecords, CutterState, EndsAfter, record_item, CutStep, whole_list, bare_prefix, bare_path, begins_path, matches_path, BeginSame, Side, Include, Exclude, Settings, side_keeps, is_node, is_copy, node_path, is_whole_file, copy_path, Memory, CopyNeed, with_prefixes, stops_at, wanted_path, matches_itself, is_wanted, AreWanted, covers, uncovered, are_apart, stops_somewhere, ArePrefixesToAdd, ArePrefixesToAddIn, PathNeed, need_view, need_of, needs_of, can_not_stand, copy_need, is_matched, is_unmet, AreNeeded, each_matches_itself}
 use Rattle.std.proofs.Common.{unwrap_or}
 use Rattle.std.specs.Result.{IfOk}
 use Rattle.dump_records.specs.declared.cutter.Cut.TheVariants as cuts
-use Rattle.dump_survey.proofs.GrowthLemmas.{any_both, needs_path, uncovered_same, uncovered_apart}
+use Rattle.dump_survey.proofs.GrowingPrefixLemmas.{any_both, needs_path, uncovered_same, uncovered_apart}
 use Rattle.dump_survey.proofs.SurveyorLemmas.{begins_next, begins_with_none, nearer_by_one}
 
 -- record by record
@@ -161,17 +161,17 @@ all_uncovered paths set [] top items short so_far are =
         ∙ sym (reverse-append (x.now ∷ []) (map (λ (path : Bor (List ℕ)). path.now) xs))))
 
 -- what is put to the needs, and what isn't
-pub pushed : (items all : List Need) (need : Need) (found : Option Need) → found ≡ Some need → all ≡ items ++ need ∷ []
+pub pushed : (items all : List CopyNeed) (need : CopyNeed) (found : Option CopyNeed) → found ≡ Some need → all ≡ items ++ need ∷ []
     → map need_view all ≡ map need_view items ++ filter_map (λ (n : Option PathNeed). n) (option_map need_view found ∷ [])
 pushed items all need found is are =
     ap (map need_view) are ∙ (map-append need_view items (need ∷ [])
-    ∙ ap (λ (f : Option Need). map need_view items ++ filter_map (λ (n : Option PathNeed). n) (option_map need_view f ∷ [])) (sym is))
+    ∙ ap (λ (f : Option CopyNeed). map need_view items ++ filter_map (λ (n : Option PathNeed). n) (option_map need_view f ∷ [])) (sym is))
 
-pub not_pushed : (items : List Need) (found : Option Need) → found ≡ None
+pub not_pushed : (items : List CopyNeed) (found : Option CopyNeed) → found ≡ None
     → map need_view items ≡ map need_view items ++ filter_map (λ (n : Option PathNeed). n) (option_map need_view found ∷ [])
 not_pushed items found is =
     sym (append-nil (map need_view items))
-    ∙ ap (λ (f : Option Need). map need_view items ++ filter_map (λ (n : Option PathNeed). n) (option_map need_view f ∷ [])) (sym is)
+    ∙ ap (λ (f : Option CopyNeed). map need_view items ++ filter_map (λ (n : Option PathNeed). n) (option_map need_view f ∷ [])) (sym is)
 
 -- what is to be kept as well
 
@@ -301,12 +301,12 @@ all_wanted settings records needs same before (path ∷ paths) (some, itself, mo
 )
 
 -- and is to be kept as well
-pub kept_as_well : (settings : Settings) (records : List DumpRecord) (needs : List PathNeed) (wanted paths : List (List ℕ))
+pub are_prefixes_to_add : (settings : Settings) (records : List DumpRecord) (needs : List PathNeed) (wanted paths : List (List ℕ))
     → ((test : PathNeed → Bool) → list_any test needs ≡ list_any test (needs_of settings.side records))
     → AreNeeded needs settings.prefixes wanted
     → list_any (is_unmet (settings.prefixes ++ wanted)) needs ≡ false
-    → paths ≡ uncovered wanted → AreKeptAsWell settings records paths
-kept_as_well settings records needs wanted paths same needed closed is = record {
+    → paths ≡ uncovered wanted → ArePrefixesToAdd settings records paths
+are_prefixes_to_add settings records needs wanted paths same needed closed is = record {
   wanted = wanted;
   are_wanted = all_wanted settings records needs same [] wanted
       (subst (λ l. AreNeeded needs l wanted) (sym (append-nil settings.prefixes)) needed);
@@ -326,7 +326,7 @@ kept_as_well settings records needs wanted paths same needed closed is = record 
         ∙ sym (list_any-append (λ prefix. matches_path prefix text) settings.prefixes wanted))
 
 -- in another order needs are tested alike
-pub reordered : (some all : List Need) (needs : List PathNeed) → IsPermutation some all → map need_view some ≡ needs
+pub reordered : (some all : List CopyNeed) (needs : List PathNeed) → IsPermutation some all → map need_view some ≡ needs
     → (test : PathNeed → Bool) → list_any test (map need_view all) ≡ list_any test needs
 reordered some all needs same are test =
     any_mapped need_view test all
@@ -341,7 +341,7 @@ pub kept_in : (settings : Settings) (dump : List ℕ) (needs : List PathNeed) (w
     → list_any (is_unmet (settings.prefixes ++ wanted)) needs ≡ false
     → (result : Result (Vec (Bor (List ℕ)) Global) Memory)
     → IfOk result (λ paths. map (λ (path : Bor (List ℕ)). path.now) paths.items ≡ uncovered wanted)
-    → IfOk result (λ paths. AreKeptAsWellIn settings dump (map (λ (path : Bor (List ℕ)). path.now) paths.items))
+    → IfOk result (λ paths. ArePrefixesToAddIn settings dump (map (λ (path : Bor (List ℕ)). path.now) paths.items))
 kept_in settings dump needs wanted (records, ending, has, same) needed closed (Ok paths) is =
-    (records, ending, has, kept_as_well settings records needs wanted (map (λ (path : Bor (List ℕ)). path.now) paths.items) same needed closed is)
+    (records, ending, has, are_prefixes_to_add settings records needs wanted (map (λ (path : Bor (List ℕ)). path.now) paths.items) same needed closed is)
 kept_in settings dump needs wanted found needed closed (Err e) is = tt

@@ -1,5 +1,5 @@
 -- The records with which the findings of a dump as a whole come up.
-use Rattle.dump_survey.proofs.Prelude.{◌≡◌, ◌⊎◌, ℕ, ◌<◌, ◌==◌, Bool, true, false, not, ◌&&◌, ◌||◌, List, [], ◌∷◌, ◌++◌, length, get_or, map, filter, cond, Contains, Option, Some, None, MatchBool, refl, sym, ap, ap₂, ◌∙◌, subst, inl, inr, append-nil, append_assoc, arith, AllZip, list_any, both_ways, eqb-true, false_from_ne_true, list_any_at, DumpRecord, Settings, found, finds, DumpFinding, every_dump_finding, HasUnreadRevision, AreDumpFindingsOf, dump_findings_once, DumpPlaces, Place, SurveyEnd, DumpFindings, has_dump_finding, listed_findings, DumpTold, place_in, told_at_end, IsDumpFinding, comes_up, IsNeverFound, ComesUpAt, CameUp, ArePlaces, IsDumpTold, AreDumpTold, no_places, first_place, AreNextPlaces}
+use Rattle.dump_survey.proofs.Prelude.{◌≡◌, ◌⊎◌, ℕ, ◌<◌, ◌==◌, Bool, true, false, not, ◌&&◌, ◌||◌, List, [], ◌∷◌, ◌++◌, length, get_or, map, filter, cond, Contains, Option, Some, None, MatchBool, refl, sym, ap, ap₂, ◌∙◌, subst, inl, inr, append-nil, append_assoc, arith, AllZip, list_any, both_ways, eqb-true, false_from_ne_true, list_any_at, DumpRecord, Settings, found, finds, DumpFinding, every_dump_finding, HasUnreadRevision, AreDumpFindingsOf, dump_findings_once, DumpPlaces, Place, SurveyEnd, DumpFindings, has_dump_finding, listed_findings, DumpReport, place_in, reported_at_end, IsDumpFinding, comes_up, IsNeverFound, ComesUpAt, CameUp, ArePlaces, IsDumpReport, AreDumpReports, no_places, first_place, AreNextPlaces}
 
 -- the place of a finding among all of them
 abbrev place_among : DumpFinding → ℕ
@@ -175,13 +175,13 @@ comes_up_in settings f before (r ∷ rest) never some =
         (subst (λ rs. IsDumpFinding settings rs f) (sym same) some) in
         (p, subst (λ rs. ComesUpAt settings rs f p) same at)
 
--- so of each dump something is told, if only nothing
-told_of_each : (settings : Settings) (records : List DumpRecord) (fs : List DumpFinding)
+-- so of each dump something is reported, if only nothing
+reported_of_each : (settings : Settings) (records : List DumpRecord) (fs : List DumpFinding)
     → ((f : DumpFinding) → Contains fs f → IsDumpFinding settings records f)
-    → (told : List DumpTold) × AllZip (IsDumpTold settings records) fs told
-told_of_each settings records [] all = ([], tt)
-told_of_each settings records (f ∷ fs) all =
-    let (others, more) = told_of_each settings records fs (λ g there. all g (later g there)) in
+    → (reported : List DumpReport) × AllZip (IsDumpReport settings records) fs reported
+reported_of_each settings records [] all = ([], tt)
+reported_of_each settings records (f ∷ fs) all =
+    let (others, more) = reported_of_each settings records fs (λ g there. all g (later g there)) in
     let (t, is) = one (comes_up f) refl in
     (t ∷ others, (is, more))
   where
@@ -195,11 +195,11 @@ told_of_each settings records (f ∷ fs) all =
     first : Contains (f ∷ fs) f
     first = among_there f (f ∷ fs) (ap (λ b. b || is_among f fs) (refl_place f))
 
-    -- this place is told, or none
+    -- this place is reported, or none
     At : Option Place → Bool → Type 0
     At at b = MatchBool b ((q : Place) × (at ≡ Some q) × ComesUpAt settings records f q) (at ≡ None)
 
-    one : (b : Bool) → comes_up f ≡ b → (t : DumpTold) × IsDumpTold settings records f t
+    one : (b : Bool) → comes_up f ≡ b → (t : DumpReport) × IsDumpReport settings records f t
     one true up =
         let (p, at) = comes_up_in settings f [] records (never_at_first settings f up) (all f first) in (
           record { finding = f; at = Some p },
@@ -210,27 +210,27 @@ told_of_each settings records (f ∷ fs) all =
       record { finding = refl; at = subst (At None) (sym up) refl },
     )
 
-pub each_dump_told : (settings : Settings) (records : List DumpRecord)
-    → (told : List DumpTold) × AreDumpTold settings records told
-each_dump_told settings records =
+pub each_dump_reported : (settings : Settings) (records : List DumpRecord)
+    → (reported : List DumpReport) × AreDumpReports settings records reported
+each_dump_reported settings records =
     let (fs, are, once) = dump_findings_once settings records in
-    let (told, all) = told_of_each settings records fs (λ f there. (fs, are, there)) in
-    (told, (fs, are, all))
+    let (reported, all) = reported_of_each settings records fs (λ f there. (fs, are, there)) in
+    (reported, (fs, are, all))
 
--- where nothing is told nothing is found
-pub nothing_found : (settings : Settings) (records : List DumpRecord) → AreDumpTold settings records []
+-- where nothing is reported nothing is found
+pub nothing_found : (settings : Settings) (records : List DumpRecord) → AreDumpReports settings records []
     → AreDumpFindingsOf settings records []
 nothing_found settings records ([], are, all) = are
 nothing_found settings records (f ∷ fs, are, all) = absurd all
 
 -- what the program has
 
--- the findings of what is told at the end
-pub findings_at_end : (end : SurveyEnd) → map (λ (t : DumpTold). t.finding) (told_at_end end) ≡ listed_findings end.dump
+-- the findings of what is reported at the end
+pub findings_at_end : (end : SurveyEnd) → map (λ (t : DumpReport). t.finding) (reported_at_end end) ≡ listed_findings end.dump
 findings_at_end end = those (listed_findings end.dump)
   where
     those : (fs : List DumpFinding)
-        → map (λ (t : DumpTold). t.finding) (map (λ f. record { finding = f; at = place_in end.places f }) fs) ≡ fs
+        → map (λ (t : DumpReport). t.finding) (map (λ f. record { finding = f; at = place_in end.places f }) fs) ≡ fs
     those [] = refl
     those (f ∷ fs) = ap (λ l. f ∷ l) (those fs)
 
@@ -334,11 +334,11 @@ places_next settings before r old new flags here are found_are here_is next f up
     by None none false is = never_more settings f before r none
         (flag_denies settings (before ++ r ∷ []) flags found_are f is)
 
--- so what the program has is told at the end
-pub told_where_ended : (settings : Settings) (records : List DumpRecord) (end : SurveyEnd)
+-- so what the program has is reported at the end
+pub reported_where_ended : (settings : Settings) (records : List DumpRecord) (end : SurveyEnd)
     → AreDumpFindingsOf settings records (listed_findings end.dump) → ArePlaces settings records end.places
-    → AreDumpTold settings records (told_at_end end)
-told_where_ended settings records end are places = (
+    → AreDumpReports settings records (reported_at_end end)
+reported_where_ended settings records end are places = (
   listed_findings end.dump,
   are,
   those (listed_findings end.dump)
@@ -364,7 +364,7 @@ told_where_ended settings records end are places = (
     one DumpFinding.NumbersLeft some false up = cc
 
     those : (fs : List DumpFinding) → ((f : DumpFinding) → Contains fs f → IsDumpFinding settings records f)
-        → AllZip (IsDumpTold settings records) fs (map (λ f. record { finding = f; at = place_in end.places f }) fs)
+        → AllZip (IsDumpReport settings records) fs (map (λ f. record { finding = f; at = place_in end.places f }) fs)
     those [] all = tt
     those (f ∷ fs) all = (
       record { finding = refl; at = one f (all f (first f fs)) (comes_up f) refl },

@@ -48,11 +48,11 @@ found_behind (b ∷ front) (c ∷ text) rest is = cases (found_behind front text
 -- so a prefix that isn't empty begins a text that isn't the prefix
 pub begins_behind : (bare text : List ℕ) (found : Option (Bor (List ℕ))) → (length bare == 0) ≡ false
     → bytes_eq text bare ≡ false → option_copied found ≡ behind_slash bare text → is_some found ≡ begins_path bare text
-begins_behind [] text found there other told = absurd (let bad : true ≡ false = there in cc)
-begins_behind (b ∷ bare) text None there other told =
-    sym (or_from _ _ other (none_behind (b ∷ bare) text (sym told)))
-begins_behind (b ∷ bare) text (Some rest) there other told =
-    sym (or_right (bytes_eq text (b ∷ bare)) _ (found_behind (b ∷ bare) text rest.now (sym told)).0)
+begins_behind [] text found there other reported = absurd (let bad : true ≡ false = there in cc)
+begins_behind (b ∷ bare) text None there other reported =
+    sym (or_from _ _ other (none_behind (b ∷ bare) text (sym reported)))
+begins_behind (b ∷ bare) text (Some rest) there other reported =
+    sym (or_right (bytes_eq text (b ∷ bare)) _ (found_behind (b ∷ bare) text rest.now (sym reported)).0)
 
 -- the text of a path that isn't the root's is its text, behind a slash
 pub whole_text : (path : List ℕ) (b : ℕ) (text : List ℕ) → bare_path path ≡ b ∷ text
@@ -73,11 +73,11 @@ below_root path bare is = record {
 pub below_path : (path bare : List ℕ) (b : ℕ) (text : List ℕ) (found : Option (Bor (List ℕ)))
     → bare_path path ≡ b ∷ text → option_copied found ≡ behind_slash (b ∷ text) bare
     → MatchOption found (is_below path bare ≡ false) (λ rest. IsRestBelow path bare rest.now)
-below_path path bare b text None is told =
+below_path path bare b text None is reported =
     ap (λ t. starts_with nat_eq (47 ∷ bare) (t ++ 47 ∷ [])) (whole_text path b text is)
-    ∙ none_behind (b ∷ text) bare (sym told)
-below_path path bare b text (Some rest) is told =
-    let both = found_behind (b ∷ text) bare rest.now (sym told) in record {
+    ∙ none_behind (b ∷ text) bare (sym reported)
+below_path path bare b text (Some rest) is reported =
+    let both = found_behind (b ∷ text) bare rest.now (sym reported) in record {
       below = ap (λ t. starts_with nat_eq (47 ∷ bare) (t ++ 47 ∷ [])) (whole_text path b text is) ∙ both.0;
       rest_is = ap (λ (t : List ℕ). drop (length t) (47 ∷ bare)) (whole_text path b text is) ∙ both.1;
     }
@@ -85,8 +85,8 @@ below_path path bare b text (Some rest) is told =
 pub below_else : (path bare top : List ℕ) (found : Option (Bor (List ℕ))) → top ≡ bare_path path
     → (length top == 0) ≡ false → option_copied found ≡ behind_slash top bare
     → MatchOption found (is_below path bare ≡ false) (λ rest. IsRestBelow path bare rest.now)
-below_else path bare [] found is there told = absurd (let bad : true ≡ false = there in cc)
-below_else path bare (b ∷ text) found is there told = below_path path bare b text found (sym is) told
+below_else path bare [] found is there reported = absurd (let bad : true ≡ false = there in cc)
+below_else path bare (b ∷ text) found is there reported = below_path path bare b text found (sym is) reported
 
 -- the text behind which a path's text was put
 pub text_put : (path top old : List ℕ) → top ≡ bare_path path → (length top == 0) ≡ false

@@ -1,5 +1,5 @@
 -- Worked values of what is found in prefixes, computed and proved by the kernel.
-use Rattle.dump_survey.proofs.Prelude.{◌≡◌, ℕ, List, [], ◌∷◌, Some, None, refl, codes, DumpRecord, NotShort, Idle, prefix_finding, told_prefixes, line, record_at, records, version, one}
+use Rattle.dump_survey.proofs.Prelude.{◌≡◌, ℕ, List, [], ◌∷◌, Some, None, refl, codes, DumpRecord, NotShort, Idle, prefix_finding, reported_prefixes, line, record_at, records, version, one}
 use Rattle.dump_history.proofs.values.WorkedDump.{zero}
 
 -- a dump with one node, a folder of this path and action, that is copied from a path of which no node is
@@ -88,7 +88,7 @@ root = refl
 root_of_no_node : prefix_finding (version ∷ zero ∷ []) (codes "/") ≡ Some Idle
 root_of_no_node = refl
 
--- the form is told, and no more
+-- the form is reported, and no more
 
 two_slashes : prefix_finding records (codes "trunk//b") ≡ Some NotShort
 two_slashes = refl
@@ -100,7 +100,7 @@ two_dots : prefix_finding records (codes "trunk/../other") ≡ Some Idle
 two_dots = refl
 
 -- each prefix by itself, in order
-in_order : told_prefixes records (codes "b" ∷ codes "trunk" ∷ codes "./a" ∷ codes "c" ∷ [])
+in_order : reported_prefixes records (codes "b" ∷ codes "trunk" ∷ codes "./a" ∷ codes "c" ∷ [])
     ≡ record { prefix = codes "b"; finding = Idle } ∷ record { prefix = codes "./a"; finding = NotShort }
     ∷ record { prefix = codes "c"; finding = Idle } ∷ []
 in_order = refl

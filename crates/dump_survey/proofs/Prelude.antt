@@ -78,38 +78,38 @@ pub use Rattle.dump_rules.specs.steps.Merged.{is_outside}
 pub use Rattle.dump_rules.specs.steps.PrefixSearch.{AreWithin}
 pub use Rattle.dump_rules.specs.steps.ReadMergeinfo.{value_reads, without_lf}
 pub use Rattle.dump_rules.specs.steps.RewrittenLines.{line_misses, text_lines, value_foreign, value_misses}
-pub use Rattle.dump_survey.specs.AsWellLines.{AreAsWellLines, as_well_lines}
+pub use Rattle.dump_survey.specs.AddedPrefixLines.{AreAddedPrefixLines, added_prefix_lines}
 pub use Rattle.dump_survey.specs.CuttingPrefix.{cutting_prefix, first_cut}
 pub use Rattle.dump_survey.specs.DumpFindings.{has_dump_finding, listed_findings}
-pub use Rattle.dump_survey.specs.DumpTold.{AreDumpTold, ArePlaces, CameUp, ComesUpAt, DumpTold, IsDumpFinding, IsDumpTold, IsNeverFound, comes_up, place_in, told_at_end}
+pub use Rattle.dump_survey.specs.DumpReport.{AreDumpReports, ArePlaces, CameUp, ComesUpAt, DumpReport, IsDumpFinding, IsDumpReport, IsNeverFound, comes_up, place_in, reported_at_end}
 pub use Rattle.dump_survey.specs.Folders.{AreFoldersToMake, each_once, fronts, left_above, paths_above, with_new}
-pub use Rattle.dump_survey.specs.KeepAsWell.{AreKeptAsWell, AreKeptAsWellIn, AreWanted, are_apart, covers, is_wanted, matches_itself, stops_at, stops_somewhere, uncovered, wanted_path, with_prefixes}
-pub use Rattle.dump_survey.specs.Kinds.{ending_kind_line, finding_kind, finding_place, kind_line, kind_lines, prefix_kind, times_in_prefixes, times_told}
+pub use Rattle.dump_survey.specs.PrefixesToAdd.{ArePrefixesToAdd, ArePrefixesToAddIn, AreWanted, are_apart, covers, is_wanted, matches_itself, stops_at, stops_somewhere, uncovered, wanted_path, with_prefixes}
+pub use Rattle.dump_survey.specs.Kinds.{ending_kind_line, finding_kind, finding_place, kind_line, kind_lines, prefix_kind, times_in_prefixes, times_reported}
 pub use Rattle.dump_survey.specs.LeftOutMergeinfo.{AddUpTo, AreLeftOutIn, AreLeftOutOf, AreLeftOutOfProperties, AreLeftOutOfRecords, AreLeftOutOfValue, leaving_lines, mergeinfo_values}
 pub use Rattle.dump_survey.specs.Lines.{dump_line, finding_words, shown_path, tells_source}
-pub use Rattle.dump_survey.specs.LinesBehind.{TakesSome, folder_lines}
+pub use Rattle.dump_survey.specs.AdviceLines.{TakesSome, folder_lines}
 pub use Rattle.dump_survey.specs.Meaning.{meaning}
-pub use Rattle.dump_survey.specs.PrefixFindings.{PrefixTold, is_short_prefix, prefix_finding, prefix_view, told_of_prefix, told_prefixes}
+pub use Rattle.dump_survey.specs.PrefixFindings.{PrefixReport, is_short_prefix, prefix_finding, prefix_view, reported_of_prefix, reported_prefixes}
 pub use Rattle.dump_survey.specs.PrefixLines.{prefix_lines}
 pub use Rattle.dump_survey.specs.RevisionMap.{map_lines}
 pub use Rattle.dump_survey.specs.SurveyEnds.{survey_ending}
 pub use Rattle.dump_survey.specs.SurveyText.{BreaksOffSurvey, FindsNothing, IsSurveyText, survey_lines}
-pub use Rattle.dump_survey.specs.SurveyTies.{EachCutNamesPrefix, SilentSurveyRestricts, SilentTextLeavesDigests, SilentTextRestricts, ToldAreFindings, ToldOnce, all_findings, is_digest_fault, none_told, tells_cut}
-pub use Rattle.dump_survey.specs.Told.{AreTold, IsToldOf, IsToldOfNode, NodeTold, present_after, told_in, told_naming, told_view}
+pub use Rattle.dump_survey.specs.SurveyTies.{EachCutNamesPrefix, SilentSurveyRestricts, SilentTextLeavesDigests, SilentTextRestricts, ReportsAreFindings, ReportedOnce, all_findings, is_digest_fault, none_reported, tells_cut}
+pub use Rattle.dump_survey.specs.Reported.{AreReported, IsReportedOf, IsReportedOfNode, NodeReport, present_after, reported_in, reported_naming, reported_view}
 pub use Rattle.dump_survey.specs.steps.Counts.{AreWithNode, count_in, no_counts}
 pub use Rattle.dump_survey.specs.steps.Folders.{BeginSame, HaveSame}
 pub use Rattle.dump_survey.specs.steps.Found.{AreFaultsBy, IsFoundIn, has_found, listed, node_faults}
-pub use Rattle.dump_survey.specs.steps.IdlePrefixes.{AreIdle, AreWithout, is_among, is_begun_by, is_below_copy, is_touched_by, prefixes_by, told_by}
+pub use Rattle.dump_survey.specs.steps.IdlePrefixes.{AreIdle, AreWithout, is_among, is_begun_by, is_below_copy, is_touched_by, prefixes_by, reported_by}
 pub use Rattle.dump_survey.specs.steps.KeptNumbers.{AreKeptIn, ended_numbers, kept_view, numbers_before}
 pub use Rattle.dump_survey.specs.steps.LeftOutCounts.{properties_count, property_count, text_lines_count, value_count}
 pub use Rattle.dump_survey.specs.steps.Losses.{AreLossesOf}
-pub use Rattle.dump_survey.specs.steps.Naming.{LeaveNumber, is_behind_dropped, leave_number, leaves_number}
-pub use Rattle.dump_survey.specs.steps.Needs.{AreNeeded, Grown, IsPass, PathNeed, can_not_stand, copy_need, each_matches_itself, grown_prefixes, is_matched, is_unmet, need_of, need_view, needs_of, unmatched}
+pub use Rattle.dump_survey.specs.steps.NamedRevisions.{LeaveNumber, is_behind_dropped, leave_number, leaves_number}
+pub use Rattle.dump_survey.specs.steps.CopyNeeds.{AreNeeded, Grown, IsPass, PathNeed, can_not_stand, copy_need, each_matches_itself, grown_prefixes, is_matched, is_unmet, need_of, need_view, needs_of, unmatched}
 pub use Rattle.dump_survey.specs.steps.Places.{AreNextPlaces, first_place, no_places}
 pub use Rattle.dump_survey.specs.steps.Prefixes.{IsRestBelow, behind_slash, cuts_below, is_below}
 pub use Rattle.dump_survey.specs.steps.RevisionNumbers.{AreNumbersBehind, is_missing, is_up_to, misses_revision}
-pub use Rattle.dump_survey.specs.steps.Steps.{ArePrefixesTold, ComesNext, IsStepOf, SurveyStep, TellsEnd, open_behind}
-pub use Rattle.dump_survey.specs.steps.Surveyed.{told_of_finding, told_of_node}
+pub use Rattle.dump_survey.specs.steps.Steps.{ArePrefixesReported, ComesNext, IsStepOf, SurveyStep, ReportsEnd, open_behind}
+pub use Rattle.dump_survey.specs.steps.Surveyed.{reported_of_finding, reported_of_node}
 pub use Rattle.dump_survey.specs.steps.Surveying.{Surveying, Surveys}
 pub use Rattle.dump_survey.specs.steps.Tally.{first_with, is_above_last, is_tallied, keeps_open, keeps_present, least_behind, lesser, next_tally, no_tally, node_tally, numbers_of, other_tally, revision_tally, tally_behind, tally_findings}
 pub use Rattle.dump_text.proofs.BlockLemmas.{has_value}
@@ -134,28 +134,28 @@ pub use Rattle.dump_rules.specs.declared.merged.Merged.{Merged}
 pub use Rattle.dump_rules.specs.declared.options.Empty.TheVariants.{DropAll, DropEmptied, Pad}
 pub use Rattle.dump_rules.specs.declared.options.Side.{Side}
 pub use Rattle.dump_rules.specs.declared.options.Side.TheVariants.{Exclude, Include}
-pub use Rattle.dump_survey.specs.declared.counts.Counts.{Counts}
-pub use Rattle.dump_survey.specs.declared.finding.Found.{Found}
-pub use Rattle.dump_survey.specs.declared.finding.Losses.{Losses}
-pub use Rattle.dump_survey.specs.declared.finding.NodeFinding.{NodeFinding}
-pub use Rattle.dump_survey.specs.declared.map.KeptNumbers.{KeptNumbers}
-pub use Rattle.dump_survey.specs.declared.needs.Need.{Need}
-pub use Rattle.dump_survey.specs.declared.places.DumpPlaces.{DumpPlaces}
-pub use Rattle.dump_survey.specs.declared.places.Place.{Place}
-pub use Rattle.dump_survey.specs.declared.prefix_findings.PrefixFinding.{PrefixFinding}
-pub use Rattle.dump_survey.specs.declared.prefix_findings.PrefixFinding.TheVariants.{Idle, NotShort}
-pub use Rattle.dump_survey.specs.declared.prefix_findings.ToldPrefix.{ToldPrefix}
-pub use Rattle.dump_survey.specs.declared.revision_numbers.Numbers.{Numbers}
-pub use Rattle.dump_survey.specs.declared.surveyor.End.{End}
-pub use Rattle.dump_survey.specs.declared.surveyor.Known.{Known}
-pub use Rattle.dump_survey.specs.declared.surveyor.Step.{Step}
-pub use Rattle.dump_survey.specs.declared.surveyor.Step.TheVariants.{Finished, Node}
-pub use Rattle.dump_survey.specs.declared.surveyor.SurveyEnd.{SurveyEnd}
-pub use Rattle.dump_survey.specs.declared.tally.DumpFindings.{DumpFindings}
-pub use Rattle.dump_survey.specs.declared.tally.Present.{Present}
-pub use Rattle.dump_survey.specs.declared.tally.Tally.{Tally}
-pub use Rattle.dump_survey.specs.declared.told.SurveyedNode.{SurveyedNode}
-pub use Rattle.dump_survey.specs.declared.told.Told.{Told}
+pub use Rattle.dump_survey.specs.declared.report.counts.Counts.{Counts}
+pub use Rattle.dump_survey.specs.declared.findings.node_finding.Found.{Found}
+pub use Rattle.dump_survey.specs.declared.findings.node_finding.Losses.{Losses}
+pub use Rattle.dump_survey.specs.declared.findings.node_finding.NodeFinding.{NodeFinding}
+pub use Rattle.dump_survey.specs.declared.report.revision_map.KeptNumbers.{KeptNumbers}
+pub use Rattle.dump_survey.specs.declared.advice.copy_needs.CopyNeed.{CopyNeed}
+pub use Rattle.dump_survey.specs.declared.findings.places.DumpPlaces.{DumpPlaces}
+pub use Rattle.dump_survey.specs.declared.findings.places.Place.{Place}
+pub use Rattle.dump_survey.specs.declared.findings.prefix_findings.PrefixFinding.{PrefixFinding}
+pub use Rattle.dump_survey.specs.declared.findings.prefix_findings.PrefixFinding.TheVariants.{Idle, NotShort}
+pub use Rattle.dump_survey.specs.declared.findings.prefix_findings.ReportedPrefix.{ReportedPrefix}
+pub use Rattle.dump_survey.specs.declared.findings.revision_numbers.Numbers.{Numbers}
+pub use Rattle.dump_survey.specs.declared.findings.surveyor.End.{End}
+pub use Rattle.dump_survey.specs.declared.findings.surveyor.Known.{Known}
+pub use Rattle.dump_survey.specs.declared.findings.surveyor.Step.{Step}
+pub use Rattle.dump_survey.specs.declared.findings.surveyor.Step.TheVariants.{Finished, Node}
+pub use Rattle.dump_survey.specs.declared.findings.surveyor.SurveyEnd.{SurveyEnd}
+pub use Rattle.dump_survey.specs.declared.findings.tally.DumpFindings.{DumpFindings}
+pub use Rattle.dump_survey.specs.declared.findings.tally.Present.{Present}
+pub use Rattle.dump_survey.specs.declared.findings.tally.Tally.{Tally}
+pub use Rattle.dump_survey.specs.declared.findings.reported.SurveyedNode.{SurveyedNode}
+pub use Rattle.dump_survey.specs.declared.findings.reported.ReportedFinding.{ReportedFinding}
 pub use Rattle.dump_text.specs.declared.fault.FaultKind.{FaultKind}
 pub use Rattle.dump_text.specs.declared.fault.FaultKind.TheVariants.{CopySource}
 pub use Rattle.dump_text.specs.declared.props.Entry.{Entry}

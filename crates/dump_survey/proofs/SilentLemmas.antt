@@ -1,9 +1,9 @@
--- Where nothing that matters is told, nothing that matters is found in the groups.
-use Rattle.dump_survey.proofs.Prelude.{◌≡◌, ℕ, Bool, true, false, not, ◌&&◌, ◌||◌, ◌==◌, List, [], ◌∷◌, ◌++◌, length, flat_map, map, None, IsTrue, IsFalse, refl, sym, ap, ◌∙◌, subst, arith, append-nil, append_assoc, list_all, list_any, and_from, ne_eqb, first_true, second_true, both_true, first_false, second_false, not_true, not_false, not_so, false_true, records_once, DumpRecord, Ending, HasRecords, FaultKind, CopySource, Settings, keeps_path, is_node, node_path, has_lost_source, is_whole_file, HoldsOfRecord, LengthsFit, IsCleanText, Patching, Finding, DumpFinding, AreDumpFindingsOf, is_obstacle, is_alarm, none_is, DumpRestricts, surveyed_dump, DumpTold, place_in, AreDumpTold, told_prefixes, prefix_lines, NodeTold, told_view, AreTold, survey_ending, all_findings, none_told, SilentSurveyRestricts, SilentTextRestricts, SilentTextLeavesDigests, is_digest_fault, IsSurveyText, FindsNothing, stops_at, stops_somewhere, wanted_path, matches_itself, AreKeptAsWellIn, AreAsWellLines}
+-- Where nothing that matters is reported, nothing that matters is found in the groups.
+use Rattle.dump_survey.proofs.Prelude.{◌≡◌, ℕ, Bool, true, false, not, ◌&&◌, ◌||◌, ◌==◌, List, [], ◌∷◌, ◌++◌, length, flat_map, map, None, IsTrue, IsFalse, refl, sym, ap, ◌∙◌, subst, arith, append-nil, append_assoc, list_all, list_any, and_from, ne_eqb, first_true, second_true, both_true, first_false, second_false, not_true, not_false, not_so, false_true, records_once, DumpRecord, Ending, HasRecords, FaultKind, CopySource, Settings, keeps_path, is_node, node_path, has_lost_source, is_whole_file, HoldsOfRecord, LengthsFit, IsCleanText, Patching, Finding, DumpFinding, AreDumpFindingsOf, is_obstacle, is_alarm, none_is, DumpRestricts, surveyed_dump, DumpReport, place_in, AreDumpReports, reported_prefixes, prefix_lines, NodeReport, reported_view, AreReported, survey_ending, all_findings, none_reported, SilentSurveyRestricts, SilentTextRestricts, SilentTextLeavesDigests, is_digest_fault, IsSurveyText, FindsNothing, stops_at, stops_somewhere, wanted_path, matches_itself, ArePrefixesToAddIn, AreAddedPrefixLines}
 use Rattle.dump_survey.specs.Lines.{node_line, dump_line, dump_words, broken_line, ending_line}
 use Rattle.dump_survey.proofs.DigestLemmas.{digests_alone}
 use Rattle.dump_survey.proofs.PlaceLemmas.{nothing_found}
-use Rattle.dump_survey.proofs.TieLemmas.{told_are_findings}
+use Rattle.dump_survey.proofs.TieLemmas.{reported_are_findings}
 
 any_both : (test : Finding → Bool) (xs ys : List Finding)
     → list_any test (xs ++ ys) ≡ (list_any test xs || list_any test ys)
@@ -36,25 +36,25 @@ module _ (test : Finding → Bool) where
 
 module _ (patched : Patching) (settings : Settings) (dump text : List ℕ) (records : List DumpRecord)
     (clean : IsCleanText settings dump records text) (fit : LengthsFit settings records) where
-  -- where nothing that matters is told of the dump, the law has its premise
-  silent : (theirs : List DumpRecord) (ending : Ending) (told : List NodeTold) → HasRecords dump theirs ending
-      → AreTold settings [] None theirs told → AreDumpFindingsOf settings theirs []
-      → IsTrue (none_told is_obstacle told) → IsTrue (none_told is_alarm told)
+  -- where nothing that matters is reported of the dump, the law has its premise
+  silent : (theirs : List DumpRecord) (ending : Ending) (reported : List NodeReport) → HasRecords dump theirs ending
+      → AreReported settings [] None theirs reported → AreDumpFindingsOf settings theirs []
+      → IsTrue (none_reported is_obstacle reported) → IsTrue (none_reported is_alarm reported)
       → DumpRestricts patched settings records text
-  silent theirs ending told has are nothing no_obstacle no_alarm =
+  silent theirs ending reported has are nothing no_obstacle no_alarm =
       let same = records_once dump theirs records ending Ending.Whole has clean.whole in
-      let here = subst (λ l. AreTold settings [] None l told) same.0 are in
-      let (found, have, all) = told_are_findings settings dump records Ending.Whole told clean.whole here in
+      let here = subst (λ l. AreReported settings [] None l reported) same.0 are in
+      let (found, have, all) = reported_are_findings settings dump records Ending.Whole reported clean.whole here in
       surveyed_dump patched settings dump text records found clean fit
       (subst (λ l. AreDumpFindingsOf settings l []) same.0 nothing) have
       (none_of_groups is_obstacle found (ap (list_any is_obstacle) (sym all) ∙ not_true _ no_obstacle))
       (none_of_groups is_alarm found (ap (list_any is_alarm) (sym all) ∙ not_true _ no_alarm))
 
--- a survey in which nothing that matters is told gives the law its premise
+-- a survey in which nothing that matters is reported gives the law its premise
 pub silent_restricts : SilentSurveyRestricts
 silent_restricts patched settings dump text records survey clean fit is nothing no_obstacle no_alarm =
     silent patched settings dump text records clean fit is.records (survey_ending survey.end.end)
-    (map told_view survey.told.items) is.has is.told (nothing_found settings is.records (subst (AreDumpTold settings is.records)
+    (map reported_view survey.reported.items) is.has is.reported (nothing_found settings is.records (subst (AreDumpReports settings is.records)
     (ap (map (λ f. record { finding = f; at = place_in survey.end.places f })) nothing) is.found)) no_obstacle no_alarm
 
 no_bytes : (xs : List ℕ) → false ≡ not (length xs == 0) → xs ≡ []
@@ -70,10 +70,10 @@ both_none [] ys none = (refl, none)
 both_none (x ∷ xs) ys none = cc
 
 -- a line of a node has bytes
-no_lines : (told : List NodeTold) → flat_map node_line told ≡ [] → told ≡ []
+no_lines : (reported : List NodeReport) → flat_map node_line reported ≡ [] → reported ≡ []
 unfolding node_line
 no_lines [] none = refl
-no_lines (t ∷ told) none = cc
+no_lines (t ∷ reported) none = cc
 
 -- and so has one of the whole dump
 some_words : (f : DumpFinding) → dump_words f ≡ [] → ⊥
@@ -93,29 +93,29 @@ unfolding broken_line
 no_ending count Ending.Whole none = refl
 no_ending count (Ending.Broken _ _) none = cc
 
-no_dump_lines : (told : List DumpTold) → flat_map dump_line told ≡ [] → told ≡ []
+no_dump_lines : (reported : List DumpReport) → flat_map dump_line reported ≡ [] → reported ≡ []
 unfolding dump_line
 no_dump_lines [] none = refl
-no_dump_lines (t ∷ told) none = absurd (some_words t.finding
-    (both_none (dump_words t.finding) _ (both_none (dump_line t) (flat_map dump_line told) none).0).0)
+no_dump_lines (t ∷ reported) none = absurd (some_words t.finding
+    (both_none (dump_words t.finding) _ (both_none (dump_line t) (flat_map dump_line reported) none).0).0)
 
--- where no line is written nothing is told
+-- where no line is written nothing is reported
 module _ (settings : Settings) (dump said : List ℕ) (is : IsSurveyText settings dump said false) where
-  each_part : (flat_map node_line is.told ≡ []) × (flat_map dump_line is.of_dump ≡ [])
+  each_part : (flat_map node_line is.reported ≡ []) × (flat_map dump_line is.of_dump ≡ [])
       × (ending_line (length is.records) is.ending ≡ [])
   each_part =
       let nothing = sym is.text_is ∙ no_bytes said is.found_is in
-      let parts = both_none (flat_map node_line is.told) _ nothing in
+      let parts = both_none (flat_map node_line is.reported) _ nothing in
       let behind = both_none (flat_map dump_line is.of_dump) _ parts.1 in
-      let prefixes = both_none (prefix_lines (told_prefixes is.records settings.prefixes)) _ behind.1 in
+      let prefixes = both_none (prefix_lines (reported_prefixes is.records settings.prefixes)) _ behind.1 in
       (parts.0, behind.0, (both_none (ending_line (length is.records) is.ending) _ prefixes.1).0)
 
-  none_told_of_nodes : is.told ≡ []
-  none_told_of_nodes = no_lines is.told each_part.0
+  none_reported_of_nodes : is.reported ≡ []
+  none_reported_of_nodes = no_lines is.reported each_part.0
 
   none_found_in_dump : AreDumpFindingsOf settings is.records []
   none_found_in_dump = nothing_found settings is.records
-      (subst (AreDumpTold settings is.records) (no_dump_lines is.of_dump each_part.1) is.are_of_dump)
+      (subst (AreDumpReports settings is.records) (no_dump_lines is.of_dump each_part.1) is.are_of_dump)
 
   whole : is.ending ≡ Ending.Whole
   whole = no_ending (length is.records) is.ending each_part.2
@@ -123,14 +123,14 @@ module _ (settings : Settings) (dump said : List ℕ) (is : IsSurveyText setting
 -- so nothing that matters
 pub silent_text_restricts : SilentTextRestricts
 silent_text_restricts patched settings dump text said records clean fit is =
-    let told = none_told_of_nodes settings dump said is in
-    silent patched settings dump text records clean fit is.records is.ending is.told is.has is.are_told
+    let reported = none_reported_of_nodes settings dump said is in
+    silent patched settings dump text records clean fit is.records is.ending is.reported is.has is.are_reported
     (none_found_in_dump settings dump said is)
-    (none is.told told is_obstacle) (none is.told told is_alarm)
+    (none is.reported reported is_obstacle) (none is.reported reported is_alarm)
   where
-    none : (told : List NodeTold) → told ≡ [] → (test : Finding → Bool) → IsTrue (none_told test told)
+    none : (reported : List NodeReport) → reported ≡ [] → (test : Finding → Bool) → IsTrue (none_reported test reported)
     none [] same test = refl
-    none (t ∷ told) same test = cc
+    none (t ∷ reported) same test = cc
 
 -- and the filter stops for a digest alone
 pub silent_text_leaves_digests : SilentTextLeavesDigests
@@ -139,7 +139,7 @@ silent_text_leaves_digests settings dump said is = (
   subst (HasRecords dump is.records) (whole settings dump said is) is.has,
   λ before after r kind are holds. digests_alone settings is.records before after r kind
       (none_found_in_dump settings dump said is)
-      (subst (AreTold settings [] None is.records) (none_told_of_nodes settings dump said is) is.are_told) are holds,
+      (subst (AreReported settings [] None is.records) (none_reported_of_nodes settings dump said is) is.are_reported) are holds,
 )
 
 -- and nothing is to be kept as well
@@ -177,9 +177,9 @@ module _ (settings : Settings) (records : List DumpRecord)
       (goes_on before rest r are)
       ∙ goes_on_from (before ++ r ∷ []) rest (are ∙ sym (append_assoc before (r ∷ []) rest))
 
-pub nothing_is_kept_as_well : (settings : Settings) (dump : List ℕ) → FindsNothing settings dump
-    → AreKeptAsWellIn settings dump []
-nothing_is_kept_as_well settings dump (said, is) =
+pub nothing_is_to_add : (settings : Settings) (dump : List ℕ) → FindsNothing settings dump
+    → ArePrefixesToAddIn settings dump []
+nothing_is_to_add settings dump (said, is) =
     let (records, has, digests) = silent_text_leaves_digests settings dump said is in (
       records,
       Ending.Whole,
@@ -195,10 +195,10 @@ nothing_is_kept_as_well settings dump (said, is) =
     )
 
 -- so there is no line
-pub no_lines_as_well : (settings : Settings) (dump : List ℕ) → FindsNothing settings dump
-    → AreAsWellLines settings dump []
-no_lines_as_well settings dump nothing = record {
+pub no_lines_of_added_prefixes : (settings : Settings) (dump : List ℕ) → FindsNothing settings dump
+    → AreAddedPrefixLines settings dump []
+no_lines_of_added_prefixes settings dump nothing = record {
   paths = [];
-  are_kept = nothing_is_kept_as_well settings dump nothing;
+  are_kept = nothing_is_to_add settings dump nothing;
   lines_are = refl;
 }

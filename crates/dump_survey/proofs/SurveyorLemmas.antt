@@ -1,14 +1,14 @@
 -- What a surveyor knows goes on to one more record, and tells what is found where the records end.
-use Rattle.dump_survey.proofs.Prelude.{◌≡◌, ◌⊎◌, ◌↔◌, ℕ, ◌+◌, ◌^◌, ◌<◌, ◌≤◌, Bool, true, false, not, ◌&&◌, ◌||◌, List, [], ◌∷◌, ◌++◌, length, length-append, map, filter, cond, Option, Some, None, refl, sym, ap, ap₂, ◌∙◌, subst, arith, inl, inr, Result, Ok, Err, IsTrue, MatchBool, list_all, and_from, Record, DumpRecord, record_text, is_lawful, IsCutInto, BeginsWithRecords, HasRecords, CutterState, EndsAfter, IsRecordOf, record_item, record_number, CutStep, count_fits, each_dump_has_one_list, begins_prefix, one_more, whole_list, Settings, bare_prefix, is_revision_record, is_node, alone, Place, DumpFindings, Tally, leaves_number, LeaveNumber, no_tally, next_tally, numbers_of, tally_behind, tally_findings, no_places, AreNextPlaces, ArePlaces, Finding, every_finding, is_found, AreFindingsOf, IsUnreadRevision, HasUnreadRevision, AreDumpFindingsOf, TellsNaming, findings_once, Found, End, Known, SurveyEnd, Step, Node, Finished, Memory, Numbers, has_found, node_faults, IsFoundIn, AreNumbersBehind, SurveyedNode, NodeTold, IsToldOfNode, IsToldOf, told_in, told_naming, listed, told_of_finding, told_of_node, listed_findings, survey_ending, HaveSame, PrefixTold, AreWithout, is_touched_by, prefixes_by, Surveying, Surveys, IsStepOf, TellsEnd, ComesNext, open_behind, SurveyStep, ArePrefixesTold}
+use Rattle.dump_survey.proofs.Prelude.{◌≡◌, ◌⊎◌, ◌↔◌, ℕ, ◌+◌, ◌^◌, ◌<◌, ◌≤◌, Bool, true, false, not, ◌&&◌, ◌||◌, List, [], ◌∷◌, ◌++◌, length, length-append, map, filter, cond, Option, Some, None, refl, sym, ap, ap₂, ◌∙◌, subst, arith, inl, inr, Result, Ok, Err, IsTrue, MatchBool, list_all, and_from, Record, DumpRecord, record_text, is_lawful, IsCutInto, BeginsWithRecords, HasRecords, CutterState, EndsAfter, IsRecordOf, record_item, record_number, CutStep, count_fits, each_dump_has_one_list, begins_prefix, one_more, whole_list, Settings, bare_prefix, is_revision_record, is_node, alone, Place, DumpFindings, Tally, leaves_number, LeaveNumber, no_tally, next_tally, numbers_of, tally_behind, tally_findings, no_places, AreNextPlaces, ArePlaces, Finding, every_finding, is_found, AreFindingsOf, IsUnreadRevision, HasUnreadRevision, AreDumpFindingsOf, TellsNaming, findings_once, Found, End, Known, SurveyEnd, Step, Node, Finished, Memory, Numbers, has_found, node_faults, IsFoundIn, AreNumbersBehind, SurveyedNode, NodeReport, IsReportedOfNode, IsReportedOf, reported_in, reported_naming, listed, reported_of_finding, reported_of_node, listed_findings, survey_ending, HaveSame, PrefixReport, AreWithout, is_touched_by, prefixes_by, Surveying, Surveys, IsStepOf, ReportsEnd, ComesNext, open_behind, SurveyStep, ArePrefixesReported}
 use Rattle.std.specs.Result.{IfOk}
 use Rattle.dump_records.specs.declared.cutter.Cut.TheVariants as cuts
-use Rattle.dump_survey.specs.declared.surveyor.Step.TheVariants.{Other}
-use Rattle.dump_survey.proofs.IdleLemmas.{all_idle, idle_more, told_by_idle}
+use Rattle.dump_survey.specs.declared.findings.surveyor.Step.TheVariants.{Other}
+use Rattle.dump_survey.proofs.IdleLemmas.{all_idle, idle_more, reported_by_idle}
 use Rattle.dump_survey.proofs.TallyLemmas.{is_single, filter_same, tally_more, count_within, present_number, present_is}
 use Rattle.dump_survey.proofs.LeftLemmas.{leave_more, tally_tells}
 use Rattle.dump_survey.proofs.UnreadLemmas.{none_unread, unread_more}
 use Rattle.dump_survey.proofs.NumberLemmas.{numbers_behind}
-use Rattle.dump_survey.proofs.PlaceLemmas.{no_places_yet, places_next, told_where_ended}
+use Rattle.dump_survey.proofs.PlaceLemmas.{no_places_yet, places_next, reported_where_ended}
 
 -- a lawful record is no node that is a revision too
 single : (number : ℕ) (r : DumpRecord) → is_lawful number r.headers ≡ true
@@ -93,13 +93,13 @@ found_is settings before numbers r found behind (faults, exact, named) =
           (exact ps read) every_finding,
     )
 
--- each finding of a node is told with the prefix that cuts
-told_as : (settings : Settings) (numbers : Numbers) (node : SurveyedNode)
-    → IsFoundIn settings numbers (record_item node.item) node.found → told_of_node node
-    ≡ map (told_in settings (record_number node.item) node.revision (record_item node.item)) (listed node.found)
-told_as settings numbers node (faults, exact, named) =
-    same_of_those (has_found node.found) (told_of_finding node) (told_in settings number node.revision r)
-    (λ f has. ap (λ p. told_naming p number node.revision r f) (named f has)) every_finding
+-- each finding of a node is reported with the prefix that cuts
+reported_as : (settings : Settings) (numbers : Numbers) (node : SurveyedNode)
+    → IsFoundIn settings numbers (record_item node.item) node.found → reported_of_node node
+    ≡ map (reported_in settings (record_number node.item) node.revision (record_item node.item)) (listed node.found)
+reported_as settings numbers node (faults, exact, named) =
+    same_of_those (has_found node.found) (reported_of_finding node) (reported_in settings number node.revision r)
+    (λ f has. ap (λ p. reported_naming p number node.revision r f) (named f has)) every_finding
   where
     r : DumpRecord
     r = record_item node.item
@@ -107,7 +107,7 @@ told_as settings numbers node (faults, exact, named) =
     number : ℕ
     number = record_number node.item
 
-    same_of_those : (test : Finding → Bool) (one other : Finding → NodeTold)
+    same_of_those : (test : Finding → Bool) (one other : Finding → NodeReport)
         → ((f : Finding) → test f ≡ true → one f ≡ other f) → (fs : List Finding)
         → map one (filter test fs) ≡ map other (filter test fs)
     same_of_those test one other same [] = refl
@@ -119,12 +119,12 @@ told_as settings numbers node (faults, exact, named) =
         by true is more = ap₂ (λ t ts. t ∷ ts) (same f is) more
         by false is more = more
 
--- what is found in a node of a revision is told of it
-told_of : (settings : Settings) (before : List DumpRecord) (revision : ℕ) (r : DumpRecord) (found : List Finding)
-    (told : List NodeTold) → is_node r ≡ true → AreFindingsOf settings before r found
-    → told ≡ map (told_in settings (length before) revision r) found → IsToldOf settings before (Some revision) r told
-told_of settings before revision r found told node are is =
-    subst (λ (b : Bool). MatchBool b (IsToldOfNode settings before revision r told) (told ≡ []))
+-- what is found in a node of a revision is reported of it
+reported_of : (settings : Settings) (before : List DumpRecord) (revision : ℕ) (r : DumpRecord) (found : List Finding)
+    (reported : List NodeReport) → is_node r ≡ true → AreFindingsOf settings before r found
+    → reported ≡ map (reported_in settings (length before) revision r) found → IsReportedOf settings before (Some revision) r reported
+reported_of settings before revision r found reported node are is =
+    subst (λ (b : Bool). MatchBool b (IsReportedOfNode settings before revision r reported) (reported ≡ []))
     (sym node) (found, are, is)
 
 module _ (settings : Settings) (prefixes : List (List ℕ)) (known : Known) (cutter after : CutterState)
@@ -134,17 +134,17 @@ module _ (settings : Settings) (prefixes : List (List ℕ)) (known : Known) (cut
   seen c = record { dump = c.dump; settings = settings; number = c.number }
 
   -- what is known where the records end
-  pub ended : (end : End) (told : SurveyEnd) → EndsAfter cutter.dump cutter.number (survey_ending end)
-      → after ≡ cutter → TellsEnd known end told
-      → SurveyStep (seen cutter) (Finished told) (seen after)
-  ended end told ends same (end_is, places_is, found) =
+  pub ended : (end : End) (reported : SurveyEnd) → EndsAfter cutter.dump cutter.number (survey_ending end)
+      → after ≡ cutter → ReportsEnd known end reported
+      → SurveyStep (seen cutter) (Finished reported) (seen after)
+  ended end reported ends same (end_is, places_is, found) =
       let begins = knows.begins in
       let has = whole_list cutter.dump knows.before (survey_ending end) begins
       (subst (λ n. EndsAfter cutter.dump n (survey_ending end)) (sym knows.count) ends) in (
         knows.before,
         subst (λ e. HasRecords cutter.dump knows.before (survey_ending e)) (sym end_is) has,
         knows.count,
-        told_where_ended settings knows.before told
+        reported_where_ended settings knows.before reported
             (subst (AreDumpFindingsOf settings knows.before)
             (sym (found ∙ ap (λ (t : Tally). tally_findings t known.numbers_left known.unread_revision) knows.tallied))
             (tally_tells settings knows.before known.numbers_left known.unread_revision
@@ -233,22 +233,22 @@ module _ (settings : Settings) (prefixes : List (List ℕ)) (known : Known) (cut
     present : present_number known.tally.present ≡ open_behind None knows.before
     present = ap (λ (t : Tally). present_number t.present) knows.tallied ∙ present_is settings no_tally knows.before
 
-    -- what is found in the record is told
-    pub stepped : (told : Step) → IsStepOf settings item known.tally told → SurveyStep (seen cutter) told (seen after)
+    -- what is found in the record is reported
+    pub stepped : (reported : Step) → IsStepOf settings item known.tally reported → SurveyStep (seen cutter) reported (seen after)
     stepped (Finished end) is = absurd is
     stepped Other is = (
       knows.before,
       record_item item,
       comes,
       elim is [
-        | inl none ↦ subst (λ p. IsToldOf settings knows.before p (record_item item) [])
+        | inl none ↦ subst (λ p. IsReportedOf settings knows.before p (record_item item) [])
             (ap present_number (sym none) ∙ present) refl
         | inr other ↦ nothing (open_behind None knows.before) (is_node (record_item item)) refl other
       ],
     )
       where
         nothing : (p : Option ℕ) (b : Bool) → is_node (record_item item) ≡ b → b ≡ false
-            → IsToldOf settings knows.before p (record_item item) []
+            → IsReportedOf settings knows.before p (record_item item) []
         nothing None b is other = refl
         nothing (Some revision) true is other = cc
         nothing (Some revision) false is other = rw is refl
@@ -257,11 +257,11 @@ module _ (settings : Settings) (prefixes : List (List ℕ)) (known : Known) (cut
       subst (λ (i : Record). ComesNext (seen cutter) knows.before (record_item i) (seen after)) (sym same) comes,
       number,
       node_is,
-      subst (λ (p : Option ℕ). IsToldOf settings knows.before p r (told_of_node node)) (sym revision ∙ present)
-          (told_of settings knows.before node.revision r (listed node.found) (told_of_node node) node_is
+      subst (λ (p : Option ℕ). IsReportedOf settings knows.before p r (reported_of_node node)) (sym revision ∙ present)
+          (reported_of settings knows.before node.revision r (listed node.found) (reported_of_node node) node_is
           (found_is settings knows.before (numbers_of known.tally node.revision) r node.found behind finds)
-          (told_as settings (numbers_of known.tally node.revision) node finds
-          ∙ ap (λ n. map (told_in settings n node.revision r) (listed node.found)) (number ∙ sym knows.count))),
+          (reported_as settings (numbers_of known.tally node.revision) node finds
+          ∙ ap (λ n. map (reported_in settings n node.revision r) (listed node.found)) (number ∙ sym knows.count))),
     )
       where
         r : DumpRecord
@@ -286,21 +286,21 @@ module _ (settings : Settings) (prefixes : List (List ℕ)) (known : Known) (cut
 
     -- so where there was memory
     pub stepped_ok : (result : Result Step Memory) → IfOk result (IsStepOf settings item known.tally)
-        → IfOk result (λ told. SurveyStep (seen cutter) told (seen after))
-    stepped_ok (Ok told) is = stepped told is
+        → IfOk result (λ reported. SurveyStep (seen cutter) reported (seen after))
+    stepped_ok (Ok reported) is = stepped reported is
     stepped_ok (Err e) is = tt
 
--- what is told of the prefixes, where there was memory
-pub told_so_far : (settings : Settings) (prefixes : List (List ℕ)) (known : Known) (cutter : CutterState)
+-- what is reported of the prefixes, where there was memory
+pub reported_so_far : (settings : Settings) (prefixes : List (List ℕ)) (known : Known) (cutter : CutterState)
     → Surveys settings prefixes known cutter → (given : List (List ℕ)) → given ≡ settings.prefixes
-    → {V : Type 0} (view : V → List PrefixTold) (result : Result V Memory)
-    → IfOk result (λ told. view told ≡ prefixes_by known.idle given)
-    → IfOk result (λ told. ArePrefixesTold (record { dump = cutter.dump; settings = settings; number = cutter.number })
-    (view told))
-told_so_far settings prefixes known cutter knows given same view (Err e) is = tt
-told_so_far settings prefixes known cutter knows given same view (Ok told) is = (
+    → {V : Type 0} (view : V → List PrefixReport) (result : Result V Memory)
+    → IfOk result (λ reported. view reported ≡ prefixes_by known.idle given)
+    → IfOk result (λ reported. ArePrefixesReported (record { dump = cutter.dump; settings = settings; number = cutter.number })
+    (view reported))
+reported_so_far settings prefixes known cutter knows given same view (Err e) is = tt
+reported_so_far settings prefixes known cutter knows given same view (Ok reported) is = (
   knows.before,
   knows.begins,
   knows.count,
-  is ∙ (ap (prefixes_by known.idle) same ∙ told_by_idle knows.before settings.prefixes known.idle knows.idle_are),
+  is ∙ (ap (prefixes_by known.idle) same ∙ reported_by_idle knows.before settings.prefixes known.idle knows.idle_are),
 )

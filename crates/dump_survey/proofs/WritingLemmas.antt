@@ -1,15 +1,15 @@
 -- What a sink took of a survey so far, and what it takes next.
-use Rattle.dump_survey.proofs.Prelude.{◌≡◌, ◌≤◌, ℕ, ◌+◌, Bool, true, false, not, ◌||◌, ◌==◌, List, [], ◌∷◌, ◌++◌, length, map, flat_map, Option, refl, sym, ap, ap₂, ◌∙◌, subst, append_assoc, append-nil, arith, Result, Ok, Err, OnErr, list_any, or-false, ne_eqb, Appends, Appends-nil, Appends-trans, flat_map-append, Ending, Settings, Finding, every_finding, DumpFinding, each_dump_has_one_list, begins_prefix, IsPrefixOf, Counts, NotShort, Idle, Node, Finished, SurveyEnd, SurveyedNode, listed_findings, told_at_end, ending_kind_line, finding_kind, kind_line, kind_lines, prefix_kind, times_in_prefixes, times_told, dump_line, PrefixTold, told_prefixes, prefix_lines, survey_ending, IsSurveyText, BreaksOffSurvey, NodeTold, AreWithNode, count_in, no_counts, has_found, SurveyStep, told_of_finding, told_of_node, Surveying, TakesSome}
-use Rattle.dump_survey.specs.declared.surveyor.Step.TheVariants.{Other}
+use Rattle.dump_survey.proofs.Prelude.{◌≡◌, ◌≤◌, ℕ, ◌+◌, Bool, true, false, not, ◌||◌, ◌==◌, List, [], ◌∷◌, ◌++◌, length, map, flat_map, Option, refl, sym, ap, ap₂, ◌∙◌, subst, append_assoc, append-nil, arith, Result, Ok, Err, OnErr, list_any, or-false, ne_eqb, Appends, Appends-nil, Appends-trans, flat_map-append, Ending, Settings, Finding, every_finding, DumpFinding, each_dump_has_one_list, begins_prefix, IsPrefixOf, Counts, NotShort, Idle, Node, Finished, SurveyEnd, SurveyedNode, listed_findings, reported_at_end, ending_kind_line, finding_kind, kind_line, kind_lines, prefix_kind, times_in_prefixes, times_reported, dump_line, PrefixReport, reported_prefixes, prefix_lines, survey_ending, IsSurveyText, BreaksOffSurvey, NodeReport, AreWithNode, count_in, no_counts, has_found, SurveyStep, reported_of_finding, reported_of_node, Surveying, TakesSome}
+use Rattle.dump_survey.specs.declared.findings.surveyor.Step.TheVariants.{Other}
 use Rattle.dump_survey.specs.Kinds.{dump_kind_line}
 use Rattle.dump_survey.specs.Lines.{node_line, ending_line}
 use Rattle.dump_survey.proofs.PlaceLemmas.{findings_at_end}
 use Rattle.dump_survey.proofs.KindLemmas.{counts_with_node, low_with_node, none_counted, nothing_listed, same_counts, same_lines}
-use Rattle.dump_survey.proofs.SurveyLemmas.{HaveTold, node_told, nothing_told, node_nearer, other_nearer, all_told}
+use Rattle.dump_survey.proofs.SurveyLemmas.{HaveReported, node_reported, nothing_reported, node_nearer, other_nearer, all_reported}
 use Rattle.dump_survey.proofs.SurveyTextLemmas.{begins_text}
 
 -- the lines of all kinds but those of nodes
-abbrev kinds_behind : List DumpFinding → List PrefixTold → Ending → List ℕ
+abbrev kinds_behind : List DumpFinding → List PrefixReport → Ending → List ℕ
 kinds_behind found prefixes ending = flat_map dump_kind_line found
     ++ (kind_line (times_in_prefixes prefixes NotShort) (prefix_kind NotShort)
     ++ (kind_line (times_in_prefixes prefixes Idle) (prefix_kind Idle) ++ ending_kind_line ending))
@@ -18,15 +18,15 @@ kinds_behind found prefixes ending = flat_map dump_kind_line found
 abbrev pub has_some : List ℕ → Bool
 has_some bytes = not (length bytes == 0)
 
--- the surveyor is at a place of this dump, and the sink took the lines of what was told of the records before it
+-- the surveyor is at a place of this dump, and the sink took the lines of what was reported of the records before it
 pub record HasWritten (settings : Settings) (dump : List ℕ) (state : Surveying) (old new : Option (List ℕ))
     (found : Bool) (count : ℕ) (counts : Counts) : Type 0 where
-  pub told : List NodeTold
-  pub have : HaveTold settings dump state told
-  pub appended : Appends old new (flat_map node_line told)
-  pub found_is : found ≡ has_some (flat_map node_line told)
+  pub reported : List NodeReport
+  pub have : HaveReported settings dump state reported
+  pub appended : Appends old new (flat_map node_line reported)
+  pub found_is : found ≡ has_some (flat_map node_line reported)
   pub counted : count ≡ state.number
-  pub counts_are : (f : Finding) → count_in counts f ≡ times_told told f
+  pub counts_are : (f : Finding) → count_in counts f ≡ times_reported reported f
   pub low : (f : Finding) → count_in counts f ≤ count
 
 some_of_both : (xs ys : List ℕ) → has_some (xs ++ ys) ≡ (has_some xs || has_some ys)
@@ -50,7 +50,7 @@ pub nothing_written : (settings : Settings) (dump : List ℕ) (state : Surveying
     → state ≡ record { dump = dump; settings = settings; number = 0 }
     → HasWritten settings dump state taken taken false 0 no_counts
 nothing_written settings dump state taken is = record {
-  told = [];
+  reported = [];
   have = record {
     dump_is = ap (λ (s : Surveying). s.dump) is;
     settings_is = ap (λ (s : Surveying). s.settings) is;
@@ -58,7 +58,7 @@ nothing_written settings dump state taken is = record {
     begins = (let (records, ending, has, once) = each_dump_has_one_list dump in
         begins_prefix dump [] records (has.0, has.1, has.2));
     count = sym (ap (λ (s : Surveying). s.number) is);
-    told = refl;
+    reported = refl;
   };
   appended = Appends-nil taken;
   found_is = refl;
@@ -71,33 +71,33 @@ module _ (settings : Settings) (dump : List ℕ) (state after : Surveying) (old 
     (count : ℕ) (counts : Counts) (so_far : HasWritten settings dump state old new found count counts) where
   -- the lines of a node's findings were written
   pub node_written : (node : SurveyedNode) (some : Bool) (more : Counts) → SurveyStep state (Node node) after
-      → Appends new newer (flat_map node_line (told_of_node node))
-      → some ≡ has_some (flat_map node_line (told_of_node node))
+      → Appends new newer (flat_map node_line (reported_of_node node))
+      → some ≡ has_some (flat_map node_line (reported_of_node node))
       → AreWithNode counts node.found more
       → HasWritten settings dump after old newer (found || some) (count + 1) more
   node_written node some more step appends some_is with_node =
-      let all = flat_map-append node_line so_far.told (told_of_node node) in record {
-        told = so_far.told ++ told_of_node node;
-        have = node_told settings dump state after so_far.told so_far.have node step;
+      let all = flat_map-append node_line so_far.reported (reported_of_node node) in record {
+        reported = so_far.reported ++ reported_of_node node;
+        have = node_reported settings dump state after so_far.reported so_far.have node step;
         appended = subst (Appends old newer) (sym all) (Appends-trans old new newer _ _ so_far.appended appends);
         found_is = ap₂ (λ a b. a || b) so_far.found_is some_is
-            ∙ (sym (some_of_both (flat_map node_line so_far.told) (flat_map node_line (told_of_node node)))
+            ∙ (sym (some_of_both (flat_map node_line so_far.reported) (flat_map node_line (reported_of_node node)))
             ∙ ap has_some (sym all));
         counted = ap (λ n. n + 1) so_far.counted
-            ∙ sym (node_nearer settings dump state after so_far.told so_far.have node step).0;
-        counts_are = counts_with_node counts more so_far.told node so_far.counts_are with_node;
+            ∙ sym (node_nearer settings dump state after so_far.reported so_far.have node step).0;
+        counts_are = counts_with_node counts more so_far.reported node so_far.counts_are with_node;
         low = low_with_node counts more node count so_far.low with_node;
       }
 
   -- nothing is written of another record
   pub other_written : SurveyStep state Other after → HasWritten settings dump after old new found (count + 1) counts
   other_written step = record {
-    told = so_far.told;
-    have = nothing_told settings dump state after so_far.told so_far.have step;
+    reported = so_far.reported;
+    have = nothing_reported settings dump state after so_far.reported so_far.have step;
     appended = so_far.appended;
     found_is = so_far.found_is;
     counted = ap (λ n. n + 1) so_far.counted
-        ∙ sym (other_nearer settings dump state after so_far.told so_far.have step).0;
+        ∙ sym (other_nearer settings dump state after so_far.reported so_far.have step).0;
     counts_are = so_far.counts_are;
     low = λ f. let below = so_far.low f in omega (arith, below);
   }
@@ -106,81 +106,81 @@ module _ (settings : Settings) (dump : List ℕ) (state after : Surveying) (old 
   pub broken_off : BreaksOffSurvey settings dump old new
   broken_off =
       let (text, found, is, begins) =
-      begins_text settings dump so_far.have.before so_far.told so_far.have.begins so_far.have.told in record {
+      begins_text settings dump so_far.have.before so_far.reported so_far.have.begins so_far.have.reported in record {
         text = text;
         found = found;
         is = is;
-        part = flat_map node_line so_far.told;
+        part = flat_map node_line so_far.reported;
         begins = begins;
         appended = so_far.appended;
       }
 
   -- so it is where the sink took some of what followed
   broken_in : (lines text : List ℕ) (all : Bool) → IsSurveyText settings dump text all
-      → IsPrefixOf (flat_map node_line so_far.told ++ lines) text → TakesSome new newer lines
+      → IsPrefixOf (flat_map node_line so_far.reported ++ lines) text → TakesSome new newer lines
       → BreaksOffSurvey settings dump old newer
   broken_in lines text all is (behind, begins) (part, (rest, front), appends) = record {
     text = text;
     found = all;
     is = is;
-    part = flat_map node_line so_far.told ++ part;
+    part = flat_map node_line so_far.reported ++ part;
     begins = (
       rest ++ behind,
-      begins ∙ (ap (λ l. (flat_map node_line so_far.told ++ l) ++ behind) front
-          ∙ (append_assoc (flat_map node_line so_far.told) (part ++ rest) behind
-          ∙ (ap (λ l. flat_map node_line so_far.told ++ l) (append_assoc part rest behind)
-          ∙ sym (append_assoc (flat_map node_line so_far.told) part (rest ++ behind))))),
+      begins ∙ (ap (λ l. (flat_map node_line so_far.reported ++ l) ++ behind) front
+          ∙ (append_assoc (flat_map node_line so_far.reported) (part ++ rest) behind
+          ∙ (ap (λ l. flat_map node_line so_far.reported ++ l) (append_assoc part rest behind)
+          ∙ sym (append_assoc (flat_map node_line so_far.reported) part (rest ++ behind))))),
     );
     appended = Appends-trans old new newer _ _ so_far.appended appends;
   }
 
   -- some of the lines of a node
   pub broken_in_node : (node : SurveyedNode) → SurveyStep state (Node node) after
-      → TakesSome new newer (flat_map node_line (told_of_node node)) → BreaksOffSurvey settings dump old newer
+      → TakesSome new newer (flat_map node_line (reported_of_node node)) → BreaksOffSurvey settings dump old newer
   broken_in_node node step takes =
-      let have = node_told settings dump state after so_far.told so_far.have node step in
-      let (text, all, is, begins) = begins_text settings dump have.before (so_far.told ++ told_of_node node) have.begins
-      have.told in
-      broken_in (flat_map node_line (told_of_node node)) text all is
-      (subst (λ l. IsPrefixOf l text) (flat_map-append node_line so_far.told (told_of_node node)) begins) takes
+      let have = node_reported settings dump state after so_far.reported so_far.have node step in
+      let (text, all, is, begins) = begins_text settings dump have.before (so_far.reported ++ reported_of_node node) have.begins
+      have.reported in
+      broken_in (flat_map node_line (reported_of_node node)) text all is
+      (subst (λ l. IsPrefixOf l text) (flat_map-append node_line so_far.reported (reported_of_node node)) begins) takes
 
-  module _ (end : SurveyEnd) (step : SurveyStep state (Finished end) after) (prefixes : List PrefixTold)
-      (prefixes_are : prefixes ≡ told_prefixes so_far.have.before settings.prefixes) (lines : List ℕ)
-      (lines_are : lines ≡ flat_map dump_line (told_at_end end)
+  module _ (end : SurveyEnd) (step : SurveyStep state (Finished end) after) (prefixes : List PrefixReport)
+      (prefixes_are : prefixes ≡ reported_prefixes so_far.have.before settings.prefixes) (lines : List ℕ)
+      (lines_are : lines ≡ flat_map dump_line (reported_at_end end)
       ++ (prefix_lines prefixes ++ (ending_line count (survey_ending end.end)
       ++ kind_lines (count_in counts) (listed_findings end.dump) prefixes (survey_ending end.end)))) where
     -- with the lines of its end the text is whole
-    text_whole : IsSurveyText settings dump (flat_map node_line so_far.told ++ lines)
-        (has_some (flat_map node_line so_far.told ++ lines))
+    text_whole : IsSurveyText settings dump (flat_map node_line so_far.reported ++ lines)
+        (has_some (flat_map node_line so_far.reported ++ lines))
     text_whole =
-        let all = all_told settings dump state after so_far.told so_far.have end step in record {
+        let all = all_reported settings dump state after so_far.reported so_far.have end step in record {
           records = so_far.have.before;
           ending = survey_ending end.end;
           has = all.0;
-          told = so_far.told;
-          are_told = so_far.have.told;
-          of_dump = told_at_end end;
+          reported = so_far.reported;
+          are_reported = so_far.have.reported;
+          of_dump = reported_at_end end;
           are_of_dump = all.1;
-          text_is = ap (λ l. flat_map node_line so_far.told ++ l)
-              (lines_are ∙ (ap (λ ps. flat_map dump_line (told_at_end end)
+          text_is = ap (λ l. flat_map node_line so_far.reported ++ l)
+              (lines_are ∙ (ap (λ ps. flat_map dump_line (reported_at_end end)
               ++ (prefix_lines ps ++ (ending_line count (survey_ending end.end)
               ++ kind_lines (count_in counts) (listed_findings end.dump) ps (survey_ending end.end)))) prefixes_are
-              ∙ (ap (λ n. flat_map dump_line (told_at_end end)
-              ++ (prefix_lines (told_prefixes so_far.have.before settings.prefixes)
+              ∙ (ap (λ n. flat_map dump_line (reported_at_end end)
+              ++ (prefix_lines (reported_prefixes so_far.have.before settings.prefixes)
               ++ (ending_line n (survey_ending end.end) ++ kind_lines (count_in counts) (listed_findings end.dump)
-              (told_prefixes so_far.have.before settings.prefixes) (survey_ending end.end))))
+              (reported_prefixes so_far.have.before settings.prefixes) (survey_ending end.end))))
               (so_far.counted ∙ sym so_far.have.count)
-              ∙ (ap (λ ks. flat_map dump_line (told_at_end end)
-              ++ (prefix_lines (told_prefixes so_far.have.before settings.prefixes)
+              ∙ (ap (λ ks. flat_map dump_line (reported_at_end end)
+              ++ (prefix_lines (reported_prefixes so_far.have.before settings.prefixes)
               ++ (ending_line (length so_far.have.before) (survey_ending end.end) ++ (ks
               ++ kinds_behind (listed_findings end.dump)
-              (told_prefixes so_far.have.before settings.prefixes) (survey_ending end.end)))))
-              (same_lines (λ n f. kind_line n (finding_kind f)) (count_in counts) (times_told so_far.told)
+              (reported_prefixes so_far.have.before settings.prefixes) (survey_ending end.end)))))
+              (same_lines (λ n f. kind_line n (finding_kind f)) (count_in counts) (times_reported so_far.reported)
               so_far.counts_are every_finding)
-              ∙ ap (λ fs. flat_map dump_line (told_at_end end)
-              ++ (prefix_lines (told_prefixes so_far.have.before settings.prefixes)
+              ∙ ap (λ fs. flat_map dump_line (reported_at_end end)
+              ++ (prefix_lines (reported_prefixes so_far.have.before settings.prefixes)
               ++ (ending_line (length so_far.have.before) (survey_ending end.end)
-              ++ kind_lines (times_told so_far.told) fs (told_prefixes so_far.have.before settings.prefixes)
+              ++ kind_lines (times_reported so_far.reported) fs (reported_prefixes so_far.have.before settings.prefixes)
               (survey_ending end.end)))) (sym (findings_at_end end))))));
           found_is = refl;
         }
@@ -188,18 +188,18 @@ module _ (settings : Settings) (dump : List ℕ) (state after : Surveying) (old 
     pub whole_written : (some : Bool) → Appends new newer lines → some ≡ has_some lines
         → (text : List ℕ) × IsSurveyText settings dump text (found || some) × Appends old newer text
     whole_written some appends some_is = (
-      flat_map node_line so_far.told ++ lines,
-      subst (IsSurveyText settings dump (flat_map node_line so_far.told ++ lines))
-          (some_of_both (flat_map node_line so_far.told) lines
+      flat_map node_line so_far.reported ++ lines,
+      subst (IsSurveyText settings dump (flat_map node_line so_far.reported ++ lines))
+          (some_of_both (flat_map node_line so_far.reported) lines
           ∙ ap₂ (λ a b. a || b) (sym so_far.found_is) (sym some_is)) text_whole,
       Appends-trans old new newer _ _ so_far.appended appends,
     )
 
     -- some of the lines of the end
     pub broken_in_end : TakesSome new newer lines → BreaksOffSurvey settings dump old newer
-    broken_in_end takes = broken_in lines (flat_map node_line so_far.told ++ lines)
-        (has_some (flat_map node_line so_far.told ++ lines)) text_whole
-        ([], sym (append-nil (flat_map node_line so_far.told ++ lines))) takes
+    broken_in_end takes = broken_in lines (flat_map node_line so_far.reported ++ lines)
+        (has_some (flat_map node_line so_far.reported ++ lines)) text_whole
+        ([], sym (append-nil (flat_map node_line so_far.reported ++ lines))) takes
 
 -- a node in which nothing is found has no lines
 pub silent_written : (settings : Settings) (dump : List ℕ) (state after : Surveying) (old new : Option (List ℕ))
@@ -208,8 +208,8 @@ pub silent_written : (settings : Settings) (dump : List ℕ) (state after : Surv
     → list_any (has_found node.found) every_finding ≡ false
     → HasWritten settings dump after old new found (count + 1) counts
 silent_written settings dump state after old new found count counts so_far node step none =
-    let no_lines : [] ≡ flat_map node_line (told_of_node node) =
-    ap (λ fs. flat_map node_line (map (told_of_finding node) fs)) (sym (nothing_listed node.found none)) in
+    let no_lines : [] ≡ flat_map node_line (reported_of_node node) =
+    ap (λ fs. flat_map node_line (map (reported_of_finding node) fs)) (sym (nothing_listed node.found none)) in
     subst (λ b. HasWritten settings dump after old new b (count + 1) counts) (or-false found)
     (node_written settings dump state after old new new found count counts so_far node false counts step
     (subst (Appends new new) no_lines (Appends-nil new)) (ap has_some no_lines) (same_counts node.found none counts))

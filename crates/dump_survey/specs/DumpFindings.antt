@@ -1,7 +1,7 @@
 -- What is found in a dump as a whole, as the program has it.
 use Rattle.std.specs.Prelude.{Bool, List, filter}
 use Rattle.dump_history.specs.Findings.{DumpFinding, every_dump_finding}
-use Rattle.dump_survey.specs.declared.tally.DumpFindings.{DumpFindings}
+use Rattle.dump_survey.specs.declared.findings.tally.DumpFindings.{DumpFindings}
 
 -- whether this is among them
 abbrev pub has_dump_finding : DumpFindings → DumpFinding → Bool

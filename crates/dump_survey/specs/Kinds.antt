@@ -4,11 +4,11 @@ use Rattle.std.specs.List.{concat}
 use Rattle.dump_text.specs.declared.fault.FaultKind.{FaultKind}
 use Rattle.dump_records.specs.DumpText.{Ending}
 use Rattle.dump_history.specs.Findings.{Finding, every_finding, DumpFinding}
-use Rattle.dump_survey.specs.declared.prefix_findings.PrefixFinding.{PrefixFinding}
-use Rattle.dump_survey.specs.declared.prefix_findings.PrefixFinding.TheVariants.{NotShort, Idle}
+use Rattle.dump_survey.specs.declared.findings.prefix_findings.PrefixFinding.{PrefixFinding}
+use Rattle.dump_survey.specs.declared.findings.prefix_findings.PrefixFinding.TheVariants.{NotShort, Idle}
 use Rattle.dump_survey.specs.Lines.{fault_and_place, finding_fault, dump_fault}
-use Rattle.dump_survey.specs.PrefixFindings.{PrefixTold}
-use Rattle.dump_survey.specs.Told.{NodeTold}
+use Rattle.dump_survey.specs.PrefixFindings.{PrefixReport}
+use Rattle.dump_survey.specs.Reported.{NodeReport}
 
 -- the place of a finding among all of them
 abbrev pub finding_place : Finding → ℕ
@@ -29,16 +29,16 @@ finding_place Finding.FolderBrings = 13
 finding_place Finding.TextComesIn = 14
 
 -- how often the finding is reported
-abbrev pub times_told : List NodeTold → Finding → ℕ
-times_told told finding = length (filter (λ (t : NodeTold). finding_place t.finding == finding_place finding) told)
+abbrev pub times_reported : List NodeReport → Finding → ℕ
+times_reported reported finding = length (filter (λ (t : NodeReport). finding_place t.finding == finding_place finding) reported)
 
 -- the same of what is found in prefixes
 abbrev pub prefix_place : PrefixFinding → ℕ
 prefix_place NotShort = 0
 prefix_place Idle = 1
 
-abbrev pub times_in_prefixes : List PrefixTold → PrefixFinding → ℕ
-times_in_prefixes told finding = length (filter (λ (t : PrefixTold). prefix_place t.finding == prefix_place finding) told)
+abbrev pub times_in_prefixes : List PrefixReport → PrefixFinding → ℕ
+times_in_prefixes reported finding = length (filter (λ (t : PrefixReport). prefix_place t.finding == prefix_place finding) reported)
 
 -- what the line of a kind says: what was found, the fault that it is, if it is one, and what to do
 pub record KindText : Type 0 where
@@ -148,7 +148,7 @@ ending_kind_line Ending.Whole = []
 ending_kind_line (Ending.Broken _ _) = kind_line 1 broken_kind
 
 -- one line for each kind of what was found: in nodes, each so often; in the dump as a whole; in prefixes; and at the end
-abbrev pub kind_lines : (Finding → ℕ) → List DumpFinding → List PrefixTold → Ending → List ℕ
+abbrev pub kind_lines : (Finding → ℕ) → List DumpFinding → List PrefixReport → Ending → List ℕ
 kind_lines times found prefixes ending = flat_map (λ f. kind_line (times f) (finding_kind f)) every_finding
     ++ (flat_map dump_kind_line found
     ++ (kind_line (times_in_prefixes prefixes NotShort) (prefix_kind NotShort)

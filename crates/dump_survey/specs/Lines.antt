@@ -8,9 +8,9 @@ use Rattle.dump_text.specs.FaultNames.{fault_name}
 use Rattle.dump_records.specs.DumpText.{Ending}
 use Rattle.dump_rules.specs.Prefix.{bare_path}
 use Rattle.dump_history.specs.Findings.{Finding, DumpFinding}
-use Rattle.dump_survey.specs.declared.places.Place.{Place}
-use Rattle.dump_survey.specs.DumpTold.{DumpTold}
-use Rattle.dump_survey.specs.Told.{NodeTold}
+use Rattle.dump_survey.specs.declared.findings.places.Place.{Place}
+use Rattle.dump_survey.specs.DumpReport.{DumpReport}
+use Rattle.dump_survey.specs.Reported.{NodeReport}
 
 -- a digit of base 16, with small letters
 abbrev pub small_digit : ℕ → ℕ
@@ -38,7 +38,7 @@ fault_and_place (Some kind) (Some p) = concat (codes " (fault " ∷ decimal (fau
     ∷ place_text p.number p.place ∷ codes ")" ∷ [])
 
 -- what a node is copied from
-unfoldable pub source_text : NodeTold → List ℕ
+unfoldable pub source_text : NodeReport → List ℕ
 source_text t = concat (codes ", copied from " ∷ shown_path t.copy_path
     ∷ codes "@" ∷ decimal t.copy_revision ∷ [])
 
@@ -90,7 +90,7 @@ cut_words None = []
 cut_words (Some prefix) = concat (codes ": prefix " ∷ flat_map shown_byte prefix ∷ [])
 
 -- the line of a finding in a node
-unfoldable pub node_line : NodeTold → List ℕ
+unfoldable pub node_line : NodeReport → List ℕ
 node_line t = concat (codes "r" ∷ decimal t.revision ∷ codes ": " ∷ shown_path t.path
     ∷ (if tells_source t.finding then source_text t else []) ∷ codes ": "
     ∷ finding_words t.finding ∷ cut_words t.prefix
@@ -117,7 +117,7 @@ dump_fault DumpFinding.NodeOutside = Some Order
 dump_fault _ = None
 
 -- the line of a finding in the dump as a whole, with the first record that causes it, if it has one
-unfoldable pub dump_line : DumpTold → List ℕ
+unfoldable pub dump_line : DumpReport → List ℕ
 dump_line t = concat (dump_words t.finding ∷ fault_and_place (dump_fault t.finding) t.at ∷ codes "\n" ∷ [])
 
 -- the line of a fault for which there is no record at this place

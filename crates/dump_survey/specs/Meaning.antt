@@ -1,7 +1,7 @@
 -- The values that the program has for findings.
 use Rattle.dump_history.specs.Findings.{Finding}
-use Rattle.dump_survey.specs.declared.finding.NodeFinding.{NodeFinding}
-use Rattle.dump_survey.specs.declared.finding.NodeFinding.TheVariants as findings
+use Rattle.dump_survey.specs.declared.findings.node_finding.NodeFinding.{NodeFinding}
+use Rattle.dump_survey.specs.declared.findings.node_finding.NodeFinding.TheVariants as findings
 
 -- the finding that a word of the program means
 abbrev pub meaning : NodeFinding → Finding

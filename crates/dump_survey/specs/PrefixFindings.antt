@@ -7,9 +7,9 @@ use Rattle.dump_digest.specs.RecordParts.{is_node, is_copy, node_path}
 use Rattle.dump_trees.specs.Paths.{is_short}
 use Rattle.dump_history.specs.RecordChanges.{copy_path}
 use Rattle.dump_history.specs.Findings.{makes_copy}
-use Rattle.dump_survey.specs.declared.prefix_findings.PrefixFinding.{PrefixFinding}
-use Rattle.dump_survey.specs.declared.prefix_findings.PrefixFinding.TheVariants.{NotShort, Idle}
-use Rattle.dump_survey.specs.declared.prefix_findings.ToldPrefix.{ToldPrefix}
+use Rattle.dump_survey.specs.declared.findings.prefix_findings.PrefixFinding.{PrefixFinding}
+use Rattle.dump_survey.specs.declared.findings.prefix_findings.PrefixFinding.TheVariants.{NotShort, Idle}
+use Rattle.dump_survey.specs.declared.findings.prefix_findings.ReportedPrefix.{ReportedPrefix}
 
 -- whether the prefix is canonical, as `svnadmin load` makes paths: the slashes at its ends don't count, and no name
 -- between them is empty or a dot
@@ -36,19 +36,19 @@ prefix_finding records prefix =
     if is_short_prefix prefix then (if is_idle records prefix then Some Idle else None) else Some NotShort
 
 -- a prefix as it was given, and what is found in it
-pub record PrefixTold : Type 0 where
+pub record PrefixReport : Type 0 where
   pub prefix : List ℕ
   pub finding : PrefixFinding
 
 -- the same as the program has it
-abbrev pub prefix_view : ToldPrefix → PrefixTold
+abbrev pub prefix_view : ReportedPrefix → PrefixReport
 prefix_view t = record { prefix = t.prefix.now; finding = t.finding }
 
 -- what is reported of the prefix, if something
-abbrev pub told_of_prefix : List DumpRecord → List ℕ → Option PrefixTold
-told_of_prefix records prefix =
+abbrev pub reported_of_prefix : List DumpRecord → List ℕ → Option PrefixReport
+reported_of_prefix records prefix =
     option_map (λ finding. record { prefix = prefix; finding = finding }) (prefix_finding records prefix)
 
 -- what is reported of the prefixes, in their order
-abbrev pub told_prefixes : List DumpRecord → List (List ℕ) → List PrefixTold
-told_prefixes records prefixes = filter_map (told_of_prefix records) prefixes
+abbrev pub reported_prefixes : List DumpRecord → List (List ℕ) → List PrefixReport
+reported_prefixes records prefixes = filter_map (reported_of_prefix records) prefixes

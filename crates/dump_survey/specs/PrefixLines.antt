@@ -1,10 +1,10 @@
 -- The lines of what is found in prefixes, word for word.
 use Rattle.std.specs.Prelude.{ℕ, List, [], ◌∷◌, flat_map, codes}
 use Rattle.std.specs.List.{concat}
-use Rattle.dump_survey.specs.declared.prefix_findings.PrefixFinding.{PrefixFinding}
-use Rattle.dump_survey.specs.declared.prefix_findings.PrefixFinding.TheVariants.{NotShort, Idle}
+use Rattle.dump_survey.specs.declared.findings.prefix_findings.PrefixFinding.{PrefixFinding}
+use Rattle.dump_survey.specs.declared.findings.prefix_findings.PrefixFinding.TheVariants.{NotShort, Idle}
 use Rattle.dump_survey.specs.Lines.{shown_byte}
-use Rattle.dump_survey.specs.PrefixFindings.{PrefixTold}
+use Rattle.dump_survey.specs.PrefixFindings.{PrefixReport}
 
 -- what such a line says after the prefix
 abbrev pub prefix_line_words : PrefixFinding → List ℕ
@@ -12,9 +12,9 @@ prefix_line_words NotShort = codes ": not in canonical form, so it matches no pa
 prefix_line_words Idle = codes ": no node has a path at or below it, and none is copied from there or to a path above it\n"
 
 -- the line of a prefix, which is shown as it was given, with its own slashes alone
-unfoldable pub prefix_line : PrefixTold → List ℕ
+unfoldable pub prefix_line : PrefixReport → List ℕ
 prefix_line t = concat (codes "prefix " ∷ flat_map shown_byte t.prefix ∷ prefix_line_words t.finding ∷ [])
 
 -- one line for each of them
-abbrev pub prefix_lines : List PrefixTold → List ℕ
-prefix_lines told = flat_map prefix_line told
+abbrev pub prefix_lines : List PrefixReport → List ℕ
+prefix_lines reported = flat_map prefix_line reported

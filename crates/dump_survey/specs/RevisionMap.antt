@@ -8,7 +8,7 @@ use Rattle.dump_rules.specs.Settings.{Settings}
 use Rattle.dump_rules.specs.Renumbering.{KeptRevisions}
 use Rattle.dump_filter.specs.Groups.{kept_revisions}
 use Rattle.dump_filter.specs.NewHeaders.{written_number}
-use Rattle.dump_survey.specs.LinesBehind.{TakesSome}
+use Rattle.dump_survey.specs.AdviceLines.{TakesSome}
 
 -- the line of a kept revision: its number, and the one under which it is written
 unfoldable pub map_line : Settings → KeptRevisions → ℕ → List ℕ

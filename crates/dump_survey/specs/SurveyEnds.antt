@@ -1,7 +1,7 @@
 -- How a survey ends.
 use Rattle.dump_records.specs.DumpText.{Ending}
-use Rattle.dump_survey.specs.declared.surveyor.End.{End}
-use Rattle.dump_survey.specs.declared.surveyor.End.TheVariants as ends
+use Rattle.dump_survey.specs.declared.findings.surveyor.End.{End}
+use Rattle.dump_survey.specs.declared.findings.surveyor.End.TheVariants as ends
 
 -- the ending of the list of records, as the program has it
 abbrev pub survey_ending : End → Ending

@@ -12,9 +12,9 @@ use Rattle.dump_filter.specs.WholeText.{IsCleanText}
 use Rattle.dump_history.specs.RecordChanges.{Patching}
 use Rattle.dump_history.specs.Findings.{Finding, is_obstacle, is_alarm}
 use Rattle.dump_history.specs.SurveyLaws.{FindingsByGroup, HaveFindings, DumpRestricts}
-use Rattle.dump_survey.specs.declared.survey.Survey.{Survey}
+use Rattle.dump_survey.specs.declared.findings.survey.Survey.{Survey}
 use Rattle.dump_survey.specs.DumpFindings.{listed_findings}
-use Rattle.dump_survey.specs.Told.{NodeTold, told_view, AreTold}
+use Rattle.dump_survey.specs.Reported.{NodeReport, reported_view, AreReported}
 use Rattle.dump_survey.specs.Surveys.{IsSurveyOf}
 use Rattle.dump_survey.specs.SurveyText.{IsSurveyText}
 
@@ -23,16 +23,16 @@ abbrev pub all_findings : FindingsByGroup → List Finding
 all_findings found = flat_map (λ fs. flat_map (λ node. node) fs) found
 
 -- the findings that are reported of a dump's nodes are those of its groups' nodes, in order, and no others
-abbrev pub ToldAreFindings : Type 0
-ToldAreFindings = (settings : Settings) (dump : List ℕ) (records : List DumpRecord) (ending : Ending)
-    (told : List NodeTold) → HasRecords dump records ending → AreTold settings [] None records told
+abbrev pub ReportsAreFindings : Type 0
+ReportsAreFindings = (settings : Settings) (dump : List ℕ) (records : List DumpRecord) (ending : Ending)
+    (reported : List NodeReport) → HasRecords dump records ending → AreReported settings [] None records reported
     → (found : FindingsByGroup) × HaveFindings settings records found
-    × (map (λ (t : NodeTold). t.finding) told ≡ all_findings found)
+    × (map (λ (t : NodeReport). t.finding) reported ≡ all_findings found)
 
 -- and a dump has one list of them
-abbrev pub ToldOnce : Type 0
-ToldOnce = (settings : Settings) (records : List DumpRecord) (told others : List NodeTold) →
-    AreTold settings [] None records told → AreTold settings [] None records others → others ≡ told
+abbrev pub ReportedOnce : Type 0
+ReportedOnce = (settings : Settings) (records : List DumpRecord) (reported others : List NodeReport) →
+    AreReported settings [] None records reported → AreReported settings [] None records others → others ≡ reported
 
 -- whether the finding is that a copy is filtered differently from its source
 abbrev pub tells_cut : Finding → Bool
@@ -42,13 +42,13 @@ tells_cut _ = false
 
 -- with each of these a prefix responsible is reported, and with no other finding
 abbrev pub EachCutNamesPrefix : Type 0
-EachCutNamesPrefix = (settings : Settings) (records : List DumpRecord) (told : List NodeTold) →
-    AreTold settings [] None records told
-    → map (λ (t : NodeTold). is_some t.prefix) told ≡ map (λ (t : NodeTold). tells_cut t.finding) told
+EachCutNamesPrefix = (settings : Settings) (records : List DumpRecord) (reported : List NodeReport) →
+    AreReported settings [] None records reported
+    → map (λ (t : NodeReport). is_some t.prefix) reported ≡ map (λ (t : NodeReport). tells_cut t.finding) reported
 
 -- whether none of the findings that are reported is of this kind
-abbrev pub none_told : (Finding → Bool) → List NodeTold → Bool
-none_told test told = not (list_any test (map (λ (t : NodeTold). t.finding) told))
+abbrev pub none_reported : (Finding → Bool) → List NodeReport → Bool
+none_reported test reported = not (list_any test (map (λ (t : NodeReport). t.finding) reported))
 
 -- if the filter's answer is clean, and a survey reports nothing of the dump as a whole, and no obstacle and no alarm of
 -- its nodes, loading commutes with filtering
@@ -57,8 +57,8 @@ SilentSurveyRestricts = (patched : Patching) (settings : Settings) (dump text : 
     (survey : Survey) →
     IsCleanText settings dump records text → LengthsFit settings records → IsSurveyOf settings dump survey
     → listed_findings survey.end.dump ≡ []
-    → IsTrue (none_told is_obstacle (map told_view survey.told.items))
-    → IsTrue (none_told is_alarm (map told_view survey.told.items))
+    → IsTrue (none_reported is_obstacle (map reported_view survey.reported.items))
+    → IsTrue (none_reported is_alarm (map reported_view survey.reported.items))
     → DumpRestricts patched settings records text
 
 -- the same holds if the text of a survey says that nothing is found

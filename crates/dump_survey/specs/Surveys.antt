@@ -4,17 +4,17 @@ use Rattle.std.specs.Prelude.{◌≡◌, ℕ, List, [], map, None}
 use Rattle.dump_records.specs.RecordText.{DumpRecord}
 use Rattle.dump_records.specs.DumpText.{HasRecords}
 use Rattle.dump_rules.specs.Settings.{Settings}
-use Rattle.dump_survey.specs.declared.survey.Survey.{Survey}
-use Rattle.dump_survey.specs.DumpTold.{told_at_end, ArePlaces, AreDumpTold}
-use Rattle.dump_survey.specs.PrefixFindings.{prefix_view, told_prefixes}
+use Rattle.dump_survey.specs.declared.findings.survey.Survey.{Survey}
+use Rattle.dump_survey.specs.DumpReport.{reported_at_end, ArePlaces, AreDumpReports}
+use Rattle.dump_survey.specs.PrefixFindings.{prefix_view, reported_prefixes}
 use Rattle.dump_survey.specs.SurveyEnds.{survey_ending}
-use Rattle.dump_survey.specs.Told.{told_view, AreTold}
+use Rattle.dump_survey.specs.Reported.{reported_view, AreReported}
 
 -- this is reported of the dump's nodes, these are its records, and this is the survey
 pub record IsSurveyOf (settings : Settings) (dump : List ℕ) (survey : Survey) : Type 0 where
   pub records : List DumpRecord
   pub has : HasRecords dump records (survey_ending survey.end.end)
-  pub told : AreTold settings [] None records (map told_view survey.told.items)
-  pub found : AreDumpTold settings records (told_at_end survey.end)
+  pub reported : AreReported settings [] None records (map reported_view survey.reported.items)
+  pub found : AreDumpReports settings records (reported_at_end survey.end)
   pub places : ArePlaces settings records survey.end.places
-  pub prefixes : map prefix_view survey.prefixes.items ≡ told_prefixes records settings.prefixes
+  pub prefixes : map prefix_view survey.prefixes.items ≡ reported_prefixes records settings.prefixes

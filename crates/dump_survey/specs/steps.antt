@@ -1,3 +1,4 @@
+pub mod CopyNeeds
 pub mod Counts
 pub mod Folders
 pub mod Found
@@ -6,8 +7,7 @@ pub mod KeptNumbers
 pub mod LeftOutCounts
 pub mod LineViews
 pub mod Losses
-pub mod Naming
-pub mod Needs
+pub mod NamedRevisions
 pub mod Places
 pub mod Prefixes
 pub mod RevisionNumbers

@@ -1,11 +1,11 @@
 //! Laws of surveys, each the contract of a function that does nothing.
-ghost use Rattle.dump_survey.specs.SurveyTies.{EachCutNamesPrefix, SilentSurveyRestricts, SilentTextLeavesDigests, SilentTextRestricts, ToldAreFindings, ToldOnce};
+ghost use Rattle.dump_survey.specs.SurveyTies.{EachCutNamesPrefix, SilentSurveyRestricts, SilentTextLeavesDigests, SilentTextRestricts, ReportsAreFindings, ReportedOnce};
 
 /// What is reported of a dump's nodes is one list, and it is what is found in them, in order. With a copy that is
 /// filtered differently from its source it reports a prefix responsible.
-pub fn each_told_is_found()
-    ensures found { ToldAreFindings }
-    ensures once { ToldOnce }
+pub fn each_report_is_found()
+    ensures found { ReportsAreFindings }
+    ensures once { ReportedOnce }
     ensures prefixes { EachCutNamesPrefix }
 {}
 

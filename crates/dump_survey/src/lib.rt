@@ -2,16 +2,16 @@
 //! dump may be wrong.
 //!
 //! A [`Surveyor`] reads a dump record by record, cut as the filter cuts it. [`Surveyor::next`] gives what is found in
-//! each: of a node of a revision the [`Found`], which [`SurveyedNode::tell`] turns into one [`Told`] for each
-//! [`NodeFinding`]. A [`Told`] has the record's number and place, the revision and the path; of a copy that is filtered
-//! differently from its source it has the first prefix responsible. When the records end, `next` gives what is found in
-//! the dump as a whole, [`DumpFindings`], and whether they end with the dump. Then [`Surveyor::told_prefixes`] gives
-//! the prefixes that have no effect, each with its [`PrefixFinding`].
+//! each: of a node of a revision the [`Found`], which [`SurveyedNode::report`] turns into one [`ReportedFinding`] for
+//! each [`NodeFinding`]. A [`ReportedFinding`] has the record's number and place, the revision and the path; of a copy
+//! that is filtered differently from its source it has the first prefix responsible. When the records end, `next` gives
+//! what is found in the dump as a whole, [`DumpFindings`], and whether they end with the dump. Then
+//! [`Surveyor::reported_prefixes`] gives the prefixes that have no effect, each with its [`PrefixFinding`].
 //!
 //! [`survey_dump`] keeps all this in a [`Survey`]. [`write_survey`] writes a line for each finding as it is
 //! found, and keeps nothing. [`left_out_lines`] counts the lines of mergeinfo that the filter drops,
-//! [`folders_to_make`] gives the parent directories to create, and [`keep_as_well`] the prefixes to add so that
-//! no copy stops the filter; [`write_behind`] writes the lines of all three. [`write_map`] writes the old and the
+//! [`folders_to_make`] gives the parent directories to create, and [`prefixes_to_add`] the prefixes to add so that
+//! no copy stops the filter; [`write_advice`] writes the lines of all three. [`write_map`] writes the old and the
 //! new number of each kept revision.
 //!
 //! ```
@@ -32,66 +32,42 @@
 //!     return;
 //! };
 //! let mut sink = MemorySink::new(rt.alloc(), 8, Trouble::Never);
-//! let written = write_behind(rt.alloc(), CHAIN, &options, true, &mut sink);
+//! let written = write_advice(rt.alloc(), CHAIN, &options, true, &mut sink);
 //! let lines = b"create first: /x\nalso include: /b\nalso include: /a\n".as_slice();
 //! assert!(rt; written.is_err() || sink.taken() == lines);
 //! ```
 //!
-//! `tests::as_well::lines_behind_the_findings_or_no_memory` runs this, on a dump that copies `a` to `b` and `b`
-//! to `c`.
+//! `tests::added_prefixes::advice_or_no_memory` runs this, on a dump that copies `a` to `b` and `b` to `c`.
 //!
 //! The findings in nodes and in the dump are exactly those that `dump_history` defines, in the dump's order, and
 //! [`laws`] says so. The survey looks only at header lines, properties and prefixes. It reads no text of a file
 //! and builds no tree, so a finding may do no harm: there may be no node below the path that it names. It passes
 //! over a node outside of any revision, which the filter rejects, and reports of the whole dump that there is one.
 //!
-//! `Surveyor::new` takes memory for the list of the prefixes and for a set of them, `next` if an excluded prefix
-//! is below a copy or its source, and `told_prefixes` for its list. A surveyor keeps no more of a record when the
-//! next one comes. It compares a copy with each prefix once, so a survey takes time by the number of copies times
-//! that of prefixes. It looks the parts of a node's path up among the prefixes that no earlier node has matched.
+//! `Surveyor::new` takes memory for the list of the prefixes and for a set of them, `next` if an excluded prefix is
+//! below a copy or its source, and `reported_prefixes` for its list. A surveyor keeps no more of a record when the next
+//! one comes. It compares a copy with each prefix once, so a survey takes time by the number of copies times that of
+//! prefixes. It looks the parts of a node's path up among the prefixes that no earlier node has matched.
 #![tactic(auto)]
 
-mod as_well;
-mod counts;
-mod finding;
-mod folders;
-mod growth;
-mod kind_lines;
+mod advice;
+mod findings;
 pub mod laws;
-mod left_out_mergeinfo;
-mod map;
-mod naming;
-mod needs;
-mod node;
-mod places;
-mod prefix_findings;
-mod prefix_lines;
-mod prefix_set;
-mod prefixes;
-mod refused;
-mod revision_numbers;
-mod survey;
-mod survey_lines;
-mod survey_text;
-mod surveyor;
-mod tally;
-mod told;
-mod unread;
-mod whole_finding;
+mod report;
 
-pub use as_well::keep_as_well;
+pub use advice::added_prefixes::prefixes_to_add;
+pub use advice::folders::folders_to_make;
+pub use advice::left_out_mergeinfo::left_out_lines;
 pub use dump_rules::Memory;
-pub use finding::{EVERY_FINDING, Found, NodeFinding};
-pub use folders::folders_to_make;
-pub use left_out_mergeinfo::left_out_lines;
-pub use map::write_map;
-pub use places::{DumpPlaces, Place};
-pub use prefix_findings::{PrefixFinding, ToldPrefix};
-pub use survey::{Survey, survey_dump};
-pub use survey_text::{SurveyFailure, write_behind, write_survey};
-pub use surveyor::{End, Step, SurveyEnd, Surveyor};
-pub use tally::DumpFindings;
-pub use told::{SurveyedNode, Told};
+pub use findings::node_finding::{EVERY_FINDING, Found, NodeFinding};
+pub use findings::places::{DumpPlaces, Place};
+pub use findings::prefix_findings::{PrefixFinding, ReportedPrefix};
+pub use findings::reported::{ReportedFinding, SurveyedNode};
+pub use findings::survey::{Survey, survey_dump};
+pub use findings::surveyor::{End, Step, SurveyEnd, Surveyor};
+pub use findings::tally::DumpFindings;
+pub use report::revision_map::write_map;
+pub use report::survey_text::{SurveyFailure, write_advice, write_survey};
 
 #[cfg(test)]
 mod tests;

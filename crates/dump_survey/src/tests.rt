@@ -1,5 +1,5 @@
 //! What no clause says: example dumps with each finding once.
-use crate::laws::{each_silent_survey_restricts, each_told_is_found};
+use crate::laws::{each_report_is_found, each_silent_survey_restricts};
 use crate::{DumpFindings, End, Memory, NodeFinding, Survey, survey_dump};
 use dump_rules::{Empty, Options, Side};
 use dump_text::FaultKind;
@@ -7,7 +7,7 @@ use std::alloc::{AllocError, Global};
 use std::process::Abort;
 use std::test::Fail;
 
-mod as_well;
+mod added_prefixes;
 mod cuts;
 mod folders;
 mod left_out;
@@ -66,20 +66,20 @@ Node-path: trunk//a\nNode-action: change\n\n\n";
 
 /// Whether one finding is reported, with its place.
 fn is_odd_alone(survey: &Survey<'_, '_>) -> bool {
-    match survey.told.as_slice() {
-        [told] => {
-            told.finding == NodeFinding::OddText
-                && (told.number, told.place, told.revision) == (3, 71, 7)
-                && told.path == b"trunk//a".as_slice()
-                && told.prefix.is_none()
+    match survey.reported.as_slice() {
+        [reported] => {
+            reported.finding == NodeFinding::OddText
+                && (reported.number, reported.place, reported.revision) == (3, 71, 7)
+                && reported.path == b"trunk//a".as_slice()
+                && reported.prefix.is_none()
         }
         _ => false,
     }
 }
 
 #[test]
-fn a_finding_is_told_with_its_place(rt: HostRuntime) -> Result<(), Fail> {
-    each_told_is_found();
+fn a_finding_is_reported_with_its_place(rt: HostRuntime) -> Result<(), Fail> {
+    each_report_is_found();
     each_silent_survey_restricts();
     let options = rules(rt.alloc(), Side::Include, "trunk")?;
     let survey = survey_dump(rt.alloc(), ONE_NODE, &options)?;
@@ -197,7 +197,7 @@ fn is_found_at_end(
 }
 
 #[test]
-fn what_is_found_in_a_dump_is_told_at_its_end(rt: HostRuntime) -> Result<(), Fail> {
+fn what_is_found_in_a_dump_is_reported_at_its_end(rt: HostRuntime) -> Result<(), Fail> {
     for (records, found, end) in &ENDS {
         assert!(rt;
             is_found_at_end(rt.alloc(), records, *found, *end)?,
@@ -274,7 +274,9 @@ fn one_prefix(alloc: Global, side: Side, prefix: &[u8]) -> Result<Options, Memor
 }
 
 fn tells_one_of_each(survey: &Survey<'_, '_>) -> bool {
-    survey.told.len() == 1 && survey.prefixes.len() == 1 && ends_with(survey, NOTHING, End::Whole)
+    survey.reported.len() == 1
+        && survey.prefixes.len() == 1
+        && ends_with(survey, NOTHING, End::Whole)
 }
 
 /// Run with each allocation failing in turn: all is reported, or there is no memory.

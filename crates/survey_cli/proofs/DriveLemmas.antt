@@ -1,5 +1,5 @@
 -- A survey whose last bytes are handed on.
-use Rattle.survey_cli.proofs.Prelude.{◌≡◌, ℕ, Bool, List, [], ◌++◌, Option, None, Some, Result, Ok, Err, IfOk, IfErr, IfSome, OnErr, MatchBool, true, false, inl, inr, refl, sym, ap, subst, ◌∙◌, append_assoc, Appends, Keeps, GrowsBy, append_known, Appends-kept, Appends-trans, from_none, handed_on, part_taken, each_dump_has_one_list, Settings, kept_revisions, LentState, lent_taken, IsPrefixOf, IsSurveyText, BreaksOffSurvey, IsRevisionMap, map_lines, AreLinesBehind, TakesSomeBehind, SurveyFailure, IsCallText, IsMapAskedFor, IsWholeText, SurveysDump, SurveysInput, TakesFirst, BrokenOff, Call, Arrives, FrontBreaksOff, MapBreaksOff, SurveyBreaksOff, told_status}
+use Rattle.survey_cli.proofs.Prelude.{◌≡◌, ℕ, Bool, List, [], ◌++◌, Option, None, Some, Result, Ok, Err, IfOk, IfErr, IfSome, OnErr, MatchBool, true, false, inl, inr, refl, sym, ap, subst, ◌∙◌, append_assoc, Appends, Keeps, GrowsBy, append_known, Appends-kept, Appends-trans, from_none, handed_on, part_taken, each_dump_has_one_list, Settings, kept_revisions, LentState, lent_taken, IsPrefixOf, IsSurveyText, BreaksOffSurvey, IsRevisionMap, map_lines, AreAdviceLines, TakesSomeAdvice, SurveyFailure, IsCallText, IsMapAskedFor, IsWholeText, SurveysDump, SurveysInput, TakesFirst, BrokenOff, Call, Arrives, FrontBreaksOff, MapBreaksOff, SurveyBreaksOff, told_status}
 use Rattle.std.proofs.lemmas.List.{append-nil}
 
 -- who took the first bytes of a first part took the first of the whole
@@ -30,7 +30,7 @@ survey_broke_off settings dump old new off = (off.text, off.found, inl off.is, (
 module _ (settings : Settings) (dump : List ℕ) (old mid new : Option (List ℕ)) (found : Bool)
     (survey : (text : List ℕ) × IsSurveyText settings dump text found × Appends old mid text) where
   -- a survey and the lines behind it
-  whole_with : (lines : List ℕ) → AreLinesBehind settings dump lines
+  whole_with : (lines : List ℕ) → AreAdviceLines settings dump lines
       → IsWholeText settings dump (survey.0 ++ lines) found
   whole_with lines are = record {
     survey = survey.0;
@@ -40,13 +40,13 @@ module _ (settings : Settings) (dump : List ℕ) (old mid new : Option (List ℕ
     text_is = refl;
   }
 
-  pub whole_written : (lines : List ℕ) × AreLinesBehind settings dump lines × Appends mid new lines
+  pub whole_written : (lines : List ℕ) × AreAdviceLines settings dump lines × Appends mid new lines
       → (text : List ℕ) × IsWholeText settings dump text found × Appends old new text
   whole_written (lines, are, appends) =
       (survey.0 ++ lines, whole_with lines are, Appends-trans old mid new survey.0 lines survey.2 appends)
 
   -- a survey behind which the lines broke off
-  pub lines_broke_off : TakesSomeBehind settings dump mid new → FrontBreaksOff settings dump old new
+  pub lines_broke_off : TakesSomeAdvice settings dump mid new → FrontBreaksOff settings dump old new
   lines_broke_off (inl none) = (
     survey.0,
     found,

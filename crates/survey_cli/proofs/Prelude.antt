@@ -7,7 +7,7 @@ pub use Rattle.std.specs.Io.KnownBytes.{Appends, GrowsBy, Keeps, append_known}
 pub use Rattle.dump_filter.specs.Groups.{kept_revisions}
 pub use Rattle.dump_records.proofs.ListLaw.{each_dump_has_one_list}
 pub use Rattle.dump_rules.specs.Settings.{Settings}
-pub use Rattle.dump_survey.specs.LinesBehind.{AreLinesBehind, TakesSomeBehind}
+pub use Rattle.dump_survey.specs.AdviceLines.{AreAdviceLines, TakesSomeAdvice}
 pub use Rattle.dump_survey.specs.RevisionMap.{IsRevisionMap, map_lines}
 pub use Rattle.dump_survey.specs.SurveyText.{BreaksOffSurvey, IsSurveyText}
 pub use Rattle.dump_writer.specs.SinkWords.{IsPrefixOf}
@@ -24,7 +24,7 @@ pub use Rattle.dump_rules.specs.declared.options.Empty.{Empty}
 pub use Rattle.dump_rules.specs.declared.options.Empty.TheVariants.{DropAll, Pad}
 pub use Rattle.dump_rules.specs.declared.options.Side.{Side}
 pub use Rattle.dump_rules.specs.declared.options.Side.TheVariants.{Include}
-pub use Rattle.dump_survey.specs.declared.survey_text.SurveyFailure.{SurveyFailure}
+pub use Rattle.dump_survey.specs.declared.report.survey_text.SurveyFailure.{SurveyFailure}
 pub use Rattle.survey_cli.specs.declared.drive.BrokenOff.{BrokenOff}
 pub use Rattle.survey_cli.specs.declared.words.Call.{Call}
 pub use Rattle.cli_support.specs.declared.usage.Usage.{Usage}

@@ -3,7 +3,7 @@ use Rattle.std.specs.Prelude.{◌≡◌, ℕ, Bool, true, false, ◌⊎◌, List
 use Rattle.std.specs.Io.KnownBytes.{Keeps, Appends}
 use Rattle.dump_rules.specs.Settings.{Settings}
 use Rattle.dump_writer.specs.SinkWords.{IsPrefixOf}
-use Rattle.dump_survey.specs.LinesBehind.{AreLinesBehind}
+use Rattle.dump_survey.specs.AdviceLines.{AreAdviceLines}
 use Rattle.dump_survey.specs.RevisionMap.{IsRevisionMap}
 use Rattle.dump_survey.specs.SurveyText.{IsSurveyText}
 use Rattle.survey_cli.specs.Words.{TellsCall}
@@ -29,7 +29,7 @@ pub record IsWholeText (settings : Settings) (dump text : List ℕ) (found : Boo
   pub survey : List ℕ
   pub is_survey : IsSurveyText settings dump survey found
   pub behind : List ℕ
-  pub are_behind : AreLinesBehind settings dump behind
+  pub are_behind : AreAdviceLines settings dump behind
   pub text_is : text ≡ survey ++ behind
 
 -- this is the map of revisions if it is asked for, and nothing if it isn't

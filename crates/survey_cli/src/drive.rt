@@ -14,7 +14,7 @@ use cli_support::{
     refuse,
 };
 use dump_rules::Options;
-use dump_survey::{SurveyFailure, write_behind, write_map, write_survey};
+use dump_survey::{SurveyFailure, write_advice, write_map, write_survey};
 use dump_writer::OutMut;
 use std::alloc::Global;
 use std::io::{Read, Write};
@@ -140,7 +140,7 @@ fn write_front<W: Write>(
     ensures loan { loan_of sink.new ≡ loan_of sink.old }
 {
     let found = write_survey(alloc, dump, options, sink)?;
-    write_behind(alloc, dump, options, found, sink)?;
+    write_advice(alloc, dump, options, found, sink)?;
     Ok(found)
 }
 

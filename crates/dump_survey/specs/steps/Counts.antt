@@ -1,8 +1,8 @@
 -- How often each kind of finding was reported, as the survey counts it.
 use Rattle.std.specs.Prelude.{◌≡◌, ℕ, ◌+◌, if◌then◌else◌}
 use Rattle.dump_history.specs.Findings.{Finding}
-use Rattle.dump_survey.specs.declared.counts.Counts.{Counts}
-use Rattle.dump_survey.specs.declared.finding.Found.{Found}
+use Rattle.dump_survey.specs.declared.report.counts.Counts.{Counts}
+use Rattle.dump_survey.specs.declared.findings.node_finding.Found.{Found}
 use Rattle.dump_survey.specs.steps.Found.{has_found}
 
 -- before the first node

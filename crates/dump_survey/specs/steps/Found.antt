@@ -5,9 +5,9 @@ use Rattle.dump_records.specs.RecordText.{DumpRecord}
 use Rattle.dump_rules.specs.Settings.{Settings}
 use Rattle.dump_history.specs.Findings.{Finding, every_finding, NodeFaults, AreNodeFaultsOf, is_found, IsReadBlock}
 use Rattle.dump_survey.specs.CuttingPrefix.{cutting_prefix}
-use Rattle.dump_survey.specs.declared.finding.Found.{Found}
-use Rattle.dump_survey.specs.declared.revision_numbers.Numbers.{Numbers}
-use Rattle.dump_survey.specs.declared.refused.Refused.{Refused}
+use Rattle.dump_survey.specs.declared.findings.node_finding.Found.{Found}
+use Rattle.dump_survey.specs.declared.findings.revision_numbers.Numbers.{Numbers}
+use Rattle.dump_survey.specs.declared.findings.refused.Refused.{Refused}
 use Rattle.dump_survey.specs.steps.RevisionNumbers.{AreNumbersBehind}
 
 -- whether this is among what is found

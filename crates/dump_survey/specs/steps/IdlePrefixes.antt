@@ -6,9 +6,9 @@ use Rattle.dump_rules.specs.Prefix.{bare_prefix, bare_path, begins_path}
 use Rattle.dump_digest.specs.RecordParts.{is_node, is_copy, node_path}
 use Rattle.dump_history.specs.RecordChanges.{copy_path}
 use Rattle.dump_history.specs.Findings.{makes_copy}
-use Rattle.dump_survey.specs.declared.prefix_findings.PrefixFinding.{PrefixFinding}
-use Rattle.dump_survey.specs.declared.prefix_findings.PrefixFinding.TheVariants.{NotShort, Idle}
-use Rattle.dump_survey.specs.PrefixFindings.{PrefixTold, is_short_prefix}
+use Rattle.dump_survey.specs.declared.findings.prefix_findings.PrefixFinding.{PrefixFinding}
+use Rattle.dump_survey.specs.declared.findings.prefix_findings.PrefixFinding.TheVariants.{NotShort, Idle}
+use Rattle.dump_survey.specs.PrefixFindings.{PrefixReport, is_short_prefix}
 
 -- whether the text is one of them
 abbrev pub is_among : List ℕ → List (List ℕ) → Bool
@@ -42,9 +42,9 @@ finding_by idle prefix =
     if is_short_prefix prefix then (if is_among (bare_prefix prefix) idle then Some Idle else None) else Some NotShort
 
 -- what is reported of the prefix then
-abbrev pub told_by : List (List ℕ) → List ℕ → Option PrefixTold
-told_by idle prefix = option_map (λ finding. record { prefix = prefix; finding = finding }) (finding_by idle prefix)
+abbrev pub reported_by : List (List ℕ) → List ℕ → Option PrefixReport
+reported_by idle prefix = option_map (λ finding. record { prefix = prefix; finding = finding }) (finding_by idle prefix)
 
 -- and of prefixes
-abbrev pub prefixes_by : List (List ℕ) → List (List ℕ) → List PrefixTold
-prefixes_by idle prefixes = filter_map (told_by idle) prefixes
+abbrev pub prefixes_by : List (List ℕ) → List (List ℕ) → List PrefixReport
+prefixes_by idle prefixes = filter_map (reported_by idle) prefixes

@@ -6,8 +6,8 @@ use Rattle.dump_rules.specs.Renumbering.{KeptRevisions}
 use Rattle.dump_rules.specs.Settings.{Settings}
 use Rattle.dump_digest.specs.RecordParts.{is_node}
 use Rattle.dump_filter.specs.Groups.{kept_revisions}
-use Rattle.dump_survey.specs.declared.map.KeptNumbers.{KeptNumbers}
-use Rattle.dump_survey.specs.declared.tally.Present.{Present}
+use Rattle.dump_survey.specs.declared.report.revision_map.KeptNumbers.{KeptNumbers}
+use Rattle.dump_survey.specs.declared.findings.tally.Present.{Present}
 use Rattle.dump_survey.specs.steps.Tally.{keeps_open}
 
 -- the present revision, which has no more nodes, if it is kept

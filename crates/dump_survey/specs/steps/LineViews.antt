@@ -1,8 +1,8 @@
 -- The values that the program has for the findings in a dump as a whole, and for what the lines of kinds say.
 use Rattle.dump_history.specs.Findings.{DumpFinding}
-use Rattle.dump_survey.specs.declared.kind_lines.Kind.{Kind}
-use Rattle.dump_survey.specs.declared.whole_finding.WholeFinding.{WholeFinding}
-use Rattle.dump_survey.specs.declared.whole_finding.WholeFinding.TheVariants as whole
+use Rattle.dump_survey.specs.declared.report.kind_lines.Kind.{Kind}
+use Rattle.dump_survey.specs.declared.findings.whole_finding.WholeFinding.{WholeFinding}
+use Rattle.dump_survey.specs.declared.findings.whole_finding.WholeFinding.TheVariants as whole
 use Rattle.dump_survey.specs.Kinds.{KindText}
 
 -- the finding that a word of the program means

@@ -7,8 +7,8 @@ use Rattle.dump_history.specs.RecordChanges.{has_known_action, has_odd_delta, ha
 use Rattle.dump_history.specs.Findings.{Finding, is_found, lacks_source}
 use Rattle.dump_history.specs.steps.NodeReading.{no_node_faults}
 use Rattle.dump_survey.specs.CuttingPrefix.{cutting_prefix}
-use Rattle.dump_survey.specs.declared.finding.Obstacles.{Obstacles}
-use Rattle.dump_survey.specs.declared.finding.Losses.{Losses}
+use Rattle.dump_survey.specs.declared.findings.node_finding.Obstacles.{Obstacles}
+use Rattle.dump_survey.specs.declared.findings.node_finding.Losses.{Losses}
 
 -- the obstacles are those of the node, whose properties are these
 pub record AreObstaclesOf (r : DumpRecord) (ps : Option (List Property)) (o : Obstacles) : Type 0 where

@@ -10,7 +10,7 @@ use Rattle.dump_filter.specs.NewHeaders.{stays_copy}
 use Rattle.dump_filter.specs.RecordFaults.{present_number}
 use Rattle.dump_history.specs.Findings.{begins_at}
 use Rattle.dump_history.specs.steps.NodeReading.{has_up_to}
-use Rattle.dump_survey.specs.declared.revision_numbers.Numbers.{Numbers}
+use Rattle.dump_survey.specs.declared.findings.revision_numbers.Numbers.{Numbers}
 
 -- whether there is such a number, and it is at most this one
 abbrev pub is_up_to : ℕ → Option ℕ → Bool

@@ -6,19 +6,19 @@ use Rattle.dump_records.specs.DumpText.{BeginsWithRecords, HasRecords}
 use Rattle.dump_records.specs.steps.RecordViews.{record_item, record_number}
 use Rattle.dump_rules.specs.Settings.{Settings}
 use Rattle.dump_digest.specs.RecordParts.{is_node}
-use Rattle.dump_survey.specs.declared.tally.Present.{Present}
-use Rattle.dump_survey.specs.declared.tally.Tally.{Tally}
-use Rattle.dump_survey.specs.declared.surveyor.End.{End}
-use Rattle.dump_survey.specs.declared.surveyor.Known.{Known}
-use Rattle.dump_survey.specs.declared.surveyor.SurveyEnd.{SurveyEnd}
-use Rattle.dump_survey.specs.declared.surveyor.Step.{Step}
-use Rattle.dump_survey.specs.declared.surveyor.Step.TheVariants.{Node, Other, Finished}
+use Rattle.dump_survey.specs.declared.findings.tally.Present.{Present}
+use Rattle.dump_survey.specs.declared.findings.tally.Tally.{Tally}
+use Rattle.dump_survey.specs.declared.findings.surveyor.End.{End}
+use Rattle.dump_survey.specs.declared.findings.surveyor.Known.{Known}
+use Rattle.dump_survey.specs.declared.findings.surveyor.SurveyEnd.{SurveyEnd}
+use Rattle.dump_survey.specs.declared.findings.surveyor.Step.{Step}
+use Rattle.dump_survey.specs.declared.findings.surveyor.Step.TheVariants.{Node, Other, Finished}
 use Rattle.dump_survey.specs.DumpFindings.{listed_findings}
-use Rattle.dump_survey.specs.DumpTold.{told_at_end, ArePlaces, AreDumpTold}
+use Rattle.dump_survey.specs.DumpReport.{reported_at_end, ArePlaces, AreDumpReports}
 use Rattle.dump_survey.specs.steps.Found.{IsFoundIn}
-use Rattle.dump_survey.specs.PrefixFindings.{PrefixTold, told_prefixes}
-use Rattle.dump_survey.specs.Told.{present_after, IsToldOf}
-use Rattle.dump_survey.specs.steps.Surveyed.{told_of_node}
+use Rattle.dump_survey.specs.PrefixFindings.{PrefixReport, reported_prefixes}
+use Rattle.dump_survey.specs.Reported.{present_after, IsReportedOf}
+use Rattle.dump_survey.specs.steps.Surveyed.{reported_of_node}
 use Rattle.dump_survey.specs.SurveyEnds.{survey_ending}
 use Rattle.dump_survey.specs.steps.Surveying.{Surveying}
 use Rattle.dump_survey.specs.steps.Tally.{numbers_of, tally_findings}
@@ -33,9 +33,9 @@ IsStepOf settings item tally Other = (tally.present ≡ None) ⊎ (is_node (reco
 IsStepOf settings item tally (Finished end) = ⊥
 
 -- this end is given, and what is found after the records of which this is known, with their places
-abbrev pub TellsEnd : Known → End → SurveyEnd → Type 0
-TellsEnd known end told = (told.end ≡ end) × (told.places ≡ known.places)
-    × (listed_findings told.dump ≡ tally_findings known.tally known.numbers_left known.unread_revision)
+abbrev pub ReportsEnd : Known → End → SurveyEnd → Type 0
+ReportsEnd known end reported = (reported.end ≡ end) × (reported.places ≡ known.places)
+    × (listed_findings reported.dump ≡ tally_findings known.tally known.numbers_left known.unread_revision)
 
 -- the revision that a node belongs to which comes after these records, if it would have belonged to this one
 abbrev pub open_behind : Option ℕ → List DumpRecord → Option ℕ
@@ -52,15 +52,15 @@ pub record ComesNext (old : Surveying) (before : List DumpRecord) (r : DumpRecor
 abbrev pub SurveyStep : Surveying → Step → Surveying → Type 0
 SurveyStep old (Node node) new = (before : List DumpRecord) × ComesNext old before (record_item node.item) new
     × (record_number node.item ≡ old.number) × (is_node (record_item node.item) ≡ true)
-    × IsToldOf old.settings before (open_behind None before) (record_item node.item) (told_of_node node)
+    × IsReportedOf old.settings before (open_behind None before) (record_item node.item) (reported_of_node node)
 SurveyStep old Other new = (before : List DumpRecord) × (r : DumpRecord) × ComesNext old before r new
-    × IsToldOf old.settings before (open_behind None before) r []
+    × IsReportedOf old.settings before (open_behind None before) r []
 SurveyStep old (Finished end) new = (records : List DumpRecord) × HasRecords old.dump records (survey_ending end.end)
     × (length records ≡ old.number)
-    × AreDumpTold old.settings records (told_at_end end) × ArePlaces old.settings records end.places
+    × AreDumpReports old.settings records (reported_at_end end) × ArePlaces old.settings records end.places
     × (new ≡ old)
 
 -- this is reported of the prefixes by the records that the surveyor has given
-abbrev pub ArePrefixesTold : Surveying → List PrefixTold → Type 0
-ArePrefixesTold state told = (before : List DumpRecord) × BeginsWithRecords state.dump before
-    × (length before ≡ state.number) × (told ≡ told_prefixes before state.settings.prefixes)
+abbrev pub ArePrefixesReported : Surveying → List PrefixReport → Type 0
+ArePrefixesReported state reported = (before : List DumpRecord) × BeginsWithRecords state.dump before
+    × (length before ≡ state.number) × (reported ≡ reported_prefixes before state.settings.prefixes)

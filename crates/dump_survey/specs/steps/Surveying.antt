@@ -6,10 +6,10 @@ use Rattle.dump_records.specs.steps.CutterState.{CutterState}
 use Rattle.dump_rules.specs.Settings.{Settings}
 use Rattle.dump_rules.specs.Prefix.{bare_prefix}
 use Rattle.dump_history.specs.Findings.{HasUnreadRevision}
-use Rattle.dump_survey.specs.declared.surveyor.Known.{Known}
+use Rattle.dump_survey.specs.declared.findings.surveyor.Known.{Known}
 use Rattle.dump_survey.specs.steps.IdlePrefixes.{AreIdle}
-use Rattle.dump_survey.specs.steps.Naming.{LeaveNumber}
-use Rattle.dump_survey.specs.DumpTold.{ArePlaces}
+use Rattle.dump_survey.specs.steps.NamedRevisions.{LeaveNumber}
+use Rattle.dump_survey.specs.DumpReport.{ArePlaces}
 use Rattle.dump_survey.specs.steps.Tally.{no_tally, tally_behind}
 
 -- a surveyor: its dump, the filter's options, and how many records it has given

@@ -5,9 +5,9 @@ use Rattle.dump_rules.specs.Settings.{Settings}
 use Rattle.dump_digest.specs.RecordParts.{is_revision_record, is_node, is_kept_node}
 use Rattle.dump_filter.specs.Groups.{revision_number, keeps_empty}
 use Rattle.dump_history.specs.Findings.{DumpFinding, every_dump_finding, copies_from_before}
-use Rattle.dump_survey.specs.declared.revision_numbers.Numbers.{Numbers}
-use Rattle.dump_survey.specs.declared.tally.Present.{Present}
-use Rattle.dump_survey.specs.declared.tally.Tally.{Tally}
+use Rattle.dump_survey.specs.declared.findings.revision_numbers.Numbers.{Numbers}
+use Rattle.dump_survey.specs.declared.findings.tally.Present.{Present}
+use Rattle.dump_survey.specs.declared.findings.tally.Tally.{Tally}
 
 -- before the first record
 abbrev pub no_tally : Tally

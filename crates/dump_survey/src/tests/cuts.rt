@@ -1,17 +1,17 @@
 //! The prefix that is reported with a copy that is filtered differently.
 use super::{COPIED, rules};
-use crate::{NodeFinding, Told, survey_dump};
+use crate::{NodeFinding, ReportedFinding, survey_dump};
 use dump_rules::Side;
 use std::test::Fail;
 
 /// Whether this finding names this prefix.
-fn names(told: &Told<'_, '_>, finding: NodeFinding, prefix: &[u8]) -> bool {
-    told.finding == finding && told.prefix == Some(prefix)
+fn names(reported: &ReportedFinding<'_, '_>, finding: NodeFinding, prefix: &[u8]) -> bool {
+    reported.finding == finding && reported.prefix == Some(prefix)
 }
 
 /// Whether two findings are reported, of what is lost and of what comes back, with these prefixes.
-fn are_cut(told: &[Told<'_, '_>]) -> bool {
-    match told {
+fn are_cut(reported: &[ReportedFinding<'_, '_>]) -> bool {
+    match reported {
         [loses, lets_in] => {
             names(loses, NodeFinding::CopyLoses, b"/t/f/")
                 && names(lets_in, NodeFinding::CopyLetsIn, b"b/g")
@@ -21,9 +21,9 @@ fn are_cut(told: &[Told<'_, '_>]) -> bool {
 }
 
 #[test]
-fn the_first_prefix_that_cuts_is_told(rt: HostRuntime) -> Result<(), Fail> {
+fn the_first_prefix_that_cuts_is_reported(rt: HostRuntime) -> Result<(), Fail> {
     let options = rules(rt.alloc(), Side::Exclude, "o b/g /t/f/ t/e b/a")?;
     let survey = survey_dump(rt.alloc(), COPIED, &options)?;
-    assert!(rt; are_cut(&survey.told));
+    assert!(rt; are_cut(&survey.reported));
     Ok(())
 }

@@ -1,6 +1,6 @@
 //! Lines of mergeinfo that are omitted, on example dumps.
 use super::rules;
-use crate::{left_out_lines, write_behind};
+use crate::{left_out_lines, write_advice};
 use dump_rules::{Empty, Options, Side};
 use dump_writer::{MemorySink, Trouble};
 use std::alloc::Global;
@@ -63,7 +63,7 @@ Node-path: a/b\nProp-content-length: 43\n\nK 13\nsvn:mergeinfo\nV 9\n/branch:1\n
 /// Whether these lines follow the findings.
 fn stand_behind(alloc: Global, options: &Options, lines: &[u8]) -> bool {
     let mut sink = MemorySink::new(alloc, 8, Trouble::Never);
-    let written = write_behind(alloc, MERGED, options, true, &mut sink);
+    let written = write_advice(alloc, MERGED, options, true, &mut sink);
     written == Ok(()) && sink.taken() == lines
 }
 

@@ -1,19 +1,19 @@
 //! What is found in single nodes.
 use super::rules;
-use crate::{NodeFinding, Told, survey_dump};
+use crate::{NodeFinding, ReportedFinding, survey_dump};
 use dump_rules::{Empty, Options, Side};
 use std::alloc::Global;
 use std::process::Abort;
 use std::test::Fail;
 
 /// Whether these are the findings that are reported.
-fn are_told(told: &[Told<'_, '_>], wanted: &[NodeFinding]) -> bool {
-    for (told, finding) in told.iter().zip(wanted) {
-        if told.finding != *finding {
+fn are_reported(reported: &[ReportedFinding<'_, '_>], wanted: &[NodeFinding]) -> bool {
+    for (reported, finding) in reported.iter().zip(wanted) {
+        if reported.finding != *finding {
             return false;
         }
     }
-    told.len() == wanted.len()
+    reported.len() == wanted.len()
 }
 
 /// Asserts that these are the findings in a dump, whose last node is this one.
@@ -26,7 +26,7 @@ fn assert_found(
     wanted: &[NodeFinding],
 ) -> Result<(), Fail> {
     let survey = survey_dump(alloc, dump.as_bytes(), options)?;
-    assert!(rt; are_told(&survey.told, wanted), "{node}");
+    assert!(rt; are_reported(&survey.reported, wanted), "{node}");
     Ok(())
 }
 

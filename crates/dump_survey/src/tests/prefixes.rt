@@ -1,6 +1,6 @@
 //! What is found in prefixes, on an example dump.
 use super::rules;
-use crate::{PrefixFinding, ToldPrefix, survey_dump};
+use crate::{PrefixFinding, ReportedPrefix, survey_dump};
 use dump_rules::Side;
 use std::alloc::Global;
 use std::test::Fail;
@@ -15,9 +15,9 @@ Node-path: /b\nNode-kind: dir\nNode-action: add\nNode-copyfrom-rev: 1\nNode-copy
 Node-path: g\nNode-kind: dir\nNode-action: add\nNode-copyfrom-rev: 1\nNode-copyfrom-path: b/f\n\n\n";
 
 /// Whether this is found in these prefixes and no others, which are in a text with a blank after each.
-fn are_told(told: &[ToldPrefix<'_>], finding: PrefixFinding, words: &str) -> bool {
+fn are_reported(reported: &[ReportedPrefix<'_>], finding: PrefixFinding, words: &str) -> bool {
     let mut rest = words.as_bytes();
-    for one in told {
+    for one in reported {
         if one.finding == finding {
             match rest.strip_prefix(one.prefix) {
                 Some([b' ', behind @ ..]) => rest = behind,
@@ -33,14 +33,14 @@ fn tells(alloc: Global, words: &str, not_short: &str, idle: &str) -> Result<bool
     let options = rules(alloc, Side::Exclude, words)?;
     let survey = survey_dump(alloc, COPIES, &options)?;
     Ok(
-        are_told(&survey.prefixes, PrefixFinding::NotShort, not_short)
-            && are_told(&survey.prefixes, PrefixFinding::Idle, idle),
+        are_reported(&survey.prefixes, PrefixFinding::NotShort, not_short)
+            && are_reported(&survey.prefixes, PrefixFinding::Idle, idle),
     )
 }
 
 /// Each row has the prefixes, with blanks between them, those that aren't canonical, and those that are idle.
 #[test]
-fn prefixes_are_told_in_their_order(rt: HostRuntime) -> Result<(), Fail> {
+fn prefixes_are_reported_in_their_order(rt: HostRuntime) -> Result<(), Fail> {
     let rows = [
         ("t /t/ / b/f g b/ff /b/x/y/ g/x", "", ""),
         ("T ./t t", "./t ", "T "),

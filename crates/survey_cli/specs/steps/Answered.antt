@@ -2,7 +2,7 @@
 use Rattle.std.specs.Prelude.{◌⊎◌, ℕ, Bool, List, [], Option, Result, Ok, Err}
 use Rattle.std.specs.Io.KnownBytes.{Appends}
 use Rattle.dump_rules.specs.Settings.{Settings}
-use Rattle.dump_survey.specs.LinesBehind.{TakesSome}
+use Rattle.dump_survey.specs.AdviceLines.{TakesSome}
 use Rattle.dump_survey.specs.SurveyText.{IsSurveyText}
 use Rattle.survey_cli.specs.Drive.{IsCallText, IsMapAskedFor, IsText, IsWholeText, TakesFirst, finding_status}
 use Rattle.survey_cli.specs.declared.words.Call.{Call}

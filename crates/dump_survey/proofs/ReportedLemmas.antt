@@ -1,0 +1,58 @@
+-- What is reported of a node, finding by finding.
+use Rattle.dump_survey.proofs.Prelude.{◌≡◌, ℕ, Bool, true, false, List, [], ◌∷◌, ◌++◌, map, flat_map, filter, cond, refl, sym, ap, ◌∙◌, append_assoc, map-append, Finding, NodeFinding, Found, ReportedFinding, meaning, has_found, NodeReport, reported_view}
+use Rattle.dump_survey.specs.Lines.{node_line}
+
+-- what is reported of those of the findings that are found
+abbrev pub reported_left : (Finding → NodeReport) → Found → List NodeFinding → List NodeReport
+reported_left report found left = map report (filter (λ f. has_found found f) (map meaning left))
+
+module _ (report : Finding → NodeReport) (found : Found) (finding : NodeFinding) (left : List NodeFinding) where
+  found_first : has_found found (meaning finding) ≡ true
+      → reported_left report found (finding ∷ left) ≡ report (meaning finding) ∷ reported_left report found left
+  found_first is = by (has_found found (meaning finding)) is
+    where
+      by : (b : Bool) → b ≡ true → map report (cond b
+          (meaning finding ∷ filter (λ f. has_found found f) (map meaning left))
+          (filter (λ f. has_found found f) (map meaning left)))
+          ≡ report (meaning finding) ∷ reported_left report found left
+      by true is = refl
+      by false is = cc
+
+  -- what isn't found isn't reported
+  pub not_reported : has_found found (meaning finding) ≡ false
+      → reported_left report found (finding ∷ left) ≡ reported_left report found left
+  not_reported is = by (has_found found (meaning finding)) is
+    where
+      by : (b : Bool) → b ≡ false → map report (cond b
+          (meaning finding ∷ filter (λ f. has_found found f) (map meaning left))
+          (filter (λ f. has_found found f) (map meaning left)))
+          ≡ reported_left report found left
+      by true is = cc
+      by false is = refl
+
+  -- what is found is reported next
+  pub reported_next : (items : List ReportedFinding) (reported : ReportedFinding) → has_found found (meaning finding) ≡ true
+      → reported_view reported ≡ report (meaning finding)
+      → map reported_view items ++ reported_left report found (finding ∷ left)
+      ≡ map reported_view (items ++ reported ∷ []) ++ reported_left report found left
+  reported_next items reported is view =
+      ap (λ l. map reported_view items ++ l) (found_first is)
+      ∙ (sym (append_assoc (map reported_view items) (report (meaning finding) ∷ []) (reported_left report found left))
+      ∙ ap (λ l. l ++ reported_left report found left)
+      (ap (λ v. map reported_view items ++ v ∷ []) (sym view) ∙ sym (map-append reported_view items (reported ∷ []))))
+
+  -- and its line is next
+  pub next_line : (all old new : List ℕ) → has_found found (meaning finding) ≡ true
+      → all ≡ old ++ flat_map node_line (reported_left report found (finding ∷ left))
+      → new ≡ old ++ node_line (report (meaning finding))
+      → all ≡ new ++ flat_map node_line (reported_left report found left)
+  next_line all old new is so_far more =
+      so_far ∙ (ap (λ l. old ++ flat_map node_line l) (found_first is)
+      ∙ (sym (append_assoc old (node_line (report (meaning finding))) (flat_map node_line (reported_left report found left)))
+      ∙ ap (λ l. l ++ flat_map node_line (reported_left report found left)) (sym more)))
+
+  -- what isn't found has no line
+  pub no_line : (all old : List ℕ) → has_found found (meaning finding) ≡ false
+      → all ≡ old ++ flat_map node_line (reported_left report found (finding ∷ left))
+      → all ≡ old ++ flat_map node_line (reported_left report found left)
+  no_line all old is so_far = so_far ∙ ap (λ l. old ++ flat_map node_line l) (not_reported is)

@@ -1,9 +1,0 @@
-use Rattle.dump_survey.proofs.Prelude.{◌≡◌, ◌++◌, length, map, prefix_view, prefixes_by}
-use Rattle.dump_survey.proofs.prefix_findings.told_prefixes.Given as goal
-
-abbrev pub invariant-loop-left : goal.invariant-loop-left
-invariant-loop-left l = prefixes_by l.idle (map (λ prefix. prefix.now) l.prefixes)
-    ≡ map prefix_view l.told.items ++ prefixes_by l.idle (map (λ prefix. prefix.now) l.left)
-
-abbrev pub decreases-loop-left : goal.decreases-loop-left
-decreases-loop-left l = length l.left

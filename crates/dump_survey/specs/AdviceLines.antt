@@ -1,0 +1,39 @@
+-- What follows the findings, word for word: how many lines of mergeinfo are dropped, the parent directories to create,
+-- and the prefixes to add.
+use Rattle.std.specs.Prelude.{◌≡◌, ℕ, ◌⊎◌, List, [], ◌∷◌, ◌++◌, flat_map, codes, Option}
+use Rattle.std.specs.List.{concat}
+use Rattle.std.specs.Io.KnownBytes.{Appends}
+use Rattle.dump_rules.specs.Settings.{Settings}
+use Rattle.dump_writer.specs.SinkWords.{IsPrefixOf}
+use Rattle.dump_survey.specs.AddedPrefixLines.{AreAddedPrefixLines}
+use Rattle.dump_survey.specs.Folders.{AreFoldersToMake}
+use Rattle.dump_survey.specs.LeftOutLine.{left_out_line}
+use Rattle.dump_survey.specs.LeftOutMergeinfo.{AreLeftOutIn}
+use Rattle.dump_survey.specs.Lines.{shown_path}
+
+-- the line of a directory to create
+unfoldable pub folder_line : List ℕ → List ℕ
+folder_line path = concat (codes "create first: " ∷ shown_path path ∷ codes "\n" ∷ [])
+
+-- one line for each of the directories
+abbrev pub folder_lines : List (List ℕ) → List ℕ
+folder_lines folders = flat_map folder_line folders
+
+-- these are the lines after the findings if this dump is filtered
+pub record AreAdviceLines (settings : Settings) (dump lines : List ℕ) : Type 0 where
+  pub left_out : ℕ
+  pub are_left_out : AreLeftOutIn settings dump left_out
+  pub folders : List (List ℕ)
+  pub are_folders : AreFoldersToMake settings folders
+  pub added_lines : List ℕ
+  pub are_added_lines : AreAddedPrefixLines settings dump added_lines
+  pub lines_are : lines ≡ left_out_line left_out ++ folder_lines folders ++ added_lines
+
+-- the sink took a first part of the lines
+abbrev pub TakesSome : Option (List ℕ) → Option (List ℕ) → List ℕ → Type 0
+TakesSome old new lines = (part : List ℕ) × IsPrefixOf part lines × Appends old new part
+
+-- the sink took nothing, or a first part of the lines after the findings
+abbrev pub TakesSomeAdvice : Settings → List ℕ → Option (List ℕ) → Option (List ℕ) → Type 0
+TakesSomeAdvice settings dump old new =
+    Appends old new [] ⊎ ((lines : List ℕ) × AreAdviceLines settings dump lines × TakesSome old new lines)

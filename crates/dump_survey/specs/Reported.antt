@@ -1,0 +1,78 @@
+-- What a survey reports of a dump: each finding in a node of a revision, in order, and where it is.
+use Rattle.std.specs.Prelude.{◌≡◌, ℕ, List, [], ◌∷◌, ◌++◌, length, map, Option, Some, None, option_copied, if◌then◌else◌, MatchBool}
+use Rattle.dump_records.specs.RecordText.{DumpRecord}
+use Rattle.dump_rules.specs.Settings.{Settings}
+use Rattle.dump_digest.specs.RecordParts.{is_revision_record, is_node, node_path}
+use Rattle.dump_filter.specs.Groups.{revision_number}
+use Rattle.dump_history.specs.RecordChanges.{copy_path, copy_revision}
+use Rattle.dump_history.specs.Findings.{Finding, AreFindingsOf}
+use Rattle.dump_survey.specs.CuttingPrefix.{cutting_prefix}
+use Rattle.dump_survey.specs.Meaning.{meaning}
+use Rattle.dump_survey.specs.declared.findings.reported.ReportedFinding.{ReportedFinding}
+
+-- a finding in a node: the record's number and place, the number of the revision that it belongs to, its path, what it
+-- is copied from, no bytes and 0 if it is no copy, and the first prefix by which the copy is filtered differently from
+-- its source
+pub record NodeReport : Type 0 where
+  pub finding : Finding
+  pub number : ℕ
+  pub place : ℕ
+  pub revision : ℕ
+  pub path : List ℕ
+  pub copy_path : List ℕ
+  pub copy_revision : ℕ
+  pub prefix : Option (List ℕ)
+
+-- a finding as the program has it
+abbrev pub reported_view : ReportedFinding → NodeReport
+reported_view t = record {
+  finding = meaning t.finding;
+  number = t.number;
+  place = t.place;
+  revision = t.revision;
+  path = t.path.now;
+  copy_path = t.copy_path.now;
+  copy_revision = t.copy_revision;
+  prefix = option_copied t.prefix;
+}
+
+-- a finding in the node with this number, in this revision, that names this prefix
+abbrev pub reported_naming : Option (List ℕ) → ℕ → ℕ → DumpRecord → Finding → NodeReport
+reported_naming prefix number revision r finding = record {
+  finding = finding;
+  number = number;
+  place = r.place;
+  revision = revision;
+  path = node_path r;
+  copy_path = copy_path r;
+  copy_revision = copy_revision r;
+  prefix = prefix;
+}
+
+-- a finding in the node with this number, in this revision
+abbrev pub reported_in : Settings → ℕ → ℕ → DumpRecord → Finding → NodeReport
+reported_in settings number revision r finding =
+    reported_naming (cutting_prefix settings r finding) number revision r finding
+
+-- the revision that a node belongs to which comes next, if there is one: after a revision it is that one, and after a
+-- node that node's
+abbrev pub present_after : Option ℕ → DumpRecord → Option ℕ
+present_after present r = if is_revision_record r then Some (revision_number r) else if is_node r then present else None
+
+-- this is reported of a node of this revision after these records
+abbrev pub IsReportedOfNode : Settings → List DumpRecord → ℕ → DumpRecord → List NodeReport → Type 0
+IsReportedOfNode settings before revision r reported = (found : List Finding) × AreFindingsOf settings before r found
+    × (reported ≡ map (reported_in settings (length before) revision r) found)
+
+-- this is reported of the record after these, if a node belongs to this revision
+abbrev pub IsReportedOf : Settings → List DumpRecord → Option ℕ → DumpRecord → List NodeReport → Type 0
+IsReportedOf settings before None r reported = reported ≡ []
+IsReportedOf settings before (Some revision) r reported =
+    MatchBool (is_node r) (IsReportedOfNode settings before revision r reported) (reported ≡ [])
+
+-- this is reported of the records after these
+abbrev pub AreReported : Settings → List DumpRecord → Option ℕ → List DumpRecord → List NodeReport → Type 0
+AreReported settings before present [] reported = reported ≡ []
+AreReported settings before present (r ∷ records) reported = (this others : List NodeReport) × (reported ≡ this ++ others)
+    × IsReportedOf settings before present r this
+    × AreReported settings (before ++ r ∷ []) (present_after present r) records others

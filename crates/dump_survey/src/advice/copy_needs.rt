@@ -1,0 +1,84 @@
+//! The copies of a dump that need their source.
+ghost use Rattle.std.specs.Prelude.{◌≡◌, List, IfOk, map, option_map};
+ghost use Rattle.dump_records.specs.RecordText.{DumpRecord};
+ghost use Rattle.dump_records.specs.DumpText.{Ending, HasRecords};
+ghost use Rattle.dump_records.specs.steps.RecordViews.{record_item};
+ghost use Rattle.dump_survey.specs.PrefixesToAdd.{matches_itself};
+ghost use Rattle.dump_survey.specs.steps.CopyNeeds.{can_not_stand, need_of, need_view, needs_of};
+
+use crate::findings::prefixes::begins_path;
+use dump_nodes::{copy_path_of, is_copy, is_whole_file, path_of};
+use dump_records::{Cut, Cutter, Record};
+use dump_rules::{Memory, Side, bare_path, bare_prefix};
+use std::alloc::Global;
+
+/// What a copy needs: if a prefix matches the first path, one has to match the second.
+#[derive(Clone, Copy)]
+pub(crate) struct CopyNeed<'a> {
+    pub(crate) matched: &'a [u8],
+    pub(crate) wanted: &'a [u8],
+}
+
+/// Whether the path, as a prefix, matches itself.
+fn matches_itself(path: &[u8]) -> bool
+    ensures { result ≡ matches_itself path.now }
+{
+    begins_path(bare_prefix(path), bare_path(path))
+}
+
+/// Whether the record is a copy that needs its source.
+fn can_not_stand(item: &Record<'_>) -> bool
+    ensures { result ≡ can_not_stand (record_item item.now) }
+{
+    item.is_node() && is_copy(item) && !is_whole_file(item)
+}
+
+/// What the record needs, if it is such a copy.
+fn need_of<'a>(item: &Record<'a>, side: Side) -> Option<CopyNeed<'a>>
+    ensures { option_map need_view result ≡ need_of side (record_item item.now) }
+{
+    if !can_not_stand(item) {
+        return None;
+    }
+    let path = path_of(item);
+    let source = copy_path_of(item);
+    let need = match side {
+        Side::Include => CopyNeed {
+            matched: path,
+            wanted: source,
+        },
+        Side::Exclude => CopyNeed {
+            matched: source,
+            wanted: path,
+        },
+    };
+    if matches_itself(need.wanted) {
+        Some(need)
+    } else {
+        None
+    }
+}
+
+/// What the records of the dump need, in their order, up to the end of their list.
+pub(crate) fn needs_in<'a>(
+    alloc: Global,
+    dump: &'a [u8],
+    side: Side,
+) -> Result<Vec<CopyNeed<'a>>, Memory>
+    ensures { IfOk result (λ needs. (records : List DumpRecord) × (ending : Ending) × HasRecords dump.now records ending
+        × (map need_view needs.items ≡ needs_of side records)) }
+{
+    let mut cutter = Cutter::new(dump);
+    let mut needs = Vec::new(alloc);
+    loop {
+        match cutter.next() {
+            Cut::Item(item) => {
+                if let Some(need) = need_of(&item, side) {
+                    needs.push(need)?;
+                }
+            }
+            Cut::Finished => return Ok(needs),
+            Cut::Fault { .. } => return Ok(needs),
+        }
+    }
+}

@@ -1,0 +1,103 @@
+//! The parent directories to create before loading.
+ghost use Rattle.std.specs.Prelude.{◌≡◌, [], IfOk, OnOk, filter, flat_map, map, not};
+ghost use Rattle.dump_rules.specs.Settings.{keeps_path};
+ghost use Rattle.dump_survey.specs.Folders.{AreFoldersToMake, each_once, fronts, with_new};
+
+use crate::findings::prefixes::Prefixes;
+use dump_rules::{Memory, Options, Side, keeps};
+use std::alloc::Global;
+use std::collections::BTreeSet;
+use std::marker::Model;
+
+/// Directories, each once, in the order in which they came.
+#[derive(Drop)]
+struct Folders<'o> {
+    paths: Vec<&'o [u8]>,
+    known: BTreeSet<Vec<u8>>,
+}
+
+impl<'o> Model for Folders<'o> {
+    ghost use Rattle.std.specs.Prelude.{ℕ, List, map};
+    ghost use Rattle.dump_survey.specs.steps.Folders.{HaveSame};
+
+    ghost Value = { List (List ℕ) };
+
+    ghost view = { λ f. map (λ path. path.now) f.paths.items };
+
+    ghost invariant = { λ f. HaveSame (map (λ path. path.items) f.known.keys) (map (λ path. path.now) f.paths.items) };
+}
+
+impl<'o> Folders<'o> {
+    /// No directory.
+    fn new(alloc: Global) -> Folders<'o>
+        ensures { result ≡ [] }
+    {
+        Folders {
+            paths: Vec::new(alloc),
+            known: BTreeSet::new(alloc),
+        }
+    }
+
+    /// Adds a directory, if it isn't there.
+    fn add(&mut self, alloc: Global, path: &'o [u8]) -> Result<(), Memory>
+        ensures { OnOk result (self.new ≡ with_new self.old path.now) }
+    {
+        if self.known.contains(path) {
+            return Ok(());
+        }
+        let copy = Vec::from_slice(alloc, path)?;
+        self.paths.push(path)?;
+        match self.known.insert(copy) {
+            Ok(_) => Ok(()),
+            Err(_) => {
+                self.paths.pop();
+                Err(Memory)
+            }
+        }
+    }
+
+    /// Adds the paths above a bare prefix that aren't kept.
+    fn add_above(&mut self, alloc: Global, options: &Options, bare: &'o [u8]) -> Result<(), Memory>
+        ensures { OnOk result (self.new
+            ≡ each_once self.old (filter (λ path. not (keeps_path options.now path)) (fronts bare.now))) }
+    {
+        for (place, byte) in bare.iter().enumerate() {
+            if *byte == b'/' && !keeps(options, &bare[..place]) {
+                self.add(alloc, &bare[..place])?;
+            }
+        }
+        Ok(())
+    }
+}
+
+/// The paths above the bare prefixes that aren't kept, each once.
+fn left_above<'o>(
+    alloc: Global,
+    options: &Options,
+    bare: &[&'o [u8]],
+) -> Result<Vec<&'o [u8]>, Memory>
+    ensures { IfOk result (λ paths. map (λ path. path.now) paths.items ≡ each_once []
+        (filter (λ path. not (keeps_path options.now path)) (flat_map fronts (map (λ prefix. prefix.now) bare.now)))) }
+{
+    let mut folders = Folders::new(alloc);
+    let mut left = bare;
+    while let [prefix, others @ ..] = left {
+        folders.add_above(alloc, options, prefix)?;
+        left = others;
+    }
+    Ok(folders.paths)
+}
+
+/// The directories to create before what is filtered under these options is loaded: under include those above the
+/// prefixes that aren't kept themselves, each after its parent; under exclude none.
+pub fn folders_to_make<'o>(alloc: Global, options: &'o Options) -> Result<Vec<&'o [u8]>, Memory>
+    ensures { IfOk result (λ paths. AreFoldersToMake options.now (map (λ path. path.now) paths.items)) }
+{
+    match options.side() {
+        Side::Include => {
+            let prefixes = Prefixes::of(alloc, options)?;
+            left_above(alloc, options, &prefixes.bare)
+        }
+        Side::Exclude => Ok(Vec::new(alloc)),
+    }
+}

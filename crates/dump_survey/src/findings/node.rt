@@ -1,0 +1,181 @@
+//! What is found in a node.
+ghost use Rattle.std.specs.Prelude.{◌≡◌, List, Option, IfOk, IsTrue, IsFalse, map};
+ghost use Rattle.dump_text.specs.PropertyList.{Property};
+ghost use Rattle.dump_records.specs.steps.RecordViews.{record_item};
+ghost use Rattle.dump_rules.specs.Prefix.{bare_prefix};
+ghost use Rattle.dump_digest.specs.RecordParts.{is_copy, is_node};
+ghost use Rattle.dump_digest.specs.steps.ContentViews.{ArePropertiesOf};
+ghost use Rattle.dump_history.specs.Findings.{has_kept_path, has_kept_source, is_exclude, IsReadBlock};
+ghost use Rattle.dump_nodes.specs.steps.Actions.{IsActionOf};
+ghost use Rattle.dump_survey.specs.steps.Found.{IsFoundIn};
+ghost use Rattle.dump_survey.specs.steps.Losses.{AreObstaclesOf, AreLossesOf};
+
+use crate::findings::node_finding::{Found, Losses, Obstacles};
+use crate::findings::prefixes::Prefixes;
+use crate::findings::refused::{Refused, refused_of};
+use crate::findings::revision_numbers::Numbers;
+use dump_digest::properties_of;
+use dump_nodes::{
+    Action, action_of, copy_path_of, has_odd_delta, has_plain_texts, is_copy, is_whole_file,
+    path_of,
+};
+use dump_records::Record;
+use dump_rules::{Memory, Options, Side, keeps};
+use dump_text::Props;
+use std::alloc::Global;
+
+/// What keeps a node with this action and these properties from making a change that the definitions describe.
+fn obstacles_of(item: &Record<'_>, action: Action, props: &Option<Props<'_>>) -> Obstacles
+    requires node { IsTrue (is_node (record_item item.now)) }
+    requires action { IsActionOf (record_item item.now) action }
+    requires props { ArePropertiesOf (record_item item.now) props.now }
+    ensures { (ps : Option (List Property)) → IsReadBlock (record_item item.now) ps
+        → AreObstaclesOf (record_item item.now) ps result }
+{
+    Obstacles {
+        unread_block: props.is_none(),
+        delta: has_odd_delta(item),
+        unknown_action: !action.is_known(),
+        odd_text: !has_plain_texts(item, props),
+    }
+}
+
+/// Whether prefixes are excluded.
+fn is_exclude(options: &Options) -> bool
+    ensures { result ≡ is_exclude options.now.side }
+{
+    match options.side() {
+        Side::Include => false,
+        Side::Exclude => true,
+    }
+}
+
+/// What the cut does to a kept copy of a path that isn't kept.
+fn losses_of_lost<'o>(item: &Record<'_>, action: Action, options: &Options) -> Losses<'o>
+    requires action { IsActionOf (record_item item.now) action }
+    requires kept { IsTrue (has_kept_path options.now (record_item item.now)) }
+    requires copy { IsTrue (is_copy (record_item item.now)) }
+    requires lost { IsFalse (has_kept_source options.now (record_item item.now)) }
+    ensures { AreLossesOf options.now (record_item item.now) result }
+{
+    let makes = action.makes();
+    let whole = is_whole_file(item);
+    Losses {
+        no_whole_file: !whole,
+        properties_lost: makes & !item.has_props(),
+        text_comes_in: is_exclude(options) & makes & whole,
+        ..Losses::NONE
+    }
+}
+
+/// What the cut does to a kept copy of a path that is kept too.
+fn losses_of_copy<'o>(
+    alloc: Global,
+    item: &Record<'_>,
+    action: Action,
+    options: &'o Options,
+    prefixes: &Prefixes<'o>,
+) -> Result<Losses<'o>, Memory>
+    requires node { IsTrue (is_node (record_item item.now)) }
+    requires action { IsActionOf (record_item item.now) action }
+    requires kept { IsTrue (has_kept_path options.now (record_item item.now)) }
+    requires copy { IsTrue (is_copy (record_item item.now)) }
+    requires source { IsTrue (has_kept_source options.now (record_item item.now)) }
+    requires prefixes { prefixes.now ≡ map bare_prefix options.now.prefixes }
+    ensures { IfOk result (λ losses. AreLossesOf options.now (record_item item.now) losses) }
+{
+    if !action.makes() {
+        return Ok(Losses::NONE);
+    }
+    let path = path_of(item);
+    let source = copy_path_of(item);
+    let copy_loses = prefixes.cut(alloc, options, source, path)?;
+    let copy_lets_in = prefixes.cut(alloc, options, path, source)?;
+    Ok(Losses {
+        copy_loses,
+        copy_lets_in,
+        ..Losses::NONE
+    })
+}
+
+/// What the cut does to a node whose path is kept.
+fn losses_of_kept<'o>(
+    alloc: Global,
+    item: &Record<'_>,
+    action: Action,
+    options: &'o Options,
+    prefixes: &Prefixes<'o>,
+) -> Result<Losses<'o>, Memory>
+    requires node { IsTrue (is_node (record_item item.now)) }
+    requires action { IsActionOf (record_item item.now) action }
+    requires kept { IsTrue (has_kept_path options.now (record_item item.now)) }
+    requires prefixes { prefixes.now ≡ map bare_prefix options.now.prefixes }
+    ensures { IfOk result (λ losses. AreLossesOf options.now (record_item item.now) losses) }
+{
+    if !is_copy(item) {
+        return Ok(Losses::NONE);
+    }
+    if !keeps(options, copy_path_of(item)) {
+        return Ok(losses_of_lost(item, action, options));
+    }
+    losses_of_copy(alloc, item, action, options, prefixes)
+}
+
+/// What the cut does to a node whose path isn't kept.
+fn losses_of_left<'o>(
+    item: &Record<'_>,
+    action: Action,
+    options: &Options,
+    prefixes: &Prefixes<'_>,
+) -> Losses<'o>
+    requires node { IsTrue (is_node (record_item item.now)) }
+    requires action { IsActionOf (record_item item.now) action }
+    requires left { IsFalse (has_kept_path options.now (record_item item.now)) }
+    requires prefixes { prefixes.now ≡ map bare_prefix options.now.prefixes }
+    ensures { AreLossesOf options.now (record_item item.now) result }
+{
+    let deletes = action.deletes();
+    let copies = action.makes() && is_copy(item);
+    if !(deletes | copies) {
+        return Losses::NONE;
+    }
+    let above = prefixes.has_below(options, path_of(item));
+    Losses {
+        folder_takes: deletes & above,
+        folder_brings: copies & above,
+        ..Losses::NONE
+    }
+}
+
+/// What is found in a node, whether or not its path is kept, with the numbers of the revisions up to it.
+pub(crate) fn find<'o>(
+    alloc: Global,
+    item: &Record<'_>,
+    kept: bool,
+    options: &'o Options,
+    prefixes: &Prefixes<'o>,
+    numbers: &Numbers,
+) -> Result<Found<'o>, Memory>
+    requires node { IsTrue (is_node (record_item item.now)) }
+    requires kept { kept ≡ has_kept_path options.now (record_item item.now) }
+    requires prefixes { prefixes.now ≡ map bare_prefix options.now.prefixes }
+    ensures { IfOk result (λ found. IsFoundIn options.now numbers.now (record_item item.now) found) }
+{
+    let props = properties_of(item);
+    let action = action_of(item);
+    let obstacles = obstacles_of(item, action, &props);
+    if !kept {
+        return Ok(Found {
+            obstacles,
+            refused: Refused::NONE,
+            losses: losses_of_left(item, action, options, prefixes),
+        });
+    }
+    let refused = refused_of(item, &props, options, numbers);
+    let losses = losses_of_kept(alloc, item, action, options, prefixes)?;
+    Ok(Found {
+        obstacles,
+        refused,
+        losses,
+    })
+}

@@ -1,0 +1,182 @@
+//! What can be found in a node.
+ghost use Rattle.std.specs.Prelude.{◌≡◌, option_copied};
+ghost use Rattle.std.specs.List.{list_any};
+ghost use Rattle.dump_history.specs.Findings.{every_finding};
+ghost use Rattle.dump_survey.specs.Lines.{finding_fault};
+ghost use Rattle.dump_survey.specs.Meaning.{meaning};
+ghost use Rattle.dump_survey.specs.steps.Found.{found_prefix, has_found};
+
+use crate::findings::refused::Refused;
+use dump_text::FaultKind;
+
+/// What can be found in a node.
+#[derive(Clone, Copy, Debug, PartialEq, Eq)]
+pub enum NodeFinding {
+    /// Its property block can't be read.
+    UnreadBlock,
+    /// It says that a part of it is a delta, but format version 3 isn't in force.
+    Delta,
+    /// It has no action, or an unknown one.
+    UnknownAction,
+    /// `svnadmin load` reads one of its texts differently.
+    OddText,
+    /// The filter stops at it with fault 12.
+    NoWholeFile,
+    /// The filter stops at it with fault 13: it has no new number for the revision that it is copied from.
+    MissingCopyRevision,
+    /// The filter stops at it with fault 14: its mergeinfo can't be read.
+    UnreadMergeinfo,
+    /// The filter stops at it with fault 15: its mergeinfo names a path that isn't kept.
+    MissingMergeSource,
+    /// The filter stops at it with fault 16: its mergeinfo names a revision outside of the dump.
+    MissingMergeRevision,
+    /// The properties of its excluded source may be lost.
+    PropertiesLost,
+    /// A copy of a kept path may lack what is excluded below that path.
+    CopyLoses,
+    /// A copy of a kept path may bring back what is excluded below the copy.
+    CopyLetsIn,
+    /// An excluded directory is deleted, and what is included below it may stay.
+    FolderTakes,
+    /// An excluded directory is a copy, and what is included below it may be missing.
+    FolderBrings,
+    /// A kept file is a copy of an excluded one, and has its text.
+    TextComesIn,
+}
+
+/// Each of them, in the order in which they are reported.
+pub const EVERY_FINDING: [NodeFinding; 15] = [
+    NodeFinding::UnreadBlock,
+    NodeFinding::Delta,
+    NodeFinding::UnknownAction,
+    NodeFinding::OddText,
+    NodeFinding::NoWholeFile,
+    NodeFinding::MissingCopyRevision,
+    NodeFinding::UnreadMergeinfo,
+    NodeFinding::MissingMergeSource,
+    NodeFinding::MissingMergeRevision,
+    NodeFinding::PropertiesLost,
+    NodeFinding::CopyLoses,
+    NodeFinding::CopyLetsIn,
+    NodeFinding::FolderTakes,
+    NodeFinding::FolderBrings,
+    NodeFinding::TextComesIn,
+];
+
+impl NodeFinding {
+    /// The fault with which the filter stops at a node in which this is found, if it does.
+    pub(crate) fn fault(self) -> Option<FaultKind>
+        ensures { result ≡ finding_fault (meaning self) }
+    {
+        match self {
+            NodeFinding::NoWholeFile => Some(FaultKind::CopySource),
+            NodeFinding::MissingCopyRevision => Some(FaultKind::CopyRevision),
+            NodeFinding::UnreadMergeinfo => Some(FaultKind::MergeInfo),
+            NodeFinding::MissingMergeSource => Some(FaultKind::MergeSource),
+            NodeFinding::MissingMergeRevision => Some(FaultKind::MergeRange),
+            _ => None,
+        }
+    }
+}
+
+/// What keeps a node from making a change that the definitions describe.
+#[derive(Clone, Copy, Debug, PartialEq, Eq)]
+pub(crate) struct Obstacles {
+    pub(crate) unread_block: bool,
+    pub(crate) delta: bool,
+    pub(crate) unknown_action: bool,
+    pub(crate) odd_text: bool,
+}
+
+/// What the filter's cut does to a node.
+#[derive(Clone, Copy, Debug, PartialEq, Eq)]
+pub(crate) struct Losses<'o> {
+    pub(crate) no_whole_file: bool,
+    pub(crate) properties_lost: bool,
+    /// The first prefix by which a copy lacks something.
+    pub(crate) copy_loses: Option<&'o [u8]>,
+    /// The first prefix by which a copy brings something back.
+    pub(crate) copy_lets_in: Option<&'o [u8]>,
+    pub(crate) folder_takes: bool,
+    pub(crate) folder_brings: bool,
+    pub(crate) text_comes_in: bool,
+}
+
+impl Losses<'static> {
+    /// Nothing is found.
+    pub(crate) const NONE: Losses<'static> = Losses {
+        no_whole_file: false,
+        properties_lost: false,
+        copy_loses: None,
+        copy_lets_in: None,
+        folder_takes: false,
+        folder_brings: false,
+        text_comes_in: false,
+    };
+}
+
+/// What is found in a node.
+#[derive(Clone, Copy, Debug, PartialEq, Eq)]
+pub struct Found<'o> {
+    pub(crate) obstacles: Obstacles,
+    pub(crate) refused: Refused,
+    pub(crate) losses: Losses<'o>,
+}
+
+impl<'o> Found<'o> {
+    /// Whether this is among it.
+    pub fn has(&self, finding: NodeFinding) -> bool
+        ensures { result ≡ has_found self.now (meaning finding) }
+    {
+        match finding {
+            NodeFinding::UnreadBlock => self.obstacles.unread_block,
+            NodeFinding::Delta => self.obstacles.delta,
+            NodeFinding::UnknownAction => self.obstacles.unknown_action,
+            NodeFinding::OddText => self.obstacles.odd_text,
+            NodeFinding::NoWholeFile => self.losses.no_whole_file,
+            NodeFinding::MissingCopyRevision => self.refused.copy_revision,
+            NodeFinding::UnreadMergeinfo => self.refused.unread,
+            NodeFinding::MissingMergeSource => self.refused.missing,
+            NodeFinding::MissingMergeRevision => self.refused.outside,
+            NodeFinding::PropertiesLost => self.losses.properties_lost,
+            NodeFinding::CopyLoses => self.losses.copy_loses.is_some(),
+            NodeFinding::CopyLetsIn => self.losses.copy_lets_in.is_some(),
+            NodeFinding::FolderTakes => self.losses.folder_takes,
+            NodeFinding::FolderBrings => self.losses.folder_brings,
+            NodeFinding::TextComesIn => self.losses.text_comes_in,
+        }
+    }
+
+    /// Whether anything is found.
+    pub(crate) fn is_any(&self) -> bool
+        ensures { result ≡ list_any (has_found self.now) every_finding }
+    {
+        let (obstacles, refused, losses) = (self.obstacles, self.refused, self.losses);
+        obstacles.unread_block
+            | obstacles.delta
+            | obstacles.unknown_action
+            | obstacles.odd_text
+            | losses.no_whole_file
+            | refused.copy_revision
+            | refused.unread
+            | refused.missing
+            | refused.outside
+            | losses.properties_lost
+            | losses.copy_loses.is_some()
+            | losses.copy_lets_in.is_some()
+            | losses.folder_takes
+            | losses.folder_brings
+            | losses.text_comes_in
+    }
+
+    /// The prefix that is reported with this, if one is.
+    pub(crate) fn prefix(&self, finding: NodeFinding) -> Option<&'o [u8]>
+        ensures { option_copied result ≡ found_prefix self.now (meaning finding) }
+    {
+        match finding {
+            NodeFinding::CopyLoses => self.losses.copy_loses,
+            NodeFinding::CopyLetsIn => self.losses.copy_lets_in,
+            _ => None,
+        }
+    }
+}

@@ -1,0 +1,98 @@
+//! The first record that causes each finding in a dump as a whole.
+ghost use Rattle.std.specs.Prelude.{◌≡◌};
+ghost use Rattle.dump_survey.specs.DumpReport.{place_in};
+ghost use Rattle.dump_survey.specs.steps.Places.{AreNextPlaces, first_place, no_places};
+ghost use Rattle.dump_survey.specs.steps.LineViews.{whole_meaning};
+
+use crate::findings::tally::DumpFindings;
+use crate::findings::whole_finding::WholeFinding;
+
+/// Where a record is in a dump.
+#[derive(Clone, Copy, Debug, PartialEq, Eq)]
+pub struct Place {
+    /// Its number, from 0.
+    pub number: u64,
+    /// The byte of the dump at which it begins.
+    pub place: usize,
+}
+
+/// The first record that causes each of the findings, if one does. That there is no revision has none.
+#[derive(Clone, Copy, Debug, PartialEq, Eq)]
+pub struct DumpPlaces {
+    pub other_numbers: Option<Place>,
+    pub number_falls: Option<Place>,
+    pub unread_revision: Option<Place>,
+    pub node_in_first: Option<Place>,
+    pub source_before: Option<Place>,
+    pub node_outside: Option<Place>,
+    pub numbers_left: Option<Place>,
+}
+
+/// The place of a finding that was caused there, if it was, and is found with the record here or not.
+fn first_place(before: Option<Place>, found: bool, here: Place) -> Option<Place>
+    ensures { result ≡ first_place before found here }
+{
+    match before {
+        Some(place) => Some(place),
+        None if found => Some(here),
+        None => None,
+    }
+}
+
+impl DumpPlaces {
+    /// Those of no record.
+    pub(crate) fn new() -> DumpPlaces
+        ensures { result ≡ no_places }
+    {
+        DumpPlaces {
+            other_numbers: None,
+            number_falls: None,
+            unread_revision: None,
+            node_in_first: None,
+            source_before: None,
+            node_outside: None,
+            numbers_left: None,
+        }
+    }
+
+    /// The place of the finding, if it has one.
+    pub(crate) fn of(&self, finding: WholeFinding) -> Option<Place>
+        ensures { result ≡ place_in self.now (whole_meaning finding) }
+    {
+        match finding {
+            WholeFinding::NoRevision => None,
+            WholeFinding::OtherNumbers => self.other_numbers,
+            WholeFinding::NumberFalls => self.number_falls,
+            WholeFinding::UnreadRevision => self.unread_revision,
+            WholeFinding::NodeInFirst => self.node_in_first,
+            WholeFinding::SourceBefore => self.source_before,
+            WholeFinding::NodeOutside => self.node_outside,
+            WholeFinding::NumbersLeft => self.numbers_left,
+        }
+    }
+
+    /// Those of one more record, which is here, and up to which this is found.
+    fn with(&self, found: &DumpFindings, here: Place) -> DumpPlaces
+        ensures { AreNextPlaces self.now found.now here result }
+    {
+        DumpPlaces {
+            other_numbers: first_place(self.other_numbers, found.other_numbers, here),
+            number_falls: first_place(self.number_falls, found.number_falls, here),
+            unread_revision: first_place(self.unread_revision, found.unread_revision, here),
+            node_in_first: first_place(self.node_in_first, found.node_in_first, here),
+            source_before: first_place(self.source_before, found.source_before, here),
+            node_outside: first_place(self.node_outside, found.node_outside, here),
+            numbers_left: first_place(self.numbers_left, found.numbers_left, here),
+        }
+    }
+
+    /// Goes on to one more record, which is here, and up to which this is found. As long as nothing is, nothing changes.
+    pub(crate) fn note(&mut self, found: &DumpFindings, here: Place)
+        ensures { AreNextPlaces self.old found.now here self.new }
+    {
+        if !found.is_any() {
+            return;
+        }
+        *self = self.with(found, here);
+    }
+}

@@ -1,0 +1,75 @@
+//! What a survey reports of the nodes of a dump.
+ghost use Rattle.std.specs.Prelude.{◌≡◌, ◌++◌, IsTrue, OnOk, map};
+ghost use Rattle.dump_records.specs.steps.RecordViews.{record_item};
+ghost use Rattle.dump_digest.specs.RecordParts.{is_node};
+ghost use Rattle.dump_survey.specs.Meaning.{meaning};
+ghost use Rattle.dump_survey.specs.Reported.{reported_view};
+ghost use Rattle.dump_survey.specs.steps.Surveyed.{reported_of_finding, reported_of_node};
+
+use crate::findings::node_finding::{EVERY_FINDING, Found, NodeFinding};
+use dump_nodes::{copy_path_of, copy_revision_of, path_of};
+use dump_records::Record;
+use dump_rules::Memory;
+
+/// A finding in a node, and where that is.
+#[derive(Clone, Copy, Debug, PartialEq, Eq)]
+pub struct ReportedFinding<'o, 'a> {
+    pub finding: NodeFinding,
+    /// The number of the node's record in the dump, from 0.
+    pub number: u64,
+    /// The byte of the dump at which the record begins.
+    pub place: usize,
+    /// The number of the revision that the node belongs to.
+    pub revision: u64,
+    /// The node's path, as in the dump.
+    pub path: &'a [u8],
+    /// The path that the node is copied from, as in the dump; no bytes if it is no copy.
+    pub copy_path: &'a [u8],
+    /// The number of the revision that the node is copied from; 0 if it is no copy.
+    pub copy_revision: u64,
+    /// The first prefix, as it was given, by which a copy is filtered differently from its source, if that is found.
+    pub prefix: Option<&'o [u8]>,
+}
+
+/// A node of a revision, and what is found in it.
+#[derive(Clone, Copy)]
+pub struct SurveyedNode<'o, 'a> {
+    pub item: Record<'a>,
+    /// The number of the revision that it belongs to.
+    pub revision: u64,
+    pub found: Found<'o>,
+}
+
+impl<'o, 'a> SurveyedNode<'o, 'a> {
+    /// A finding as it is reported of the node.
+    pub(crate) fn reported(&self, finding: NodeFinding) -> ReportedFinding<'o, 'a>
+        requires { IsTrue (is_node (record_item self.now.item)) }
+        ensures { reported_view result ≡ reported_of_finding self.now (meaning finding) }
+    {
+        ReportedFinding {
+            finding,
+            number: self.item.number(),
+            place: self.item.place(),
+            revision: self.revision,
+            path: path_of(&self.item),
+            copy_path: copy_path_of(&self.item),
+            copy_revision: copy_revision_of(&self.item),
+            prefix: self.found.prefix(finding),
+        }
+    }
+
+    /// Adds what is found in the node to what is reported already.
+    pub fn report(&self, reported: &mut Vec<ReportedFinding<'o, 'a>>) -> Result<(), Memory>
+        requires { IsTrue (is_node (record_item self.now.item)) }
+        ensures { OnOk result (map reported_view reported.new.items ≡ map reported_view reported.old.items ++ reported_of_node self.now) }
+    {
+        let mut left = EVERY_FINDING.as_slice();
+        while let [finding, others @ ..] = left {
+            if self.found.has(*finding) {
+                reported.push(self.reported(*finding))?;
+            }
+            left = others;
+        }
+        Ok(())
+    }
+}

@@ -1,0 +1,297 @@
+//! What is known of the revisions of a dump after its first records.
+ghost use Rattle.std.specs.Prelude.{◌≡◌, ◌+◌, ◌<◌, ◌==◌, ◌^◌, IsTrue, Some};
+ghost use Rattle.std.specs.List.{list_any};
+ghost use Rattle.dump_records.specs.steps.RecordViews.{record_item};
+ghost use Rattle.dump_digest.specs.RecordParts.{is_kept_node, is_node};
+ghost use Rattle.dump_history.specs.Findings.{copies_from_before, every_dump_finding};
+ghost use Rattle.dump_survey.specs.steps.Tally.{first_with, is_above_last, least_behind, lesser, no_tally, keeps_open, keeps_present, node_tally, next_tally, numbers_of, tally_findings};
+ghost use Rattle.dump_survey.specs.steps.NamedRevisions.{is_behind_dropped};
+ghost use Rattle.dump_survey.specs.DumpFindings.{has_dump_finding, listed_findings};
+ghost use Rattle.dump_survey.specs.steps.LineViews.{whole_meaning};
+
+use crate::findings::revision_numbers::Numbers;
+use crate::findings::whole_finding::WholeFinding;
+use dump_nodes::{copy_revision_of, makes_copy};
+use dump_records::Record;
+use dump_rules::{Empty, Options};
+
+/// What is found in a dump as a whole.
+#[derive(Clone, Copy, Debug, PartialEq, Eq)]
+pub struct DumpFindings {
+    /// It has no revision.
+    pub no_revision: bool,
+    /// Its revisions aren't numbered on, one by one, from the number of the first one.
+    pub other_numbers: bool,
+    /// A revision's number isn't above that of the revision before it.
+    pub number_falls: bool,
+    /// The properties of a revision can't be read.
+    pub unread_revision: bool,
+    /// Its first revision is revision 0, and has a node.
+    pub node_in_first: bool,
+    /// A node of a revision is a copy from one before the first revision.
+    pub source_before: bool,
+    /// A node is outside of any revision.
+    pub node_outside: bool,
+    /// A revision is dropped, the others aren't renumbered, and a kept node after it names one by its number.
+    pub numbers_left: bool,
+}
+
+impl DumpFindings {
+    /// Whether this is among it.
+    pub(crate) fn has(&self, finding: WholeFinding) -> bool
+        ensures { result ≡ has_dump_finding self.now (whole_meaning finding) }
+    {
+        match finding {
+            WholeFinding::NoRevision => self.no_revision,
+            WholeFinding::OtherNumbers => self.other_numbers,
+            WholeFinding::NumberFalls => self.number_falls,
+            WholeFinding::UnreadRevision => self.unread_revision,
+            WholeFinding::NodeInFirst => self.node_in_first,
+            WholeFinding::SourceBefore => self.source_before,
+            WholeFinding::NodeOutside => self.node_outside,
+            WholeFinding::NumbersLeft => self.numbers_left,
+        }
+    }
+
+    /// Whether anything is found.
+    pub(crate) fn is_any(&self) -> bool
+        ensures { result ≡ list_any (has_dump_finding self.now) every_dump_finding }
+    {
+        self.no_revision
+            | self.other_numbers
+            | self.number_falls
+            | self.unread_revision
+            | self.node_in_first
+            | self.source_before
+            | self.node_outside
+            | self.numbers_left
+    }
+}
+
+/// The present revision, whose nodes may follow.
+#[derive(Clone, Copy)]
+pub(crate) struct Present {
+    pub(crate) number: u64,
+    /// Whether it has no node so far.
+    bare: bool,
+    /// Whether one of its nodes is kept.
+    kept: bool,
+}
+
+impl Present {
+    /// Whether it is kept, if it has no more nodes.
+    pub(crate) fn stays(&self, options: &Options) -> bool
+        ensures { result ≡ keeps_open options.now (Some self.now) }
+    {
+        let empty_stays = match options.empty() {
+            Empty::Pad => true,
+            Empty::DropEmptied => self.bare,
+            Empty::DropAll => false,
+        };
+        self.number == 0 || self.kept || empty_stays
+    }
+}
+
+/// Whether the number is the first one and so much more.
+fn is_above(first: u64, count: u64, number: u64) -> bool
+    ensures { result ≡ (number == first + count) }
+{
+    number >= first && number - first == count
+}
+
+/// Whether the number is above the last one, if there is one.
+fn is_above_last(last: Option<u64>, number: u64) -> bool
+    ensures { result ≡ is_above_last last number }
+{
+    match last {
+        Some(last) => last < number,
+        None => true,
+    }
+}
+
+/// The lesser of two numbers, the first of which there may not be.
+fn lesser(least: Option<u64>, number: u64) -> u64
+    ensures { result ≡ lesser least number }
+{
+    match least {
+        Some(least) if least <= number => least,
+        _ => number,
+    }
+}
+
+/// Whether a node makes a copy from a revision before this one.
+fn copies_from_before(item: &Record<'_>, first: u64) -> bool
+    requires { IsTrue (is_node (record_item item.now)) }
+    ensures { result ≡ copies_from_before first (record_item item.now) }
+{
+    copy_revision_of(item) < first && makes_copy(item)
+}
+
+/// What the records up to one say of the dump's revisions.
+#[derive(Clone, Copy)]
+pub(crate) struct Tally {
+    /// How many revisions there are.
+    count: u64,
+    /// The number of the first one; 0 if there is none.
+    pub(crate) first: u64,
+    /// Whether they are numbered on from that, one by one.
+    numbered: bool,
+    /// The number of the last one.
+    last: Option<u64>,
+    /// Whether each number is above the one before.
+    rising: bool,
+    /// Whether the first one has a node.
+    node_in_first: bool,
+    /// Whether a node of one of them is a copy from before the first one.
+    source_before: bool,
+    /// Whether a node is outside of any revision.
+    node_outside: bool,
+    /// Whether each revision before the present one is kept.
+    all_kept: bool,
+    /// The least number of those that are.
+    least: Option<u64>,
+    pub(crate) present: Option<Present>,
+}
+
+impl Tally {
+    /// That of no record.
+    pub(crate) fn new() -> Tally
+        ensures { result ≡ no_tally }
+    {
+        Tally {
+            count: 0,
+            first: 0,
+            numbered: true,
+            last: None,
+            rising: true,
+            node_in_first: false,
+            source_before: false,
+            node_outside: false,
+            all_kept: true,
+            least: None,
+            present: None,
+        }
+    }
+
+    /// Whether each revision is kept, if the present one has no more nodes.
+    fn keeps_all(&self, options: &Options) -> bool
+        ensures { result ≡ keeps_present options.now self.now }
+    {
+        match self.present {
+            Some(present) => self.all_kept && present.stays(options),
+            None => self.all_kept,
+        }
+    }
+
+    /// The least number of the kept revisions, if the present one has no more nodes.
+    fn least_kept(&self, options: &Options) -> Option<u64>
+        ensures { result ≡ least_behind options.now self.now.least self.now.present }
+    {
+        match self.present {
+            Some(present) if present.stays(options) => Some(lesser(self.least, present.number)),
+            _ => self.least,
+        }
+    }
+
+    /// The numbers that a node of this revision, the present one, is held against.
+    pub(crate) fn numbers(&self, present: u64) -> Numbers
+        ensures { result ≡ numbers_of self.now present }
+    {
+        Numbers {
+            first: self.first,
+            least: self.least,
+            present,
+        }
+    }
+
+    /// The number of the first revision, if one of this number comes next.
+    fn first_with(&self, number: u64) -> u64
+        ensures { result ≡ first_with self.now number }
+    {
+        if self.count == 0 { number } else { self.first }
+    }
+
+    /// The tally after one more record, which may be a kept node or not.
+    pub(crate) fn with(&self, item: &Record<'_>, kept: bool, options: &Options) -> Tally
+        requires room { self.now.count + 1 < 2 ^ 64 }
+        requires kept { kept ≡ is_kept_node options.now (record_item item.now) }
+        ensures { result ≡ next_tally options.now self.now (record_item item.now) }
+    {
+        if let Some(number) = item.revision() {
+            let first = self.first_with(number);
+            Tally {
+                count: self.count + 1,
+                first,
+                numbered: self.numbered && is_above(first, self.count, number),
+                last: Some(number),
+                rising: self.rising && is_above_last(self.last, number),
+                all_kept: self.keeps_all(options),
+                least: self.least_kept(options),
+                present: Some(Present {
+                    number,
+                    bare: true,
+                    kept: false,
+                }),
+                ..*self
+            }
+        } else if item.is_node() {
+            self.with_node(item, kept)
+        } else {
+            Tally {
+                all_kept: self.keeps_all(options),
+                least: self.least_kept(options),
+                present: None,
+                ..*self
+            }
+        }
+    }
+
+    /// The tally after one more node, which may be kept or not.
+    fn with_node(&self, item: &Record<'_>, kept: bool) -> Tally
+        requires { IsTrue (is_node (record_item item.now)) }
+        ensures { result ≡ node_tally self.now kept (copies_from_before self.now.first (record_item item.now))
+            self.now.present }
+    {
+        let early = copies_from_before(item, self.first);
+        let Some(present) = self.present else {
+            return Tally {
+                node_outside: true,
+                ..*self
+            };
+        };
+        Tally {
+            node_in_first: self.node_in_first || self.count == 1,
+            source_before: self.source_before || early,
+            present: Some(Present {
+                number: present.number,
+                bare: false,
+                kept: present.kept || kept,
+            }),
+            ..*self
+        }
+    }
+
+    /// Whether a revision is present, and one before it is dropped.
+    pub(crate) fn is_behind_dropped(&self) -> bool
+        ensures { result ≡ is_behind_dropped self.now }
+    {
+        self.present.is_some() && !self.all_kept
+    }
+
+    /// What is found in the dump if it ends here, by whether numbers are left, and the properties of a revision can't
+    /// be read or all can.
+    pub(crate) fn findings(&self, numbers_left: bool, unread_revision: bool) -> DumpFindings
+        ensures { listed_findings result ≡ tally_findings self.now numbers_left unread_revision }
+    {
+        DumpFindings {
+            no_revision: self.count == 0,
+            other_numbers: !self.numbered,
+            number_falls: !self.rising,
+            unread_revision,
+            node_in_first: self.first == 0 && self.node_in_first,
+            source_before: self.source_before,
+            node_outside: self.node_outside,
+            numbers_left,
+        }
+    }
+}

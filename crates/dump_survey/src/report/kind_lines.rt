@@ -1,0 +1,255 @@
+//! The lines that count what was found, kind by kind, each with what to do about it.
+ghost use Rattle.std.specs.Prelude.{◌≡◌, ◌++◌, [], if◌then◌else◌, OnOk, flat_map, map};
+ghost use Rattle.dump_survey.specs.DumpFindings.{has_dump_finding, listed_findings};
+ghost use Rattle.dump_survey.specs.Kinds.{broken_kind, dump_kind_line, ending_kind_line, finding_advice, finding_kind, finding_what, kind_line, kind_lines, prefix_kind, times_in_prefixes};
+ghost use Rattle.dump_survey.specs.Meaning.{meaning};
+ghost use Rattle.dump_survey.specs.PrefixFindings.{prefix_view};
+ghost use Rattle.dump_survey.specs.SurveyEnds.{survey_ending};
+ghost use Rattle.dump_survey.specs.steps.Counts.{count_in};
+ghost use Rattle.dump_survey.specs.steps.LineViews.{kind_view, whole_meaning};
+
+use crate::findings::node_finding::{EVERY_FINDING, NodeFinding};
+use crate::findings::prefix_findings::{PrefixFinding, ReportedPrefix};
+use crate::findings::surveyor::{End, SurveyEnd};
+use crate::findings::tally::DumpFindings;
+use crate::findings::whole_finding::WholeFinding;
+use crate::report::counts::Counts;
+use crate::report::survey_lines::{push_fault_and_place, push_number};
+use dump_rules::Memory;
+use dump_text::FaultKind;
+
+/// What the line of a kind says.
+#[derive(Clone, Copy, Debug, PartialEq, Eq)]
+pub(crate) struct Kind {
+    /// What was found.
+    pub(crate) what: &'static [u8],
+    /// The fault that it is, if it is one.
+    pub(crate) fault: Option<FaultKind>,
+    /// What to do.
+    pub(crate) advice: &'static [u8],
+}
+
+/// What is found in nodes.
+#[tactic(auto, unfolding(crate::specs::Kinds::finding_what))]
+fn finding_what(finding: NodeFinding) -> &'static [u8]
+    ensures { result.now ≡ finding_what (meaning finding) }
+{
+    match finding {
+        NodeFinding::UnreadBlock => b"properties that cannot be read",
+        NodeFinding::Delta => b"deltas in a dump of format version 2",
+        NodeFinding::UnknownAction => b"nodes with no action, or an unknown one",
+        NodeFinding::OddText => b"texts that svnadmin load reads differently",
+        NodeFinding::NoWholeFile => b"copies whose source is excluded",
+        NodeFinding::MissingCopyRevision => b"copies whose source's revision gets no new number",
+        NodeFinding::UnreadMergeinfo => b"invalid svn:mergeinfo",
+        NodeFinding::MissingMergeSource => b"svn:mergeinfo of excluded paths",
+        NodeFinding::MissingMergeRevision => b"svn:mergeinfo of revisions outside of the dump",
+        NodeFinding::PropertiesLost => {
+            b"copies that may lack the properties of their excluded source"
+        }
+        NodeFinding::CopyLoses => b"copies that may lack paths that are excluded at their source",
+        NodeFinding::CopyLetsIn => b"copies that may bring back paths that are excluded",
+        NodeFinding::FolderTakes => b"excluded directories that are deleted",
+        NodeFinding::FolderBrings => b"excluded copies of directories",
+        NodeFinding::TextComesIn => b"copies with a text from their excluded source",
+    }
+}
+
+/// What to do about it.
+#[tactic(auto, unfolding(crate::specs::Kinds::finding_advice))]
+fn finding_advice(finding: NodeFinding) -> &'static [u8]
+    ensures { result.now ≡ finding_advice (meaning finding) }
+{
+    match finding {
+        NodeFinding::UnreadBlock => b"dump the repository again",
+        NodeFinding::Delta => b"use svnadmin dump --deltas, which writes version 3",
+        NodeFinding::UnknownAction => b"dump the repository again",
+        NodeFinding::OddText => {
+            b"correct them in the dump, since a prefix may not match what is loaded"
+        }
+        NodeFinding::NoWholeFile => b"include the source too, or exclude the copy",
+        NodeFinding::MissingCopyRevision => {
+            b"do not use --renumber-revs, or dump from an earlier revision on"
+        }
+        NodeFinding::UnreadMergeinfo => {
+            b"correct the property and dump the repository again, or exclude the path"
+        }
+        NodeFinding::MissingMergeSource => {
+            b"use --skip-missing-merge-sources, or include these paths too"
+        }
+        NodeFinding::MissingMergeRevision => {
+            b"do not use --renumber-revs, or use --skip-missing-merge-sources if all of them are before the first one"
+        }
+        NodeFinding::PropertiesLost => b"include the source too",
+        NodeFinding::CopyLoses => {
+            b"exclude these paths below the copy too, or not below the source"
+        }
+        NodeFinding::CopyLetsIn => b"exclude these paths below the source too",
+        NodeFinding::FolderTakes => b"include the directory, or delete what stays after the load",
+        NodeFinding::FolderBrings => b"include the copy and its source",
+        NodeFinding::TextComesIn => b"exclude the copy too if its text has to go",
+    }
+}
+
+/// What the line of the kind says.
+#[tactic(auto, unfolding(crate::specs::Kinds::finding_kind, crate::specs::steps::LineViews::kind_view))]
+fn finding_kind(finding: NodeFinding) -> Kind
+    ensures { kind_view result ≡ finding_kind (meaning finding) }
+{
+    Kind {
+        what: finding_what(finding),
+        fault: finding.fault(),
+        advice: finding_advice(finding),
+    }
+}
+
+/// What the line of a kind that is found in prefixes says.
+#[tactic(auto, unfolding(crate::specs::Kinds::prefix_kind, crate::specs::steps::LineViews::kind_view))]
+fn prefix_kind(finding: PrefixFinding) -> Kind
+    ensures { kind_view result ≡ prefix_kind finding }
+{
+    match finding {
+        PrefixFinding::NotShort => Kind {
+            what: b"prefixes that are not in canonical form",
+            fault: None,
+            advice: b"write them without empty names and without single dots",
+        },
+        PrefixFinding::Idle => Kind {
+            what: b"prefixes that match nothing in the dump",
+            fault: None,
+            advice: b"check that they are spelled as in the dump",
+        },
+    }
+}
+
+/// What the line of a dump that cannot be read to its end says.
+#[tactic(auto, unfolding(crate::specs::Kinds::broken_kind, crate::specs::steps::LineViews::kind_view))]
+fn broken_kind() -> Kind
+    ensures { kind_view result ≡ broken_kind }
+{
+    Kind {
+        what: b"a dump that cannot be read to its end",
+        fault: None,
+        advice: b"dump the repository again",
+    }
+}
+
+/// Adds the line of a kind that was found so often, if it was.
+#[tactic(auto, unfolding(crate::specs::Kinds::kind_line, crate::specs::steps::LineViews::kind_view))]
+fn push_kind_line(lines: &mut Vec<u8>, times: u64, kind: &Kind) -> Result<(), Memory>
+    ensures { OnOk result (lines.new.items ≡ lines.old.items ++ kind_line times (kind_view kind.now)) }
+{
+    if times == 0 {
+        return Ok(());
+    }
+    lines.extend_from_slice(b"total ")?;
+    push_number(lines, times)?;
+    lines.extend_from_slice(b": ")?;
+    lines.extend_from_slice(kind.what)?;
+    push_fault_and_place(lines, kind.fault, None)?;
+    lines.extend_from_slice(b": ")?;
+    lines.extend_from_slice(kind.advice)?;
+    Ok(lines.push(b'\n')?)
+}
+
+/// Adds the lines of these kinds, as far as they were reported of nodes.
+fn push_node_kinds(
+    lines: &mut Vec<u8>,
+    counts: &Counts,
+    findings: &[NodeFinding],
+) -> Result<(), Memory>
+    ensures { OnOk result (lines.new.items ≡ lines.old.items
+        ++ flat_map (λ f. kind_line (count_in counts.now f) (finding_kind f)) (map meaning findings.now)) }
+{
+    let mut left = findings;
+    while let [finding, others @ ..] = left {
+        push_kind_line(lines, counts.of(*finding), &finding_kind(*finding))?;
+        left = others;
+    }
+    Ok(())
+}
+
+/// Adds the line of a kind that is found in the dump as a whole, if it is.
+fn push_dump_kind(
+    lines: &mut Vec<u8>,
+    found: &DumpFindings,
+    finding: WholeFinding,
+) -> Result<(), Memory>
+    ensures { OnOk result (lines.new.items ≡ lines.old.items
+        ++ (if has_dump_finding found.now (whole_meaning finding) then dump_kind_line (whole_meaning finding) else [])) }
+{
+    if found.has(finding) {
+        push_kind_line(lines, 1, &finding.kind())?;
+    }
+    Ok(())
+}
+
+/// Adds the lines of the kinds that are found in the dump as a whole.
+fn push_dump_kinds(lines: &mut Vec<u8>, found: &DumpFindings) -> Result<(), Memory>
+    ensures { OnOk result (lines.new.items ≡ lines.old.items
+        ++ flat_map dump_kind_line (listed_findings found.now)) }
+{
+    push_dump_kind(lines, found, WholeFinding::NoRevision)?;
+    push_dump_kind(lines, found, WholeFinding::OtherNumbers)?;
+    push_dump_kind(lines, found, WholeFinding::NumberFalls)?;
+    push_dump_kind(lines, found, WholeFinding::UnreadRevision)?;
+    push_dump_kind(lines, found, WholeFinding::NodeInFirst)?;
+    push_dump_kind(lines, found, WholeFinding::SourceBefore)?;
+    push_dump_kind(lines, found, WholeFinding::NodeOutside)?;
+    push_dump_kind(lines, found, WholeFinding::NumbersLeft)?;
+    Ok(())
+}
+
+/// How often this is found in prefixes.
+fn times_in(reported: &[ReportedPrefix<'_>], finding: PrefixFinding) -> u64
+    ensures { result ≡ times_in_prefixes (map prefix_view reported.now) finding }
+{
+    let mut times = 0u64;
+    let mut left = reported;
+    while let [first, others @ ..] = left {
+        if first.finding == finding {
+            times += 1;
+        }
+        left = others;
+    }
+    times
+}
+
+/// Adds the line of the kind, if it is found in prefixes.
+fn push_prefix_kind(
+    lines: &mut Vec<u8>,
+    reported: &[ReportedPrefix<'_>],
+    finding: PrefixFinding,
+) -> Result<(), Memory>
+    ensures { OnOk result (lines.new.items ≡ lines.old.items
+        ++ kind_line (times_in_prefixes (map prefix_view reported.now) finding) (prefix_kind finding)) }
+{
+    push_kind_line(lines, times_in(reported, finding), &prefix_kind(finding))
+}
+
+/// Adds the line of what ends the list of records before the dump's end, if something does.
+fn push_ending_kind(lines: &mut Vec<u8>, end: End) -> Result<(), Memory>
+    ensures { OnOk result (lines.new.items ≡ lines.old.items ++ ending_kind_line (survey_ending end)) }
+{
+    match end {
+        End::Whole => Ok(()),
+        End::Broken { .. } => push_kind_line(lines, 1, &broken_kind()),
+    }
+}
+
+/// Adds one line for each kind of what was found.
+pub(crate) fn push_kind_lines(
+    lines: &mut Vec<u8>,
+    counts: &Counts,
+    end: &SurveyEnd,
+    prefixes: &[ReportedPrefix<'_>],
+) -> Result<(), Memory>
+    ensures { OnOk result (lines.new.items ≡ lines.old.items ++ kind_lines (count_in counts.now)
+        (listed_findings end.now.dump) (map prefix_view prefixes.now) (survey_ending end.now.end)) }
+{
+    push_node_kinds(lines, counts, EVERY_FINDING.as_slice())?;
+    push_dump_kinds(lines, &end.dump)?;
+    push_prefix_kind(lines, prefixes, PrefixFinding::NotShort)?;
+    push_prefix_kind(lines, prefixes, PrefixFinding::Idle)?;
+    push_ending_kind(lines, end.end)
+}

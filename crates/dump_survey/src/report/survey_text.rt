@@ -1,0 +1,172 @@
+//! The survey of a dump, written as it is found, and what follows it.
+ghost use Rattle.std.specs.Prelude.{◌≡◌, ◌≢◌, ◌==◌, List, ℕ, Err, IfOk, IsFalse, OnErr, OnOk, length, not};
+ghost use Rattle.std.specs.Io.KnownBytes.{Appends};
+ghost use Rattle.dump_writer.specs.SinkWords.{HasFailedSince};
+ghost use Rattle.dump_survey.specs.declared.report.survey_text.SurveyFailure.TheVariants as failures;
+ghost use Rattle.dump_survey.specs.SurveyText.{IsSurveyText, FindsNothing, BreaksOffSurvey};
+ghost use Rattle.dump_survey.specs.AddedPrefixLines.{AreAddedPrefixLines};
+ghost use Rattle.dump_survey.specs.AdviceLines.{AreAdviceLines, TakesSome, TakesSomeAdvice};
+
+use crate::advice::added_prefixes::prefixes_to_add;
+use crate::advice::folders::folders_to_make;
+use crate::advice::left_out_mergeinfo::left_out_lines;
+use crate::findings::surveyor::{Step, Surveyor};
+use crate::report::counts::Counts;
+use crate::report::survey_lines::{
+    added_prefix_lines, end_lines, folder_lines, left_out_line, node_lines,
+};
+use dump_rules::{Memory, Options};
+use dump_writer::{Chunk, Piece, Sink, write_piece};
+use std::alloc::Global;
+
+/// Why a survey wasn't written whole.
+#[derive(Clone, Copy, Debug, PartialEq, Eq)]
+pub enum SurveyFailure {
+    /// Memory ran out.
+    Memory,
+    /// The sink failed.
+    Sink,
+}
+
+impl From<Memory> for SurveyFailure {
+    ghost from_gives = { λ _ r. r ≡ failures.Memory };
+
+    fn from(_memory: Memory) -> SurveyFailure {
+        SurveyFailure::Memory
+    }
+}
+
+impl From<dump_writer::Memory> for SurveyFailure {
+    ghost from_gives = { λ _ r. r ≡ failures.Memory };
+
+    fn from(_memory: dump_writer::Memory) -> SurveyFailure {
+        SurveyFailure::Memory
+    }
+}
+
+/// Writes lines, and returns whether there are any.
+pub(crate) fn write_lines<S: Sink>(
+    alloc: Global,
+    sink: &mut S,
+    lines: Vec<u8>,
+) -> Result<bool, SurveyFailure>
+    ensures whole { IfOk result (λ _. Appends (S.taken sink.old) (S.taken sink.new) lines.items) }
+    ensures some { IfOk result (λ some. some ≡ not (length lines.items == 0)) }
+    ensures part { OnErr result (TakesSome (S.taken sink.old) (S.taken sink.new) lines.items) }
+    ensures no_failure { result ≢ Err SurveyFailure.Sink → S.failure_count sink.new ≡ S.failure_count sink.old }
+    ensures failed { result ≡ Err SurveyFailure.Sink
+        → HasFailedSince (S.failure_count sink.old) (S.failure_count sink.new) }
+    ensures through { S.through sink.new ≡ S.through sink.old }
+{
+    let some = !lines.is_empty();
+    let mut piece = Piece::new(alloc);
+    piece.push(Chunk::Own(lines))?;
+    match write_piece(sink, &piece) {
+        Ok(()) => Ok(some),
+        Err(_) => Err(SurveyFailure::Sink),
+    }
+}
+
+/// Writes the survey of a dump for the filter under these options, each line as it is found and last one for each kind,
+/// and returns whether something was found.
+pub fn write_survey<S: Sink>(
+    alloc: Global,
+    dump: &[u8],
+    options: &Options,
+    sink: &mut S,
+) -> Result<bool, SurveyFailure>
+    ensures whole { IfOk result (λ found. (text : List ℕ) × IsSurveyText options.now dump.now text found
+        × Appends (S.taken sink.old) (S.taken sink.new) text) }
+    ensures part { OnErr result (BreaksOffSurvey options.now dump.now (S.taken sink.old) (S.taken sink.new)) }
+    ensures no_failure { result ≢ Err SurveyFailure.Sink → S.failure_count sink.new ≡ S.failure_count sink.old }
+    ensures failed { result ≡ Err SurveyFailure.Sink
+        → HasFailedSince (S.failure_count sink.old) (S.failure_count sink.new) }
+    ensures through { S.through sink.new ≡ S.through sink.old }
+{
+    let mut surveyor = Surveyor::new(alloc, dump, options)?;
+    let mut found = false;
+    let mut count = 0u64;
+    let mut counts = Counts::new();
+    loop {
+        match surveyor.next(alloc)? {
+            Step::Node(node) => {
+                if node.found.is_any() {
+                    let lines = node_lines(alloc, &node)?;
+                    found |= write_lines(alloc, sink, lines)?;
+                    counts = counts.with(&node.found);
+                }
+                count += 1;
+            }
+            Step::Other => count += 1,
+            Step::Finished(end) => {
+                let prefixes = surveyor.reported_prefixes(alloc)?;
+                let lines = end_lines(alloc, count, &end, &prefixes, &counts)?;
+                found |= write_lines(alloc, sink, lines)?;
+                return Ok(found);
+            }
+        }
+    }
+}
+
+/// The lines of the prefixes to add. If the survey found nothing there are none, and the dump isn't read again.
+fn lines_of_added_prefixes(
+    alloc: Global,
+    dump: &[u8],
+    options: &Options,
+    found: bool,
+) -> Result<Vec<u8>, Memory>
+    requires { IsFalse found → FindsNothing options.now dump.now }
+    ensures { IfOk result (λ lines. AreAddedPrefixLines options.now dump.now lines.items) }
+{
+    if !found {
+        return Ok(Vec::new(alloc));
+    }
+    let paths = prefixes_to_add(alloc, dump, options)?;
+    added_prefix_lines(alloc, options.side(), &paths)
+}
+
+/// The lines of how many lines of mergeinfo are dropped, of the parent directories to create before what is filtered
+/// under these options is loaded, and of the prefixes to add.
+fn advice_lines(
+    alloc: Global,
+    dump: &[u8],
+    options: &Options,
+    found: bool,
+) -> Result<Vec<u8>, Memory>
+    requires { IsFalse found → FindsNothing options.now dump.now }
+    ensures { IfOk result (λ lines. AreAdviceLines options.now dump.now lines.items) }
+{
+    let folders = folders_to_make(alloc, options)?;
+    let added_lines = lines_of_added_prefixes(alloc, dump, options, found)?;
+    let mut lines = left_out_line(alloc, left_out_lines(dump, options))?;
+    let to_make = folder_lines(alloc, &folders)?;
+    lines.extend_from_slice(&to_make)?;
+    lines.extend_from_slice(&added_lines)?;
+    Ok(lines)
+}
+
+/// Writes what follows the findings of a dump that is filtered under these options: a line with the number of
+/// [`left_out_lines`], unless it is 0, then one for each parent directory to create, in the order of
+/// [`folders_to_make`], and one for each prefix to add, in that of [`prefixes_to_add`]: none if the filter stops at no
+/// copy. Nothing is written before all is known. The caller says whether the survey found something: if it didn't,
+/// there is no prefix to add, and none is looked for.
+pub fn write_advice<S: Sink>(
+    alloc: Global,
+    dump: &[u8],
+    options: &Options,
+    found: bool,
+    sink: &mut S,
+) -> Result<(), SurveyFailure>
+    requires { IsFalse found → FindsNothing options.now dump.now }
+    ensures whole { OnOk result ((lines : List ℕ) × AreAdviceLines options.now dump.now lines
+        × Appends (S.taken sink.old) (S.taken sink.new) lines) }
+    ensures part { OnErr result (TakesSomeAdvice options.now dump.now (S.taken sink.old) (S.taken sink.new)) }
+    ensures no_failure { result ≢ Err SurveyFailure.Sink → S.failure_count sink.new ≡ S.failure_count sink.old }
+    ensures failed { result ≡ Err SurveyFailure.Sink
+        → HasFailedSince (S.failure_count sink.old) (S.failure_count sink.new) }
+    ensures through { S.through sink.new ≡ S.through sink.old }
+{
+    let lines = advice_lines(alloc, dump, options, found)?;
+    write_lines(alloc, sink, lines)?;
+    Ok(())
+}
