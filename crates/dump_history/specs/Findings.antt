@@ -31,7 +31,7 @@ pub data Finding : Type 0 where
   -- it has no action, or an unknown one
   UnknownAction : Finding
   -- a load reads one of its texts differently
-  OddText : Finding
+  TextReadDifferently : Finding
   -- the filter stops: it is a kept copy without its source, and no whole file
   NoWholeFile : Finding
   -- the filter stops: it is a kept copy, and has no new number for the revision that it is copied from
@@ -58,7 +58,7 @@ pub data Finding : Type 0 where
 
 -- each of them, in order
 abbrev pub every_finding : List Finding
-every_finding = Finding.UnreadBlock ∷ Finding.Delta ∷ Finding.UnknownAction ∷ Finding.OddText
+every_finding = Finding.UnreadBlock ∷ Finding.Delta ∷ Finding.UnknownAction ∷ Finding.TextReadDifferently
     ∷ Finding.NoWholeFile ∷ Finding.MissingCopyRevision ∷ Finding.UnreadMergeinfo ∷ Finding.MissingMergeSource
     ∷ Finding.MissingMergeRevision ∷ Finding.PropertiesLost ∷ Finding.CopyLoses ∷ Finding.CopyLetsIn
     ∷ Finding.FolderTakes ∷ Finding.FolderBrings ∷ Finding.TextComesIn ∷ []
@@ -114,7 +114,7 @@ abbrev pub is_found : Settings → DumpRecord → Option (List Property) → Nod
 is_found settings r ps faults Finding.UnreadBlock = is_none ps
 is_found settings r ps faults Finding.Delta = has_odd_delta r
 is_found settings r ps faults Finding.UnknownAction = not (has_known_action r)
-is_found settings r ps faults Finding.OddText = not (has_plain_texts r (unwrap_or ps []))
+is_found settings r ps faults Finding.TextReadDifferently = not (has_plain_texts r (unwrap_or ps []))
 is_found settings r ps faults Finding.NoWholeFile = lacks_source settings r
 is_found settings r ps faults Finding.MissingCopyRevision = faults.copy_revision
 is_found settings r ps faults Finding.UnreadMergeinfo = faults.unread
@@ -153,7 +153,7 @@ abbrev pub is_obstacle : Finding → Bool
 is_obstacle Finding.UnreadBlock = true
 is_obstacle Finding.Delta = true
 is_obstacle Finding.UnknownAction = true
-is_obstacle Finding.OddText = true
+is_obstacle Finding.TextReadDifferently = true
 is_obstacle _ = false
 
 -- whether the finding is an alarm: the filter's cut may not separate the node's change

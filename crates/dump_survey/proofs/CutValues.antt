@@ -53,7 +53,7 @@ with_its_slashes = refl
 included : cutting_prefix (call Include (codes "t/f" ∷ [])) copy Finding.CopyLoses ≡ None
 included = refl
 
-another_finding : cutting_prefix (call Exclude (codes "t/f" ∷ [])) copy Finding.OddText ≡ None
+another_finding : cutting_prefix (call Exclude (codes "t/f" ∷ [])) copy Finding.TextReadDifferently ≡ None
 another_finding = refl
 
 -- the line shows it byte by byte, where there is one

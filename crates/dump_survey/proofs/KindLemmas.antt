@@ -6,7 +6,7 @@ at_place : (f : Finding) → get_or every_finding (finding_place f) Finding.Unre
 at_place Finding.UnreadBlock = refl
 at_place Finding.Delta = refl
 at_place Finding.UnknownAction = refl
-at_place Finding.OddText = refl
+at_place Finding.TextReadDifferently = refl
 at_place Finding.NoWholeFile = refl
 at_place Finding.MissingCopyRevision = refl
 at_place Finding.UnreadMergeinfo = refl
@@ -29,7 +29,7 @@ once : (f : Finding) → length (filter (λ g. finding_place g == finding_place 
 once Finding.UnreadBlock = refl
 once Finding.Delta = refl
 once Finding.UnknownAction = refl
-once Finding.OddText = refl
+once Finding.TextReadDifferently = refl
 once Finding.NoWholeFile = refl
 once Finding.MissingCopyRevision = refl
 once Finding.UnreadMergeinfo = refl
@@ -106,7 +106,7 @@ pub none_counted : (f : Finding) → count_in no_counts f ≡ 0
 none_counted Finding.UnreadBlock = refl
 none_counted Finding.Delta = refl
 none_counted Finding.UnknownAction = refl
-none_counted Finding.OddText = refl
+none_counted Finding.TextReadDifferently = refl
 none_counted Finding.NoWholeFile = refl
 none_counted Finding.MissingCopyRevision = refl
 none_counted Finding.UnreadMergeinfo = refl

@@ -20,7 +20,7 @@ module _ (settings : Settings) (r : DumpRecord) (ps : Option (List Property)) (m
   found_named Finding.UnreadBlock is = refl
   found_named Finding.Delta is = refl
   found_named Finding.UnknownAction is = refl
-  found_named Finding.OddText is = refl
+  found_named Finding.TextReadDifferently is = refl
   found_named Finding.NoWholeFile is = refl
   found_named Finding.MissingCopyRevision is = refl
   found_named Finding.UnreadMergeinfo is = refl

@@ -15,7 +15,7 @@ abbrev pub finding_place : Finding → ℕ
 finding_place Finding.UnreadBlock = 0
 finding_place Finding.Delta = 1
 finding_place Finding.UnknownAction = 2
-finding_place Finding.OddText = 3
+finding_place Finding.TextReadDifferently = 3
 finding_place Finding.NoWholeFile = 4
 finding_place Finding.MissingCopyRevision = 5
 finding_place Finding.UnreadMergeinfo = 6
@@ -57,7 +57,7 @@ unfoldable pub finding_what : Finding → List ℕ
 finding_what Finding.UnreadBlock = codes "properties that cannot be read"
 finding_what Finding.Delta = codes "deltas in a dump of format version 2"
 finding_what Finding.UnknownAction = codes "nodes with no action, or an unknown one"
-finding_what Finding.OddText = codes "texts that svnadmin load reads differently"
+finding_what Finding.TextReadDifferently = codes "texts that svnadmin load reads differently"
 finding_what Finding.NoWholeFile = codes "copies whose source is excluded"
 finding_what Finding.MissingCopyRevision = codes "copies whose source's revision gets no new number"
 finding_what Finding.UnreadMergeinfo = codes "invalid svn:mergeinfo"
@@ -75,7 +75,7 @@ unfoldable pub finding_advice : Finding → List ℕ
 finding_advice Finding.UnreadBlock = codes "dump the repository again"
 finding_advice Finding.Delta = codes "use svnadmin dump --deltas, which writes version 3"
 finding_advice Finding.UnknownAction = codes "dump the repository again"
-finding_advice Finding.OddText = codes "correct them in the dump, since a prefix may not match what is loaded"
+finding_advice Finding.TextReadDifferently = codes "correct them in the dump, since a prefix may not match what is loaded"
 finding_advice Finding.NoWholeFile = codes "include the source too, or exclude the copy"
 finding_advice Finding.MissingCopyRevision = codes "do not use --renumber-revs, or dump from an earlier revision on"
 finding_advice Finding.UnreadMergeinfo = codes "correct the property and dump the repository again, or exclude the path"

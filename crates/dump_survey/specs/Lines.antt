@@ -58,7 +58,7 @@ unfoldable pub finding_words : Finding → List ℕ
 finding_words Finding.UnreadBlock = codes "its properties cannot be read"
 finding_words Finding.Delta = codes "a delta in a dump of format version 2"
 finding_words Finding.UnknownAction = codes "no action, or an unknown one"
-finding_words Finding.OddText = codes "a path, a copy source or another text that svnadmin load reads differently"
+finding_words Finding.TextReadDifferently = codes "a path, a copy source or another text that svnadmin load reads differently"
 finding_words Finding.NoWholeFile = codes "the source is excluded: svndumpfilter stops here"
 finding_words Finding.MissingCopyRevision =
     codes "the source's revision gets no new number: svndumpfilter stops here"

@@ -8,7 +8,7 @@ abbrev pub meaning : NodeFinding → Finding
 meaning findings.UnreadBlock = Finding.UnreadBlock
 meaning findings.Delta = Finding.Delta
 meaning findings.UnknownAction = Finding.UnknownAction
-meaning findings.OddText = Finding.OddText
+meaning findings.TextReadDifferently = Finding.TextReadDifferently
 meaning findings.NoWholeFile = Finding.NoWholeFile
 meaning findings.MissingCopyRevision = Finding.MissingCopyRevision
 meaning findings.UnreadMergeinfo = Finding.UnreadMergeinfo

@@ -68,7 +68,7 @@ Node-path: trunk//a\nNode-action: change\n\n\n";
 fn is_odd_alone(survey: &Survey<'_, '_>) -> bool {
     match survey.reported.as_slice() {
         [reported] => {
-            reported.finding == NodeFinding::OddText
+            reported.finding == NodeFinding::TextReadDifferently
                 && (reported.number, reported.place, reported.revision) == (3, 71, 7)
                 && reported.path == b"trunk//a".as_slice()
                 && reported.prefix.is_none()

@@ -77,18 +77,18 @@ missing_merge_revision = refl
 
 -- texts that the load reads otherwise
 
-dot_in_path : in_node include_a (node (codes "p/a/./f") (codes "add") []) ≡ Finding.OddText ∷ []
+dot_in_path : in_node include_a (node (codes "p/a/./f") (codes "add") []) ≡ Finding.TextReadDifferently ∷ []
 dot_in_path = refl
 
 empty_name_in_source : in_node include_a (node (codes "p/a/g") (codes "add") (from (codes "p/a//f")))
-    ≡ Finding.OddText ∷ []
+    ≡ Finding.TextReadDifferently ∷ []
 empty_name_in_source = refl
 
-zero_in_line : in_node include_a (node (codes "p/a/g" ++ 0 ∷ []) (codes "add") []) ≡ Finding.OddText ∷ []
+zero_in_line : in_node include_a (node (codes "p/a/g" ++ 0 ∷ []) (codes "add") []) ≡ Finding.TextReadDifferently ∷ []
 zero_in_line = refl
 
 zero_in_name : findings_of include_a (node (codes "p/a") (codes "change") (block ∷ []))
-    (Some (record { name = codes "k" ++ 0 ∷ []; value = Some [] } ∷ [])) no_node_faults ≡ Finding.OddText ∷ []
+    (Some (record { name = codes "k" ++ 0 ∷ []; value = Some [] } ∷ [])) no_node_faults ≡ Finding.TextReadDifferently ∷ []
 zero_in_name = refl
 
 leading_slash : in_node include_a (node (codes "/p/a/g") (codes "add") (from (codes "/p/a/f"))) ≡ []

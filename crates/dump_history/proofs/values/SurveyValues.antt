@@ -22,13 +22,13 @@ changed = node (codes "trunk") (codes "change")
 
 -- what can be found
 
-all_findings : every_finding ≡ Finding.UnreadBlock ∷ Finding.Delta ∷ Finding.UnknownAction ∷ Finding.OddText
+all_findings : every_finding ≡ Finding.UnreadBlock ∷ Finding.Delta ∷ Finding.UnknownAction ∷ Finding.TextReadDifferently
     ∷ Finding.NoWholeFile ∷ Finding.MissingCopyRevision ∷ Finding.UnreadMergeinfo ∷ Finding.MissingMergeSource
     ∷ Finding.MissingMergeRevision ∷ Finding.PropertiesLost ∷ Finding.CopyLoses ∷ Finding.CopyLetsIn ∷ Finding.FolderTakes ∷ Finding.FolderBrings ∷ Finding.TextComesIn ∷ []
 all_findings = refl
 
 obstacles : filter is_obstacle every_finding
-    ≡ Finding.UnreadBlock ∷ Finding.Delta ∷ Finding.UnknownAction ∷ Finding.OddText ∷ []
+    ≡ Finding.UnreadBlock ∷ Finding.Delta ∷ Finding.UnknownAction ∷ Finding.TextReadDifferently ∷ []
 obstacles = refl
 
 alarms : filter is_alarm every_finding ≡ Finding.PropertiesLost ∷ Finding.CopyLoses ∷ Finding.CopyLetsIn
@@ -38,11 +38,11 @@ alarms = refl
 -- more than one finding stands in this order
 
 three_found : in_node include_a (node (codes "p/a//g") (codes "add") (from (codes "q/g")))
-    ≡ Finding.OddText ∷ Finding.NoWholeFile ∷ Finding.PropertiesLost ∷ []
+    ≡ Finding.TextReadDifferently ∷ Finding.NoWholeFile ∷ Finding.PropertiesLost ∷ []
 three_found = refl
 
 unread_and_odd : findings_of include_a (node (codes "p/a/./g") (codes "rename") []) None no_node_faults
-    ≡ Finding.UnreadBlock ∷ Finding.UnknownAction ∷ Finding.OddText ∷ []
+    ≡ Finding.UnreadBlock ∷ Finding.UnknownAction ∷ Finding.TextReadDifferently ∷ []
 unread_and_odd = refl
 
 -- the filter stops under exclude too, and under each action: a copy source counts for it wherever it stands
@@ -175,8 +175,8 @@ second_from_before = refl
 none_of_none : none_is is_alarm ([] ∷ ([] ∷ []) ∷ []) ≡ true
 none_of_none = refl
 
-other_than_alarms : none_is is_alarm (((Finding.OddText ∷ []) ∷ []) ∷ []) ≡ true
+other_than_alarms : none_is is_alarm (((Finding.TextReadDifferently ∷ []) ∷ []) ∷ []) ≡ true
 other_than_alarms = refl
 
-one_alarm : none_is is_alarm ([] ∷ ([] ∷ (Finding.OddText ∷ Finding.CopyLoses ∷ []) ∷ []) ∷ []) ≡ false
+one_alarm : none_is is_alarm ([] ∷ ([] ∷ (Finding.TextReadDifferently ∷ Finding.CopyLoses ∷ []) ∷ []) ∷ []) ≡ false
 one_alarm = refl

@@ -11,7 +11,7 @@ no_counts = record {
   unread_block = 0;
   delta = 0;
   unknown_action = 0;
-  odd_text = 0;
+  text_read_differently = 0;
   no_whole_file = 0;
   missing_copy_revision = 0;
   unread_mergeinfo = 0;
@@ -30,7 +30,7 @@ abbrev pub count_in : Counts → Finding → ℕ
 count_in counts Finding.UnreadBlock = counts.unread_block
 count_in counts Finding.Delta = counts.delta
 count_in counts Finding.UnknownAction = counts.unknown_action
-count_in counts Finding.OddText = counts.odd_text
+count_in counts Finding.TextReadDifferently = counts.text_read_differently
 count_in counts Finding.NoWholeFile = counts.no_whole_file
 count_in counts Finding.MissingCopyRevision = counts.missing_copy_revision
 count_in counts Finding.UnreadMergeinfo = counts.unread_mergeinfo

@@ -15,7 +15,7 @@ abbrev pub has_found : Found → Finding → Bool
 has_found found Finding.UnreadBlock = found.obstacles.unread_block
 has_found found Finding.Delta = found.obstacles.delta
 has_found found Finding.UnknownAction = found.obstacles.unknown_action
-has_found found Finding.OddText = found.obstacles.odd_text
+has_found found Finding.TextReadDifferently = found.obstacles.text_read_differently
 has_found found Finding.NoWholeFile = found.losses.no_whole_file
 has_found found Finding.MissingCopyRevision = found.refused.copy_revision
 has_found found Finding.UnreadMergeinfo = found.refused.unread

@@ -15,7 +15,7 @@ pub record AreObstaclesOf (r : DumpRecord) (ps : Option (List Property)) (o : Ob
   pub unread_block : o.unread_block ≡ is_none ps
   pub delta : o.delta ≡ has_odd_delta r
   pub unknown_action : o.unknown_action ≡ not (has_known_action r)
-  pub odd_text : o.odd_text ≡ not (has_plain_texts r (unwrap_or ps []))
+  pub text_read_differently : o.text_read_differently ≡ not (has_plain_texts r (unwrap_or ps []))
 
 -- the losses are those of the node, and name the prefixes that cut; its properties don't count
 pub record AreLossesOf (settings : Settings) (r : DumpRecord) (l : Losses) : Type 0 where

@@ -36,7 +36,7 @@ fn obstacles_of(item: &Record<'_>, action: Action, props: &Option<Props<'_>>) ->
         unread_block: props.is_none(),
         delta: has_odd_delta(item),
         unknown_action: !action.is_known(),
-        odd_text: !has_plain_texts(item, props),
+        text_read_differently: !has_plain_texts(item, props),
     }
 }
 

@@ -19,7 +19,7 @@ pub enum NodeFinding {
     /// It has no action, or an unknown one.
     UnknownAction,
     /// `svnadmin load` reads one of its texts differently.
-    OddText,
+    TextReadDifferently,
     /// The filter stops at it with fault 12.
     NoWholeFile,
     /// The filter stops at it with fault 13: it has no new number for the revision that it is copied from.
@@ -49,7 +49,7 @@ pub const EVERY_FINDING: [NodeFinding; 15] = [
     NodeFinding::UnreadBlock,
     NodeFinding::Delta,
     NodeFinding::UnknownAction,
-    NodeFinding::OddText,
+    NodeFinding::TextReadDifferently,
     NodeFinding::NoWholeFile,
     NodeFinding::MissingCopyRevision,
     NodeFinding::UnreadMergeinfo,
@@ -85,7 +85,7 @@ pub(crate) struct Obstacles {
     pub(crate) unread_block: bool,
     pub(crate) delta: bool,
     pub(crate) unknown_action: bool,
-    pub(crate) odd_text: bool,
+    pub(crate) text_read_differently: bool,
 }
 
 /// What the filter's cut does to a node.
@@ -132,7 +132,7 @@ impl<'o> Found<'o> {
             NodeFinding::UnreadBlock => self.obstacles.unread_block,
             NodeFinding::Delta => self.obstacles.delta,
             NodeFinding::UnknownAction => self.obstacles.unknown_action,
-            NodeFinding::OddText => self.obstacles.odd_text,
+            NodeFinding::TextReadDifferently => self.obstacles.text_read_differently,
             NodeFinding::NoWholeFile => self.losses.no_whole_file,
             NodeFinding::MissingCopyRevision => self.refused.copy_revision,
             NodeFinding::UnreadMergeinfo => self.refused.unread,
@@ -155,7 +155,7 @@ impl<'o> Found<'o> {
         obstacles.unread_block
             | obstacles.delta
             | obstacles.unknown_action
-            | obstacles.odd_text
+            | obstacles.text_read_differently
             | losses.no_whole_file
             | refused.copy_revision
             | refused.unread

@@ -61,7 +61,8 @@ impl<'o, 'a> SurveyedNode<'o, 'a> {
     /// Adds what is found in the node to what is reported already.
     pub fn report(&self, reported: &mut Vec<ReportedFinding<'o, 'a>>) -> Result<(), Memory>
         requires { IsTrue (is_node (record_item self.now.item)) }
-        ensures { OnOk result (map reported_view reported.new.items ≡ map reported_view reported.old.items ++ reported_of_node self.now) }
+        ensures { OnOk result (map reported_view reported.new.items
+            ≡ map reported_view reported.old.items ++ reported_of_node self.now) }
     {
         let mut left = EVERY_FINDING.as_slice();
         while let [finding, others @ ..] = left {

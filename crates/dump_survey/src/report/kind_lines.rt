@@ -38,7 +38,7 @@ fn finding_what(finding: NodeFinding) -> &'static [u8]
         NodeFinding::UnreadBlock => b"properties that cannot be read",
         NodeFinding::Delta => b"deltas in a dump of format version 2",
         NodeFinding::UnknownAction => b"nodes with no action, or an unknown one",
-        NodeFinding::OddText => b"texts that svnadmin load reads differently",
+        NodeFinding::TextReadDifferently => b"texts that svnadmin load reads differently",
         NodeFinding::NoWholeFile => b"copies whose source is excluded",
         NodeFinding::MissingCopyRevision => b"copies whose source's revision gets no new number",
         NodeFinding::UnreadMergeinfo => b"invalid svn:mergeinfo",
@@ -64,7 +64,7 @@ fn finding_advice(finding: NodeFinding) -> &'static [u8]
         NodeFinding::UnreadBlock => b"dump the repository again",
         NodeFinding::Delta => b"use svnadmin dump --deltas, which writes version 3",
         NodeFinding::UnknownAction => b"dump the repository again",
-        NodeFinding::OddText => {
+        NodeFinding::TextReadDifferently => {
             b"correct them in the dump, since a prefix may not match what is loaded"
         }
         NodeFinding::NoWholeFile => b"include the source too, or exclude the copy",

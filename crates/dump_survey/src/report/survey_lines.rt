@@ -177,7 +177,7 @@ fn words(finding: NodeFinding) -> &'static [u8]
         NodeFinding::UnreadBlock => b"its properties cannot be read",
         NodeFinding::Delta => b"a delta in a dump of format version 2",
         NodeFinding::UnknownAction => b"no action, or an unknown one",
-        NodeFinding::OddText => {
+        NodeFinding::TextReadDifferently => {
             b"a path, a copy source or another text that svnadmin load reads differently"
         }
         NodeFinding::NoWholeFile => b"the source is excluded: svndumpfilter stops here",
@@ -244,7 +244,8 @@ pub(crate) fn push_node_line(
 #[tactic(auto, unfolding(crate::specs::Lines::dump_line))]
 fn push_dump_line(lines: &mut Vec<u8>, end: &SurveyEnd, finding: WholeFinding) -> Result<(), Memory>
     ensures { OnOk result (lines.new.items ≡ lines.old.items
-        ++ (if has_dump_finding end.now.dump (whole_meaning finding) then dump_line (reported_of_dump end.now (whole_meaning finding)) else [])) }
+        ++ (if has_dump_finding end.now.dump (whole_meaning finding)
+        then dump_line (reported_of_dump end.now (whole_meaning finding)) else [])) }
 {
     if !end.dump.has(finding) {
         return Ok(());

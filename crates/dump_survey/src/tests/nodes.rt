@@ -48,7 +48,7 @@ fn assert_found_alone(
 
 const NO: &[NodeFinding] = &[];
 
-const ODD: &[NodeFinding] = &[NodeFinding::OddText];
+const ODD: &[NodeFinding] = &[NodeFinding::TextReadDifferently];
 
 const LOST: &[NodeFinding] = &[NodeFinding::PropertiesLost];
 

@@ -11,7 +11,7 @@ pub with_one-requires-3 : goal.with_one-requires-3
 with_one-requires-3 c = c.requires Finding.UnknownAction
 
 pub with_one-requires-4 : goal.with_one-requires-4
-with_one-requires-4 c = c.requires Finding.OddText
+with_one-requires-4 c = c.requires Finding.TextReadDifferently
 
 pub with_one-requires-5 : goal.with_one-requires-5
 with_one-requires-5 c = c.requires Finding.NoWholeFile
