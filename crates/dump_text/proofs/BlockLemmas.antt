@@ -6,7 +6,7 @@ use Rattle.dump_text.proofs.Unique.{lines_once, lawful_lines, ended}
 use Rattle.dump_text.proofs.BoolLemmas.{first_true, absurd_bool}
 use Rattle.dump_text.proofs.ScanLemmas.{headers_of-lines, lines_behind}
 
--- whether each of these names stands at most once
+-- whether each of these names occurs at most once
 abbrev pub counts_once : List (List ℕ) → List line.Header → Bool
 counts_once names headers = list_all (λ name. nat_le (count_named name headers) 1) names
 
@@ -26,7 +26,7 @@ has_count name (h ∷ hs) =
     sum true n = grind arith
     sum b n = grind arith
 
--- one more line keeps a name at most once where it isn't of this name or no other line is
+-- with one more line, a name still occurs at most once, if the line has another name or no other line has this one
 one_name : (name : List ℕ) (h : line.Header) (hs : List line.Header)
     → nat_le (count_named name (h ∷ hs)) 1 ≡ (not (is_named name h && has_header h.name hs) && nat_le
     (count_named name hs) 1)
@@ -69,7 +69,7 @@ count_append : (name : List ℕ) (xs ys : List line.Header)
     → count_named name (xs ++ ys) ≡ count_named name xs + count_named name ys
 count_append name xs ys = sum_by-append (λ (x : line.Header). if is_named name x then 1 else 0) xs ys
 
--- one more line behind some lines: it may follow them, and they stand at most once
+-- one more line after some lines: it may follow them, and they occur at most once
 pub once_more : (hs : List line.Header) (h : line.Header)
     → counts_once known_names (hs ++ h ∷ []) ≡ (may_follow hs h.name && counts_once known_names hs)
 once_more hs h = moved known_names ∙ spread known_names h hs
@@ -84,7 +84,7 @@ once_more hs h = moved known_names ∙ spread known_names h hs
     moved [] = refl
     moved (name ∷ names) = let more = moved names in rw (count_same name, more) refl
 
--- the first of some lines stand at most once where all do
+-- if all of some lines occur at most once, the first of them do
 once_front : (names : List (List ℕ)) (xs ys : List line.Header) → counts_once names (xs ++ ys) ≡ true
     → counts_once names xs ≡ true
 once_front [] xs ys once = refl
@@ -93,7 +93,7 @@ once_front (name ∷ names) xs ys once =
     let few : nat_le (count_named name xs) 1 ≡ true = grind (arith, parts.0, count_append name xs ys) in
     rw (few, once_front names xs ys parts.1) refl
 
--- the lines that a scan found are those of each block that stands there
+-- the lines that a scan found are those of each block that is there
 same_lines : (text rest : List ℕ) (hs : List line.Header) (size : ℕ) → IsLinesEnd text size
     → BeginsWithBlock text hs rest
     → hs ≡ headers_of (take size text)
@@ -103,7 +103,7 @@ same_lines text rest hs size found b =
     (sym (append_assoc (lines_bytes hs) (10 ∷ []) rest) ∙ sym b.spelled ∙ found.ended
     ∙ ap (λ t. t ++ 10 ∷ drop (size + 1) text) found.lines.spelled)).0
 
--- header lines and the empty line behind them are a block, if each known name stands once
+-- header lines and the empty line after them are a block, if each known name occurs once
 pub block_end : (text : List ℕ) (size : ℕ) → IsLinesEnd text size → 0 < size
     → counts_once known_names (headers_of (take size text)) ≡ true
     → IsBlockEnd text (size + 1) × (headers_of (take (size + 1) text) ≡ headers_of (take size text))
@@ -137,7 +137,7 @@ block_end text size found some once =
     some_lines [] is some = absurd (omega arith)
     some_lines (h ∷ hs) is some = grind arith
 
--- lines that stand too often begin no block
+-- lines in which a known name occurs twice begin no block
 pub no_block-once : (text others : List ℕ) (hs : List line.Header) → list_all is_header hs ≡ true
     → text ≡ lines_bytes hs ++ others
     → counts_once known_names hs ≡ false → ¬ HasBlock text
@@ -154,7 +154,7 @@ no_block-once text others hs all is twice (ks, rest, b) =
     let once = (and_parts _ (counts_once known_names ks) b.block).1 in
     absurd_bool _ (once_front known_names hs more (ap (counts_once known_names) same ∙ once)) twice
 
--- where the empty line comes first, no block begins
+-- if the empty line comes first, no block begins
 pub no_block-empty : (text : List ℕ) (size : ℕ) → IsLinesEnd text size → size ≤ 0 → ¬ HasBlock text
 no_block-empty text size found none (hs, rest, b) =
     let same = same_lines text rest hs size found b in
@@ -164,7 +164,7 @@ no_block-empty text size found none (hs, rest, b) =
     let bad : true ≡ false = sym some ∙ ap (λ (g : List line.Header). nat_lt 0 (length g)) empty in
     cc
 
--- where no header lines with an empty line begin the text, no block does
+-- if no header lines with an empty line begin the text, no block does
 pub no_block-lines : (text : List ℕ) → ¬ HasLines text → ¬ HasBlock text
 no_block-lines text none (hs, rest, b) =
     none (hs, rest, lawful_lines hs b.block, b.spelled ∙ append_assoc (lines_bytes hs) (10 ∷ []) rest)
@@ -232,7 +232,7 @@ part_of_part dump place after x y z (from, to, low, middle, high, is) =
       front ∙ ap (λ n. take n (drop (from + length x) dump)) (omega arith),
     )
 
--- a line's value, and the lines behind it
+-- a line's value, and the lines after it
 pub value_between : (dump : List ℕ) (place after : ℕ) (text whole name value rest : List ℕ)
     → IsPartBetween dump place after text
     → text ≡ whole ++ 10 ∷ rest → whole ≡ name ++ codes ": " ++ value → IsPartBetween dump place after value
@@ -241,7 +241,7 @@ value_between dump place after text whole name value rest part is spelled =
     (subst (IsPartBetween dump place after) (is ∙ ap (λ w. w ++ 10 ∷ rest) spelled
     ∙ append_assoc (name ++ codes ": ") value (10 ∷ rest)) part)
 
--- what stands behind a line of a part lies between the same places of the dump
+-- what follows a line of a part lies between the same places of the dump
 pub rest_between : (dump : List ℕ) (place after : ℕ) (text whole rest : List ℕ) → IsPartBetween dump place after text
     → text ≡ whole ++ 10 ∷ rest → IsPartBetween dump place after rest
 rest_between dump place after text whole rest part is =
@@ -249,7 +249,7 @@ rest_between dump place after text whole rest part is =
     (subst (IsPartBetween dump place after) (is ∙ sym (append_assoc whole (10 ∷ []) rest)
     ∙ ap (λ t. (whole ++ 10 ∷ []) ++ t) (sym (append-nil rest))) part)
 
--- a name that the first line doesn't have has the value of the lines behind it
+-- a name that the first line doesn't have has the value of the lines after it
 pub value_behind : (name : List ℕ) (h : line.Header) (hs : List line.Header) → is_named name h ≡ false
     → header_value name (h ∷ hs) ≡ header_value name hs
 value_behind name h hs other = rw other refl
@@ -263,7 +263,7 @@ block_bytes dump place after stands =
     let count : length text ≡ after - place = omega arith in
     ap (take (after - place)) stands.block.spelled ∙ take_at text (drop after dump) (after - place) count
 
--- a name has a line where it has a value
+-- a name has a line if it has a value
 pub has_value : (name : List ℕ) (headers : List line.Header)
     → is_some (header_value name headers) ≡ has_header name headers
 has_value name [] = refl

@@ -1,4 +1,4 @@
--- The names that have a meaning: which bytes are one, and where it stands among them.
+-- The names that have a meaning: which bytes are one, and where it is among them.
 use Rattle.dump_text.proofs.Prelude.{◌≡◌, ℕ, ◌<◌, Bool, true, false, ◌==◌, List, [], ◌∷◌, length, map, filter, get_or, refl, sym, ap, ◌∙◌, inl, inr, lit<, bytes_eq, Some, is_some, same_Some, list_any, find, cases_Bool, eq-eqb, bytes_eq-Decides, HeaderName, FormatVersion, name_text, all_names, name_place, known_name, names_of_length, is_known}
 use denote.Enum.Declared.{tag_of}
 use Rattle.dump_text.specs.contracts.names.HeaderName as enum
@@ -7,11 +7,11 @@ use Rattle.dump_text.specs.contracts.names.HeaderName as enum
 pub find_behind : {X : Type 0} (p : X → Bool) (x : X) (xs : List X) → p x ≡ false → find p (x ∷ xs) ≡ find p xs
 find_behind p x xs other = rw other refl
 
--- an item at the front is found, if it is one that is sought
+-- the element at the front is found, if it passes the test
 pub find_here : {X : Type 0} (p : X → Bool) (x : X) (xs : List X) → p x ≡ true → find p (x ∷ xs) ≡ Some x
 find_here p x xs here = rw here refl
 
--- what is found is what was sought
+-- the element that is found passes the test
 found : {X : Type 0} (p : X → Bool) (xs : List X) (y : X) → find p xs ≡ Some y → p y ≡ true
 found p [] y is = cc
 found p (x ∷ xs) y is = elim (cases_Bool (p x)) [
@@ -19,7 +19,7 @@ found p (x ∷ xs) y is = elim (cases_Bool (p x)) [
   | inr other ↦ found p xs y (sym (find_behind p x xs other) ∙ is)
 ]
 
--- what is found among those elements that alone can be it is what is found among all
+-- if only some elements can pass the test, searching these gives the same as searching all
 find_filtered : {X : Type 0} (p q : X → Bool) → ((x : X) → p x ≡ true → q x ≡ true) → (xs : List X)
     → find p (filter q xs) ≡ find p xs
 find_filtered p q fits [] = refl
@@ -31,7 +31,7 @@ find_filtered p q fits (x ∷ xs) = elim (cases_Bool (p x)) [
   ]
 ]
 
--- bytes are sought among the names of their length
+-- bytes are looked up among the names of their length
 pub known_by_length : (bytes : List ℕ)
     → find (λ name. bytes_eq bytes (name_text name)) (names_of_length (length bytes)) ≡ known_name bytes
 known_by_length bytes = find_filtered (λ name. bytes_eq bytes (name_text name))
@@ -65,7 +65,7 @@ known_is bytes = among all_names
 pub text_once : (m n : HeaderName) → name_text m ≡ name_text n → m ≡ n
 text_once m n same = same_Some m n (sym (known_itself m) ∙ ap known_name same ∙ known_itself n)
 
--- a name stands at its place
+-- a name is at its place
 at_place : (name : HeaderName) → get_or all_names (name_place name) FormatVersion ≡ name
 at_place FormatVersion = refl
 at_place name = refl

@@ -20,7 +20,7 @@ digits_more bytes i c below is digit before =
     let more = list_all_more is_ascii_digit bytes i 0 below in
     more ∙ rw (before, is, digit) refl
 
--- a number of so many digits, with one more, stays below the next power of ten
+-- a number of this many digits, with one more, stays below the next power of ten
 pub small_more : (v d i : ℕ) → v < 10 ^ i → d ≤ 9 → v * 10 + d < 10 ^ (i + 1)
 small_more v d i small one = let e : 10 ^ (suc i) ≡ 10 * 10 ^ i = pow-succ' 10 i in grind (arith, e)
 
@@ -33,7 +33,7 @@ pub one_digit : (n k : ℕ) → n < 10 ^ (k + 1) → k ≤ 0 → n < 10
 one_digit n k small none = let e : k + 1 ≡ 1 = omega arith in let f : 10 ^ (k + 1) ≡ 10 = ap
     (λ (m : ℕ). 10 ^ m) e in omega arith
 
--- one more digit of a number is spelled
+-- one more digit of a number is written in front of those that are already written
 pub spelled_more : (n left start : ℕ) (bytes : List ℕ) → 10 ≤ left → left < 2 ^ 64 → start < length bytes
     → decimal n ≡ decimal left ++ drop (start + 1) bytes
     → decimal n ≡ decimal (left / 10) ++ drop start (set bytes start (48 + left % 10))

@@ -1,4 +1,4 @@
--- A part of an entry, a letter and a length and that many bytes, stands at the front of a text in one way.
+-- A part of an entry, a letter and a length and that many bytes, is at the front of a text in one way.
 use Rattle.dump_text.proofs.Prelude.{◌≡◌, ℕ, ◌<◌, ◌^◌, nat_lt, nat_le, Bool, true, false, ◌==◌, List, [], ◌∷◌, ◌++◌, ◌+◌, get_or, drop, length, length-append, refl, sym, ap, ◌∙◌, arith, Option, Some, None, if◌then◌else◌, list_all, is_ascii_digit, digits_value, AllDigits, and_parts, decimal_is_IsNumeral, length-decimal-le, drop_at, get_or-drop, digit_from_value, has_byte, is_number, number_of, spelled_number, sized_text, IsFirstLine, IsSized, HasSized, IsLetter}
 use Rattle.std.proofs.Common.{append_assoc}
 use Rattle.dump_text.proofs.Unique.{tail-eq, split_once, split_by_length}
@@ -43,7 +43,7 @@ spelled_spells n small =
     let is = decimal_is_IsNumeral n small in
     record { one_line = no_lf (spelled_number n) (ascii_digits (spelled_number n) is.0.1); value = is.1 }
 
--- and they are read again, where they aren't too many
+-- and they are read again, if there aren't too many
 pub number_of-spelled : (n : ℕ) → n < 10 ^ 18 → number_of (spelled_number n) ≡ Some n
 number_of-spelled n small =
     let fits : n < 2 ^ 64 = omega arith in
@@ -99,7 +99,7 @@ line_of letter text behind d b x line s =
     (tail-eq letter letter (32 ∷ behind) (32 ∷ (d ++ 10 ∷ (b ++ 10 ∷ x)))
     (sym line ∙ s.cut ∙ sized_cut letter d b x))
 
--- the digits and what follows them are those of each part that stands there
+-- the digits and what follows them are those of each part that is there
 sized_line : (letter : ℕ) (text behind digits rest d b x : List ℕ) → IsLetter letter text behind
     → IsFirstLine behind digits rest
     → IsSized letter text d b x → (digits ≡ d) × (rest ≡ b ++ 10 ∷ x)
@@ -108,7 +108,7 @@ sized_line letter text behind digits rest d b x line first s =
     split_once 10 digits d rest (b ++ 10 ∷ x) first.one_line spells.one_line
     (sym first.cut ∙ line_of letter text behind d b x line s)
 
--- a part isn't found where its number is missing
+-- there is no part if there is no number
 pub no_sized-number : (letter : ℕ) (text behind digits rest : List ℕ) → IsLetter letter text behind
     → IsFirstLine behind digits rest
     → number_of digits ≡ None → ¬ HasSized letter text
@@ -116,7 +116,7 @@ no_sized-number letter text behind digits rest line first none (d, b, x, s) =
     let same = sized_line letter text behind digits rest d b x line first s in
     let bad : Path (Option ℕ) None (Some (length b)) = sym none ∙ ap number_of same.0 ∙ s.size in cc
 
--- where a part stands, its bytes and an LF follow its line
+-- if there is a part, its bytes and an LF follow its line
 pub sized_room : (letter : ℕ) (text behind digits rest : List ℕ) (size : ℕ) → IsLetter letter text behind
     → IsFirstLine behind digits rest
     → number_of digits ≡ Some size → HasSized letter text → (size < length rest) × (get_or rest size 0 ≡ 10)

@@ -1,15 +1,15 @@
--- Where the value of a line stands in its dump.
+-- Where the value of a line is in its dump.
 use Rattle.dump_text.proofs.Prelude.{◌≡◌, ℕ, ◌+◌, ◌-◌, ◌<◌, ◌==◌, false, List, [], ◌∷◌, ◌++◌, take, drop, length, refl, sym, ap, ◌∙◌, arith, length-append, Some, before_first, take_at, drop_at, take_all, ne_eqb, has_byte, IsFirstLine, IsCutAtColon, IsSpanOf}
 use Rattle.std.proofs.Common.{append_assoc}
 use Rattle.dump_text.proofs.ScanLemmas.{nowhere, position_at, back_lacks}
 
--- a text is its first line, where an LF ends that
+-- what is before the first LF of a text is its first line, if an LF ends that line
 pub line_before : (whole rest : List ℕ) → has_byte 10 whole ≡ false
     → before_first (λ b. b == 10) (whole ++ 10 ∷ rest) ≡ whole
 line_before whole rest none =
     ap (λ n. take n (whole ++ 10 ∷ rest)) (position_at 10 whole rest none) ∙ take_at whole (10 ∷ rest) _ refl
 
--- and where no LF is in it
+-- and it is the whole text, if the text has no LF
 pub line_whole : (text : List ℕ) → has_byte 10 text ≡ false → before_first (λ b. b == 10) text ≡ text
 line_whole text none = let at = nowhere 10 text none in take_all _ text (omega arith)
 
@@ -20,7 +20,7 @@ front_size dump value behind front is =
     ap length is ∙ length-append front (value ++ 10 ∷ behind)
     ∙ ap (λ n. length front + n) (length-append value (10 ∷ behind) ∙ omega arith)
 
--- what stands behind a front that isn't empty, up to an LF, is the value at its place
+-- what follows a front that isn't empty, up to an LF, is the value at its place
 pub value_there : (dump value behind front : List ℕ) (byte after : ℕ) → has_byte 10 value ≡ false → 0 < length front
     → dump ≡ front ++ (value ++ 10 ∷ behind) → byte ≡ length front → after ≡ byte + length value
     → IsSpanOf dump (record { place = record { byte = byte }; after = after }) (Some value)
@@ -36,14 +36,14 @@ value_there dump value behind front byte after none some is at to =
       inside = omega arith;
     }
 
--- no LF stands in the value of a line
+-- no LF is in the value of a line
 pub value_lacks : (whole name value : List ℕ) → has_byte 10 whole ≡ false → IsCutAtColon whole name value
     → has_byte 10 value ≡ false
 value_lacks whole name value none cut =
     back_lacks 10 (name ++ 58 ∷ 32 ∷ []) value
     (ap (has_byte 10) (append_assoc name (58 ∷ 32 ∷ []) value ∙ sym cut.spelled) ∙ none)
 
--- the value of a line behind some lines stands in the dump behind a front that isn't empty
+-- the value of a line after some lines is in the dump after a front that isn't empty
 pub value_behind_front : (dump text rest whole others name value front lines : List ℕ) → dump ≡ front ++ text
     → text ≡ lines ++ rest → IsFirstLine rest whole others → IsCutAtColon whole name value
     → (before : List ℕ) × (0 < length before) × (dump ≡ before ++ (value ++ 10 ∷ others))

@@ -1,4 +1,4 @@
--- Each text is a property block or is none, so one that can't be none is one.
+-- Each text is a property block or is none. So a text is one if it is false that it is none.
 use Rattle.dump_text.proofs.Prelude.{◌≡◌, ◌⊎◌, ℕ, zero, suc, ◌+◌, ◌<◌, ◌≤◌, nat_lt, Bool, true, false, ◌==◌, List, [], ◌∷◌, ◌++◌, take, drop, length, get_or, refl, sym, ap, ◌∙◌, arith, Option, Some, None, inl, inr, bytes_eq, ∥∥₁_elim, take-append-drop, drop_more, length-take-le, eqb-true, eqb-false, bytes_eq-Decides, number_of, Property, block_end, HasPropertyChanges, IsFirstLine, IsSized, HasSized, HasEntry, HasEntries}
 use borrow.Author.Tests.{ltb-true, ltb-false}
 use Rattle.dump_text.proofs.Unique.{tail-eq}
@@ -27,7 +27,7 @@ begins letter c s behind d b x part =
           (tail-eq c letter (s ∷ behind) (32 ∷ more) whole),
     )
 
--- behind the letter and the space
+-- after the letter and the space
 sized_line-choice : (letter : ℕ) (behind : List ℕ) → Sized letter (letter ∷ 32 ∷ behind)
 sized_line-choice letter behind = by_line (split 10 behind)
   where

@@ -104,7 +104,7 @@ entry_once text p q x y (inr e) (inr f) =
     let names = part_once 68 text text e.digits f.digits p.name q.name x y e.name f.name refl in
     (property-eq p q names.1 (e.none ∙ sym f.none), names.2)
 
--- an entry is neither the end nor nothing
+-- an entry is neither the end line nor empty
 pub no_entry-end : (text : List ℕ) (p : Property) (rest : List ℕ) → EntryParts text p rest → text ≡ block_end → ⊥
 no_entry-end text p rest e is = elim e [
   | inl s ↦ apart 75 80 (lit< tt) (sym (begins_with 75 text _ _ _ s.name) ∙ ap (λ (t : List ℕ). get_or t 0 0) is)
@@ -117,7 +117,7 @@ no_entry-empty text p rest e is = elim e [
   | inr d ↦ apart 0 68 (lit< tt) (sym (ap (λ (t : List ℕ). get_or t 0 0) is) ∙ begins_with 68 text _ _ _ d.name)
 ]
 
--- entries and their end are of at most one list
+-- entries and their end line are those of at most one list
 pub entries_once : (text : List ℕ) (ps qs : List Property) → AreEntries text ps → AreEntries text qs → ps ≡ qs
 entries_once text [] [] e f = refl
 entries_once text [] (q ∷ qs) e (entry, rest, is, one, more) =
@@ -130,7 +130,7 @@ entries_once text (p ∷ ps) (q ∷ qs) (entry, rest, is, one, more) (entry', re
     let others = entries_once rest ps qs more (subst (λ (t : List ℕ). AreEntries t qs) (sym same.1) more') in
     λ i. same.0 i ∷ others i
 
--- entries and their end are some bytes
+-- entries and their end line aren't empty
 pub entries_some : (text : List ℕ) (ps : List Property) → AreEntries text ps → text ≡ [] → ⊥
 entries_some text [] e is = let bad : block_end ≡ [] = sym e ∙ is in cc
 entries_some text (p ∷ ps) (entry, rest, cut, one, more) is =
@@ -150,7 +150,7 @@ property_block_once text ps qs b c = elim b [
   ]
 ]
 
--- where the value's part is missing, so is the entry
+-- if the part of the value is missing, there is no entry
 pub no_entry-value : (text d b x : List ℕ) → IsSized 75 text d b x → ¬ HasSized 86 x → ¬ HasEntry text
 no_entry-value text d b x named none (p, entry, rest, is, one) = elim (entry_parts text entry rest p is one) [
   | inl e ↦
@@ -159,7 +159,7 @@ no_entry-value text d b x named none (p, entry, rest, is, one) = elim (entry_par
   | inr e ↦ one_kind text d b x e.digits p.name rest named e.name
 ]
 
--- and where neither part of a name stands
+-- and if neither part of a name is there
 pub no_entry-name : (text : List ℕ) → ¬ HasSized 75 text → ¬ HasSized 68 text → ¬ HasEntry text
 no_entry-name text no_set no_delete (p, entry, rest, is, one) = elim (entry_parts text entry rest p is one) [
   | inl e ↦ no_set (e.name_digits, p.name, e.behind, e.name)
@@ -174,13 +174,13 @@ entry_shorter text p rest (inl e) =
     omega arith
 entry_shorter text p rest (inr e) = (part_inside 68 text e.digits p.name rest e.name.cut).1
 
--- what is left of a property block behind its first entry
+-- what is left of a property block after its first entry
 pub record Left (ps : List Property) (p : Property) (rest : List ℕ) : Type 0 where
   pub others : List Property
   pub list : ps ≡ p ∷ others
   pub entries : AreEntries rest others
 
--- behind its first entry a property block is that of the other properties
+-- after its first entry a property block is that of the other properties
 pub left_of : (text : List ℕ) (p : Property) (rest : List ℕ) (ps : List Property) → EntryParts text p rest
     → IsPropertyBlock text ps → Left ps p rest
 left_of text p rest ps e b = elim b [
@@ -198,12 +198,12 @@ left_of text p rest ps e b = elim b [
           entries = subst (λ (t : List ℕ). AreEntries t qs) same.1 more;
         }
 
--- the rest behind an entry is the property block of some list, if the whole is
+-- the rest after an entry is the property block of some list, if the whole is
 pub properties_left : (text : List ℕ) (p : Property) (rest : List ℕ) → EntryParts text p rest → HasPropertyChanges text
     → HasPropertyChanges rest
 properties_left text p rest e (ps, b) = let left = left_of text p rest ps e b in (left.others, inr left.entries)
 
--- entries behind one more
+-- entries after one more
 pub entries_more : (text : List ℕ) (p : Property) (rest : List ℕ) → EntryParts text p rest → HasEntries text
     ↔ HasEntries rest
 entries_more text p rest e = (
@@ -211,7 +211,7 @@ entries_more text p rest e = (
   λ (ps, all). let (entry, is, one) = parts_entry text p rest e in (p ∷ ps, (entry, rest, is, one, all)),
 )
 
--- whether an entry so far or one of those left deletes a property, behind one more entry
+-- whether an entry so far or one of those left deletes a property, after one more entry
 pub deletes_step : (ps : List Property) (deletes : Bool) (text : List ℕ) (p : Property) (rest : List ℕ)
     → EntryParts text p rest
     → ((qs : List Property) × AreEntries text qs × (has_deletes ps ≡ (deletes || has_deletes qs)))
@@ -224,7 +224,7 @@ deletes_step ps deletes text p rest e (qs, all, is) =
           ∙ sym (or_assoc deletes (is_none p.value) (has_deletes left.others)),
     )
 
--- an entry is gone where its property has no value
+-- an entry deletes its property exactly if the property has no value
 pub gone_is : (e : Entry) (p : Property) → entry_property e ≡ p → e.gone ≡ is_none p.value
 gone_is e p same = by_gone e.gone ∙ ap (λ (q : Property). is_none q.value) same
   where
@@ -236,7 +236,7 @@ end_of : (text : List ℕ) (ps : List Property) → ¬ HasEntry text → AreEntr
 end_of text [] none all = all
 end_of text (p ∷ ps) none (entry, rest, is, one, more) = absurd (none (p, entry, rest, is, one))
 
--- where no entry stands first, the end alone is left
+-- if no entry comes first, only the end line is left
 pub entries_end : (text : List ℕ) → ¬ HasEntry text → HasEntries text ↔ (text ≡ block_end)
 entries_end text none = (λ (ps, all). end_of text ps none all, λ is. ([], is))
 
@@ -249,7 +249,7 @@ block_ends (c ∷ text) none reads =
       | inr all ↦ end_of (c ∷ text) ps none all
     ]))
 
--- the value of a name behind an entry of another, or behind one that is deleted
+-- the value of a name after an entry of another, or after one that is deleted
 pub value_behind : (name : List ℕ) (p : Property) (ps : List Property)
     → (bytes_eq p.name name && is_some p.value) ≡ false
     → property_value name (p ∷ ps) ≡ property_value name ps
@@ -260,11 +260,11 @@ pub value_here : (name : List ℕ) (p : Property) (ps : List Property) → (byte
     → property_value name (p ∷ ps) ≡ p.value
 value_here name p ps this = rw this refl
 
--- an entry that isn't gone has its value
+-- an entry that doesn't delete has its value
 pub value_there : (e : Entry) → e.gone ≡ false → (entry_property e).value ≡ Some e.value.now
 value_there e set = ap (λ b. if b then None else Some e.value.now) set
 
--- and one that is has none
+-- and one that deletes has none
 pub no_value_there : (e : Entry) (name : List ℕ) → e.gone ≡ true
     → (bytes_eq e.name.now name && is_some (entry_property e).value) ≡ false
 no_value_there e name gone =
@@ -278,7 +278,7 @@ part_behind dump place after x y part =
     part_of_part dump place after x y [] (subst (λ (t : List ℕ). IsPartBetween dump place after (x ++ t))
     (sym (append-nil y)) part)
 
--- the value of an entry stands in its block
+-- the value of an entry is in its block
 pub value_between : (dump : List ℕ) (place after : ℕ) (text : List ℕ) (p : Property) (rest value : List ℕ)
     → EntryParts text p rest
     → p.value ≡ Some value → IsPartBetween dump place after text → IsPartBetween dump place after value
@@ -295,7 +295,7 @@ value_between dump place after text p rest value (inl e) set part =
 value_between dump place after text p rest value (inr e) set part =
     let bad : Path (Option (List ℕ)) None (Some value) = sym e.none ∙ set in cc
 
--- what follows an entry stands in its block
+-- what follows an entry is in its block
 pub rest_between : (dump : List ℕ) (place after : ℕ) (text : List ℕ) (p : Property) (rest : List ℕ)
     → EntryParts text p rest
     → IsPartBetween dump place after text → IsPartBetween dump place after rest

@@ -6,14 +6,14 @@ use Rattle.dump_text.proofs.BoolLemmas.{equals_itself as same, absurd_bool, not_
 use Rattle.dump_text.specs.HeaderLine as line
 use Rattle.dump_text.proofs.Unique.{split_once, Lawful, lawful, text_no_lf, regroup, all_first, all_rest, not_empty, ended}
 
--- a byte that stands at no place of a text isn't in it
+-- a byte that is at no place of a text isn't in it
 pub lacks : (b : ℕ) (text : List ℕ) → ((k : ℕ) → k < length text → (slice_index text k == b) ≡ true → ⊥)
     → has_byte b text ≡ false
 lacks b [] none = refl
 lacks b (c ∷ text) none = or_from _ _ (not_so (c == b) (none 0 (omega arith)))
     (lacks b text (λ k small is. none (suc k) (omega arith) is))
 
--- a byte that stands behind a front is in the text
+-- a byte that follows a front is in the text
 pub has_at : (b : ℕ) (front rest : List ℕ) → has_byte b (front ++ b ∷ rest) ≡ true
 has_at b [] rest = rw (same b) refl
 has_at b (c ∷ front) rest = or_right (c == b) (has_byte b (front ++ b ∷ rest)) (has_at b front rest)
@@ -38,7 +38,7 @@ found_place b text (Some k) (none, here) =
     let inside : nat_lt k (length text) ≡ true = grind (arith, below) in
     rw place (rw inside refl)
 
--- where a byte has no place, it isn't in the text
+-- if a byte has no place, it isn't in the text
 pub no_place : (b : ℕ) (text : List ℕ) → None ≡ position (λ c. c == b) text → has_byte b text ≡ false
 no_place b text is = lacks b text (λ k small here. absurd_bool (get_or text k 0 == b) here (other k small))
   where
@@ -47,7 +47,7 @@ no_place b text is = lacks b text (λ k small here. absurd_bool (get_or text k 0
         let over : length text ≤ position_or_len (λ c. c == b) text = grind (arith, nat_tests) in
         fails_before_first (λ c. c == b) text k 0 (omega arith)
 
--- and its place is that where it stands first
+-- and its place is the first one
 pub at_place : (b : ℕ) (text : List ℕ) (k : ℕ) → Some k ≡ position (λ c. c == b) text → IsFirstAt b text k
 at_place b text k is =
     let (below, here, before) = position-Some (λ c. c == b) text k 0 (sym is) in
@@ -60,7 +60,7 @@ at_place b text k is =
           (sym (ap (λ c. c == b) (get_or-take k text j 0 (omega arith))) ∙ is) (before j (omega arith)));
     }
 
--- a line is cut at its first colon, where a name stands before it and a space behind it
+-- a line is cut at its first colon, where a name is before it and a space after it
 pub cut_at_colon : (whole : List ℕ) (k : ℕ) → IsFirstAt 58 whole k → 0 < k → k + 1 < length whole
     → get_or whole (k + 1) 0 ≡ 32
     → IsCutAtColon whole (take k whole) (drop (k + 2) whole)
@@ -107,7 +107,7 @@ none_all b (c ∷ text) none =
     All-cons (λ (x : ℕ). (x == b) ≡ false) c text (first_false (c == b) (has_byte b text) none)
     (none_all b text (second_false (c == b) (has_byte b text) none))
 
--- a byte that a text lacks is sought up to its end
+-- a search for a byte that a text lacks goes up to its end
 pub nowhere : (b : ℕ) (text : List ℕ) → has_byte b text ≡ false → position_or_len (λ c. c == b) text ≡ length text
 nowhere b text none = position_or_len_is (λ c. c == b) text (length text) 0 (omega arith)
     (λ k small. none_all b text none k 0 small) (λ under. absurd (omega arith))
@@ -159,7 +159,7 @@ lines_behind (h ∷ hs) (k ∷ ks) rest more all all' is =
     (sym (regroup h hs rest) ∙ is ∙ regroup k ks (10 ∷ more)) in
     lines_behind hs ks rest more (all_rest h hs all) (all_rest k ks all') cut.1
 
--- the first of some lines stands before the first LF
+-- the first of some lines is before the first LF
 pub record FirstHeader (hs : List line.Header) (whole rest : List ℕ) : Type 0 where
   pub first : line.Header
   pub others : List line.Header
@@ -192,14 +192,14 @@ first_header (h ∷ hs) text whole rest all is first =
       left = cut.1;
     }
 
--- no lines are left where no LF is
+-- if there is no LF, no lines are left
 pub no_lines : (hs : List line.Header) (text : List ℕ) → text ≡ lines_bytes hs → has_byte 10 text ≡ false → hs ≡ []
 no_lines [] text is none = refl
 no_lines (h ∷ hs) text is none =
     absurd (clash 10 (header_text h) (lines_bytes hs) text none
     (is ∙ append_assoc (header_text h) (10 ∷ []) (lines_bytes hs)))
 
--- what is left of header lines behind the first
+-- what is left of header lines after the first
 pub lines_left : (hs : List line.Header) (whole rest : List ℕ) → FirstHeader hs whole rest → AreHeaderLines rest
 lines_left hs whole rest f =
     let read = ap headers_of f.left ∙ ap headers_of (sym (append-nil (lines_bytes f.others)))
@@ -232,7 +232,7 @@ is_line whole name value none cut =
     let no_colon = cut.no_colon in
     rw (some, no_colon, front, back) refl
 
--- a line that may be cut at a colon behind its name
+-- a line that may be cut at a colon after its name
 pub record ColonAt (h : line.Header) (whole : List ℕ) (k : ℕ) : Type 0 where
   pub some : 0 < k
   pub size : k + 2 ≤ length whole
@@ -264,7 +264,7 @@ empty_line-none [] none = refl
 empty_line-none (c ∷ text) none =
     rw (first_false (c == 10) _ none) (empty_line-none text (second_false (c == 10) _ none))
 
--- behind a line the empty line begins the rest, or stands in it
+-- after a line the empty line begins the rest, or is in it
 pub empty_line-step : (whole rest : List ℕ) → has_byte 10 whole ≡ false → has_empty_line (whole ++ 10 ∷ rest) ≡
     (starts_with_lf rest || has_empty_line rest)
 empty_line-step [] rest none = refl
@@ -295,7 +295,7 @@ pub all_more : (hs : List line.Header) (h : line.Header) → list_all is_header 
     → list_all is_header (hs ++ h ∷ []) ≡ true
 all_more hs h all good = list_all-append is_header hs (h ∷ []) ∙ rw (all, good) refl
 
--- where an empty line follows some header lines they end, and are read as they are
+-- if an empty line follows some header lines, they end there, and are read unchanged
 pub lines_end : (text whole rest others : List ℕ) (hs : List line.Header) → text ≡ lines_bytes hs ++ rest
     → list_all is_header hs ≡ true
     → IsFirstLine rest whole others → length whole ≡ 0
@@ -321,7 +321,7 @@ lines_end text whole rest others hs is all first none =
       read,
     )
 
--- where a header line would begin, the line before the first LF is one
+-- if a header line would begin here, it is the line before the first LF
 pub no_line_here : (others : List line.Header) (rest whole tail more : List ℕ) → list_all is_header others ≡ true
     → IsFirstLine rest whole tail → rest ≡ lines_bytes others ++ 10 ∷ more → (length whole == 0) ≡ false
     → IsNoHeader whole → ⊥

@@ -1,4 +1,4 @@
--- The digits of a number, beside those that are written of it: they are the same but for leading zeros.
+-- The digits of a number, compared with those that are written for it: only leading zeros differ.
 use Rattle.dump_text.proofs.Prelude.{rules, ◌≡◌, ℕ, ◌<◌, ◌≤◌, ◌^◌, nat_lt, nat_le, Bool, true, false, not, ◌==◌, List, get_or, length, bytes_eq, decimal, Option, Some, None, if◌then◌else◌, sym, ap, ◌∙◌, refl, arith, zero, suc, list_all, is_ascii_digit, digits_value, decimal_digit, decimal-digits_value, first_decimal, IsNumeralModel, IsDigitsTest, numerals_by_value, digits_value_short, and_parts, bytes_eq-Decides, is_number, number_of, spelled_number}
 use Rattle.dump_text.proofs.BoolLemmas.{not_so}
 
@@ -60,7 +60,7 @@ zero_leads digits n e more leads = not_so _ (λ t. differ n (is_read digits n e)
         let zero_first : get_or (decimal (suc m)) 0 0 ≡ 48 = ap (λ ds. get_or ds 0 0) (sym same) ∙ leads in
         omega (arith, first, zero_first)
 
--- of more than one digit the first tells
+-- if there is more than one digit, the first one decides
 pub first_tells : (digits : List ℕ) (n : ℕ) → number_of digits ≡ Some n → 2 ≤ length digits
     → not (get_or digits 0 0 == 48) ≡ bytes_eq digits (spelled_number n)
 first_tells digits n e more =

@@ -36,7 +36,7 @@ pub record Lawful (h : line.Header) : Type 0 where
   pub no_lf : has_byte 10 h.name ≡ false
   pub value_no_lf : has_byte 10 h.value ≡ false
 
--- a header that may stand in a block lacks what would break its line
+-- a header that may be in a block lacks what would break its line
 pub lawful : (h : line.Header) → is_header h ≡ true → Lawful h
 lawful h e =
     let four = and_parts _ (not (has_byte 10 h.value)) e in
@@ -91,7 +91,7 @@ regroup h hs x = append_assoc (ended h) (flat_map ended hs) x ∙ append_assoc (
 pub all_first : (h : line.Header) (hs : List line.Header) → list_all is_header (h ∷ hs) ≡ true → Lawful h
 all_first h hs e = lawful h (first_true (is_header h) (list_all is_header hs) e)
 
--- the lines behind the first of some lawful lines are lawful
+-- the lines after the first of some lawful lines are lawful
 pub all_rest : (h : line.Header) (hs : List line.Header) → list_all is_header (h ∷ hs) ≡ true
     → list_all is_header hs ≡ true
 all_rest h hs e = second_true (is_header h) (list_all is_header hs) e

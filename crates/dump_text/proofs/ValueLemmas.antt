@@ -8,16 +8,16 @@ use Rattle.dump_text.proofs.Unique.{regroup}
 use Rattle.dump_text.proofs.BlockLemmas.{has_value, block_bytes, block_size, value_between, rest_between}
 use Rattle.dump_text.proofs.NameLemmas.{known_itself, known_text, known_is, text_once, place_once, tag_place}
 
--- a value is there where its copy is
+-- a value is there if its copy is
 pub some_copied : (r : Option (Bor (List ℕ))) → is_some r ≡ is_some (option_copied r)
 some_copied None = refl
 some_copied (Some x) = refl
 
--- a place has a value where it says so
+-- a place has a value if it says so
 pub place_has : (dump : List ℕ) (place : ValuePlace) → is_there place ≡ is_some (value_at dump place)
 place_has dump place = elim (cases_Bool (is_there place)) [ inl is ↦ rw is refl | inr is ↦ rw is refl ]
 
--- no value is noted before the first line
+-- no value is stored before the first line
 pub none_noted : (dump : List ℕ) (count : ℕ) → AreValues dump [] (replicate count no_span)
 none_noted dump count name = subst (λ span. IsSpanOf dump span None) (sym (all_none count (name_place name))) none
   where
@@ -50,7 +50,7 @@ value_first name (g ∷ hs) h none is =
 abbrev pub line_of : List ℕ → List ℕ → line.Header
 line_of name value = record { name = name; value = value }
 
--- what is noted of a line behind some lines
+-- what is stored for a line after other lines
 module _ (dump : List ℕ) (headers : List line.Header) (spans : List ValueSpan) (are : AreValues dump headers spans)
     (name : List ℕ) where
   -- a line of no known name may follow, and changes nothing
@@ -67,7 +67,7 @@ module _ (dump : List ℕ) (headers : List line.Header) (spans : List ValueSpan)
       other : bytes_eq name (name_text n) ≡ true → ⊥
       other same = none-some n (sym none ∙ ap known_name ((bytes_eq-Decides name (name_text n)).0 same) ∙ known_itself n)
 
-  -- a line of a known name may follow where the name has no value yet
+  -- a line of a known name may follow if the name has no value yet
   pub known_follows : (n : HeaderName) → known_name name ≡ Some n
       → may_follow headers name ≡ not (is_there (noted_span spans n).place)
   known_follows n is =
@@ -115,7 +115,7 @@ module _ (dump : List ℕ) (headers : List line.Header) (spans : List ValueSpan)
           (sym (get_or-set_other spans (name_place n) (name_place m) span no_span apart))
           (subst (IsSpanOf dump (noted_span spans m)) (sym other) (are m))
 
--- a value stands where it is noted by its name's number
+-- a value is stored at the place of its name
 pub span_of_name : (dump : List ℕ) (headers : List line.Header) (spans : List ValueSpan) → AreValues dump headers spans
     → (name : HeaderName)
     → IsSpanOf dump (slice_index_or spans (tag_of enum.the_type name) no_span) (header_value (name_text name) headers)
@@ -123,7 +123,7 @@ span_of_name dump headers spans are name =
     subst (λ i. IsSpanOf dump (slice_index_or spans i no_span) (header_value (name_text name) headers))
     (sym (tag_place name)) (are name)
 
--- a value among the lines of a block stands in the block
+-- a value among the lines of a block is in the block
 pub value_lent : (dump : List ℕ) (place after : ℕ) → IsBlockBetween dump place after → (name value : List ℕ)
     → header_value name (headers_between dump place after) ≡ Some value → IsPartBetween dump place after value
 value_lent dump place after stands name value is =

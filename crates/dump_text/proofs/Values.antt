@@ -128,7 +128,7 @@ each_of_the_name = refl
 abbrev version : List Header
 version = header (codes "SVN-fs-dump-format-version") (codes "2") ∷ []
 
--- an unknown name may stand twice
+-- an unknown name may occur twice
 three_lines : is_block three ≡ true
 three_lines = refl
 

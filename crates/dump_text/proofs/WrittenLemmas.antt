@@ -103,7 +103,8 @@ scanned_shortest text (Set name value) rest found is = (
 )
 scanned_shortest text (Deleted name) rest found is = ((bytes_eq-Decides _ _).0, (bytes_eq-Decides _ _).1)
 
--- behind an entry whose lengths are shortest the rest decides, and behind any other the text isn't as it is written
+-- after an entry whose lengths are shortest the rest decides; after any other entry the text isn't as the filter
+-- writes it
 pub written_step : (whole text : List ℕ) (p : Property) (rest : List ℕ) (e : EntryParts text p rest)
     (spelled shortest : Bool) → length text < 2 ^ 64
     → (shortest ≡ true) ↔ AreShortest text p rest e
@@ -118,7 +119,7 @@ written_step whole text p rest e spelled shortest small short before = (
   ),
 )
 
--- nothing that is written has no bytes
+-- no written text is empty
 no_text : (ps : List Property) → [] ≡ property_block_text ps → ⊥
 no_text [] is = cc
 no_text (p ∷ ps) is =

@@ -1,4 +1,4 @@
-//! A block of header lines, found in a dump.
+//! A block of header lines in a dump.
 ghost use Rattle.std.specs.Prelude.{◌≡◌, ◌↔◌, IfOk, IfErr, IfSome, IsOk, option_copied, drop, ◌-◌};
 ghost use Rattle.dump_text.specs.HeaderLine.{header_value};
 ghost use Rattle.dump_text.specs.HeaderBlock.{HasBlock, block_fault, block_text};
@@ -22,8 +22,8 @@ pub struct Block<'a> {
 impl<'a> Block<'a> {
     ghost use Rattle.dump_text.specs.steps.Views.{block_dump, block_place, block_after, block_headers, lines_left, lines_text};
 
-    /// The block at a place of the dump; `HeaderCut` where no empty line follows, also at the end and past it, else
-    /// `Header`.
+    /// Reads the block at a place of the dump. The error is `HeaderCut` if no empty line follows, also at the end of
+    /// the dump or past it, and otherwise `Header`.
     pub fn cut(dump: &'a [u8], place: usize) -> Result<Block<'a>, FaultKind>
         ensures dump { IfOk result (λ b. block_dump b ≡ dump.now) }
         ensures place { IfOk result (λ b. block_place b ≡ place) }
@@ -33,7 +33,7 @@ impl<'a> Block<'a> {
         Ok(Headers::read(dump, place)?.block())
     }
 
-    /// The dump that the block stands in.
+    /// The dump that contains the block.
     pub fn dump(&self) -> &'a [u8]
         ensures { result.now ≡ block_dump self.now }
     {
@@ -47,14 +47,14 @@ impl<'a> Block<'a> {
         self.place
     }
 
-    /// The block as it stands: its lines and its empty line.
+    /// The bytes of the block as they are in the dump: its lines and its empty line.
     pub fn bytes(&self) -> &'a [u8]
         ensures { result.now ≡ block_text (block_headers self.now) }
     {
         &self.dump[self.place..self.after]
     }
 
-    /// The value of the first line of that name.
+    /// The value of the first line with this name.
     pub fn get(&self, name: &[u8]) -> Option<&'a [u8]>
         ensures value { option_copied result ≡ header_value name.now (block_headers self.now) }
         ensures lent { IfSome result (λ value.
@@ -69,7 +69,7 @@ impl<'a> Block<'a> {
         None
     }
 
-    /// The value that stands at a place of the dump.
+    /// The value at a place of the dump.
     pub fn value_at(&self, place: ValuePlace) -> Option<&'a [u8]>
         ensures { option_copied result ≡ value_at (block_dump self.now) place }
     {
@@ -87,7 +87,7 @@ impl<'a> Block<'a> {
         }
     }
 
-    /// The byte behind the block's empty line.
+    /// The place of the first byte after the block's empty line.
     pub fn after(&self) -> usize
         ensures { result ≡ block_after self.now }
     {

@@ -1,14 +1,15 @@
 //! What may be wrong with a record of a dump.
 ghost use Rattle.std.specs.Prelude.{◌≡◌};
 
-/// What may be wrong with a record, in the order in which it is asked: the first that holds is the record's fault.
+/// What may be wrong with a record. The order is that of the checks: the first kind that applies is the record's
+/// fault.
 #[derive(Clone, Copy, Debug, PartialEq, Eq)]
 pub enum FaultKind {
     /// No empty line follows before the end of the dump, or the dump holds no record.
     HeaderCut,
-    /// A line isn't `name: value`, or a known name stands twice.
+    /// A line isn't `name: value`, or a known name occurs twice.
     Header,
-    /// Not exactly one name says what record it is, or one copyfrom header stands alone in a node.
+    /// Not exactly one name says what kind of record it is, or a node has only one of the two copyfrom headers.
     Kind,
     /// The dump doesn't begin with a version record, or a version isn't 2 or 3.
     Version,
@@ -20,11 +21,11 @@ pub enum FaultKind {
     ContentCut,
     /// A node follows neither a revision nor a node, or a revision's number isn't above the one before.
     Order,
-    /// The properties aren't a property block, or one is deleted where none may be.
+    /// The properties aren't a property block, or an entry deletes a property where this isn't allowed.
     Props,
-    /// The text has another MD5 digest than its header says.
+    /// The text's MD5 digest isn't the one in its header.
     Md5,
-    /// The text has another SHA-1 digest than its header says.
+    /// The text's SHA-1 digest isn't the one in its header.
     Sha1,
     /// A node is copied from a path that isn't kept.
     CopySource,

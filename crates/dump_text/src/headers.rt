@@ -1,4 +1,4 @@
-//! A block of header lines with the values of its known names, found in one walk of the lines.
+//! A block of header lines with the values of its known names, found in one pass over the lines.
 ghost use Rattle.std.specs.Prelude.{◌≡◌, ◌++◌, ℕ, List, [], ◌∷◌, Some, IsTrue, MatchOption, take, drop};
 ghost use Rattle.dump_text.specs.HeaderLine.{Header};
 ghost use Rattle.dump_text.specs.HeaderBlock.{HasBlock, block_fault};
@@ -14,10 +14,10 @@ use crate::names::{COUNT, HeaderName};
 use crate::scan::{begins_with_lf, finds_empty_line, first_line, name_and_value};
 use crate::value_place::{ValuePlace, ValueSpan};
 
-/// Where the value of each known name stands, at the name's place in `HeaderName`.
+/// The span of each known name's value; the index is the name's number in `HeaderName`.
 type Spans = [ValueSpan; COUNT];
 
-/// A block of header lines in a dump, and where the values of its known names stand.
+/// A block of header lines in a dump, with the places of the values of its known names.
 #[derive(Drop)]
 pub struct Headers<'a> {
     block: Block<'a>,
@@ -33,8 +33,8 @@ impl<'a> Headers<'a> {
     ghost use Rattle.dump_text.specs.steps.Views.{block_place, block_after};
     ghost use Rattle.dump_text.specs.steps.HeadersViews.{headers_block};
 
-    /// The block at a place of the dump with its values; `HeaderCut` where no empty line follows, also at the end and
-    /// past it, else `Header`.
+    /// Reads the block at a place of the dump, with its values. The error is `HeaderCut` if no empty line follows,
+    /// also at the end of the dump or past it, and otherwise `Header`.
     pub fn read(dump: &'a [u8], place: usize) -> Result<Headers<'a>, FaultKind>
         ensures dump { IfOk result (λ h. block_dump (headers_block h) ≡ dump.now) }
         ensures place { IfOk result (λ h. block_place (headers_block h) ≡ place) }
@@ -64,7 +64,7 @@ impl<'a> Headers<'a> {
         self.block
     }
 
-    /// The value of the line of that name.
+    /// The value of the line with this name.
     pub fn value(&self, name: HeaderName) -> Option<&'a [u8]>
         ensures value { option_copied result ≡ header_value (name_text name) (block_headers (headers_block self.now)) }
         ensures lent { let block = headers_block self.now in IfSome result (λ value.
@@ -73,7 +73,7 @@ impl<'a> Headers<'a> {
         self.spans[name as usize].value_in(self.block.dump)
     }
 
-    /// Where the value of the line of that name stands.
+    /// Where the value of the line with this name is in the dump.
     pub fn place_of(&self, name: HeaderName) -> ValuePlace
         ensures { let block = headers_block self.now in
             value_at (block_dump block) result ≡ header_value (name_text name) (block_headers block) }
@@ -81,7 +81,7 @@ impl<'a> Headers<'a> {
         self.spans[name as usize].place
     }
 
-    /// Whether a line has that name.
+    /// Whether a line has this name.
     pub fn has(&self, name: HeaderName) -> bool
         ensures { result ≡ has_header (name_text name) (block_headers (headers_block self.now)) }
     {
@@ -89,7 +89,7 @@ impl<'a> Headers<'a> {
     }
 }
 
-/// Why no block stands at the front of a text that begins with none.
+/// The fault of a text that begins with no block.
 fn fault_of(text: &[u8]) -> FaultKind
     ensures { result ≡ block_fault text.now }
 {
@@ -100,8 +100,8 @@ fn fault_of(text: &[u8]) -> FaultKind
     }
 }
 
-/// How many bytes the block at the front of a text takes, and where the values of its known names stand in the dump that
-/// the text ends; None where there is no block.
+/// The length of the block at the front of `text`, and where the values of its known names are in the dump. The text
+/// is the end of the dump. `None` if the text begins with no block.
 fn block_at(dump: &[u8], text: &[u8]) -> Option<(usize, Spans)>
     requires { (front : List ℕ) × (dump.now ≡ front ++ text.now) }
     ensures { MatchOption result (¬ HasBlock text.now)
@@ -129,8 +129,8 @@ fn block_at(dump: &[u8], text: &[u8]) -> Option<(usize, Spans)>
     None
 }
 
-/// Notes where the value of the line behind some lines stands, if its name is known. False where one of these has its
-/// known name.
+/// Stores where the value of the next line is, if the line's name is known. Returns false if an earlier line has the
+/// same known name.
 fn note(spans: &mut Spans, name: &[u8], value: ValueSpan) -> bool
     ensures follows { (dump : List ℕ) (headers : List Header) → AreValues dump headers spans.old
         → result ≡ may_follow headers name.now }

@@ -1,14 +1,14 @@
-//! Numbers, blocks of header lines and property blocks in a Subversion dump file, read where they are.
+//! Numbers, blocks of header lines and property blocks of a Subversion dump, read in place.
 //!
-//! A [`Block`] is one or more lines `name: value` and the empty line after them. [`Headers::read`]
-//! finds the block at a place of the dump, with the values of the names that have a meaning, or says
-//! what is wrong there. It walks the lines once, and each [`HeaderName`] is then looked up without a
-//! walk. A block lends its lines and its values as parts of the dump: nothing is copied, and no
-//! memory is taken. [`find`] finds the first place of a byte. [`number`] reads a number as headers
-//! have it, and [`spell`] writes one. [`Props`] is a property block: names and values, each after its
-//! length, and their end. Under format version 3 a node's block may delete properties too.
-//! [`FaultKind`] names all that may be wrong with a record of a dump, with the number and the name
-//! that users see.
+//! A [`Block`] is one or more lines `name: value` and the empty line after them. [`Headers::read`] finds
+//! the block at a place of the dump, with the values of the names that have a meaning; if there is none,
+//! it returns the fault. It reads the lines once; looking up a [`HeaderName`] afterwards reads none of
+//! them again. The lines and values of a block are slices of the dump: nothing is copied, and nothing is
+//! allocated. [`find`] returns the first position of a byte. [`number`] reads a number in the format
+//! that headers use, and [`spell`] writes one. [`Props`] is a property block: names and values, each
+//! after its length, and an end line. In a node under format version 3 it may delete properties too.
+//! [`FaultKind`] lists the faults that a record of a dump can have, with the number and the name that
+//! users see.
 //!
 //! ```
 //! let uuid = Block::cut(UUID, 0)?;
@@ -18,8 +18,8 @@
 //! assert_eq!(rt; uuid.get(b"uuid"), None);
 //! ```
 //!
-//! `tests::a_block_is_cut_where_it_stands` runs this; `UUID` is a block of that one line. Several names
-//! are looked up so:
+//! `tests::a_block_is_cut_where_it_stands` runs this; `UUID` is a block of that one line. This looks up
+//! several names:
 //!
 //! ```
 //! let text = b"Node-path: a: b\nNote: c\nNode-kind: \nProp-delta: true\n\nbehind: it\n\n";
@@ -34,7 +34,7 @@
 //! ];
 //! ```
 //!
-//! `tests::values_of_known_names_are_found` runs this, and asks for each name and value of `rows`:
+//! `tests::values_of_known_names_are_found` runs this, and looks up each name and value of `rows`:
 //!
 //! ```
 //! headers.value(name) == value
@@ -42,7 +42,7 @@
 //!     && headers.block().get(name.bytes()) == value
 //! ```
 //!
-//! `tests::has_value` runs this. Properties are read so:
+//! `tests::has_value` runs this. This reads properties:
 //!
 //! ```
 //! let block = b"D 1\na\nK 1\na\nV 1\nb\nD 1\nc\nPROPS-END\n".as_slice();
@@ -55,11 +55,11 @@
 //!
 //! `tests::deleted_properties_are_read_where_they_may_stand` runs this.
 //!
-//! A name that has a meaning in a dump may occur once in a block. Any other name may occur more often,
-//! and then `get` gives the first value. This crate does not look at what values mean, and reads no
-//! bytes after the empty line. A property's name may occur more often too. [`Props::read`] takes the
-//! whole block, with nothing after its end, and takes no bytes at all as a list without properties. A
-//! number has 1 to 18 digits, so that the sum of two fits a `u64`.
+//! A name that has a meaning in a dump may occur only once in a block. Any other name may occur several
+//! times, and then `get` returns the first value. This crate does not interpret the values, and reads no
+//! bytes after the empty line. The name of a property may occur several times too. [`Props::read`] reads
+//! the whole slice, and fails if anything follows the end line; it reads an empty slice as a list
+//! without properties. A number has 1 to 18 digits, so that the sum of two fits a `u64`.
 #![tactic(auto)]
 
 mod block;

@@ -1,8 +1,8 @@
-//! The names that have a meaning, each at most once in a block.
+//! The header names that have a meaning. Each may occur once in a block.
 ghost use Rattle.std.specs.Prelude.{◌≡◌, bytes_eq, find};
 ghost use Rattle.dump_text.specs.steps.KnownValues.{name_text, known_name, names_of_length};
 
-/// A header name that has a meaning, which stands at most once in a block (this project's own rule).
+/// A header name that has a meaning and may occur at most once in a block (this project's own rule).
 #[derive(Clone, Copy, Debug, PartialEq, Eq)]
 pub enum HeaderName {
     FormatVersion,
@@ -24,11 +24,11 @@ pub enum HeaderName {
     PropDelta,
 }
 
-/// How many names have a meaning.
+/// The number of names that have a meaning.
 pub(crate) const COUNT: usize = HeaderName::PropDelta as usize + 1;
 
 impl HeaderName {
-    /// The name as a line has it.
+    /// The bytes of the name in a header line.
     pub fn bytes(self) -> &'static [u8]
         ensures { result.now ≡ name_text self }
     {
@@ -53,7 +53,7 @@ impl HeaderName {
         }
     }
 
-    /// The names of so many bytes.
+    /// The names of this length.
     fn of_length(length: usize) -> &'static [HeaderName]
         ensures { result.now ≡ names_of_length length }
     {
@@ -75,7 +75,7 @@ impl HeaderName {
         }
     }
 
-    /// The name that these bytes are.
+    /// The name with these bytes, if it is known.
     pub(crate) fn of(bytes: &[u8]) -> Option<HeaderName>
         ensures { result ≡ known_name bytes.now }
     {
@@ -83,7 +83,7 @@ impl HeaderName {
     }
 }
 
-/// The first of these names that these bytes are.
+/// The first of these names that has these bytes.
 fn find_name(names: &[HeaderName], bytes: &[u8]) -> Option<HeaderName>
     ensures { result ≡ find (λ name. bytes_eq bytes.now (name_text name)) names.now }
 {

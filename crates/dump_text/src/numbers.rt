@@ -1,13 +1,13 @@
-//! Numbers as headers, property lengths and mergeinfo have them.
+//! Reads and writes numbers in the format that headers, property lengths and mergeinfo use.
 ghost use Rattle.std.specs.Prelude.{◌≡◌, ◌<◌, ◌^◌, ◌==◌, ◌||◌, ℕ, IfSome, Some, bytes_eq, get_or, length, nat_lt, not};
 ghost use Rattle.dump_text.specs.Number.{number_of, spelled_number};
 
 use std::marker::Model;
 
-/// A longer run of digits is no number (this project's own rule): sums of two numbers fit a `u64`.
+/// A longer run of digits is no number (this project's own rule), so that the sum of two numbers fits a `u64`.
 const MOST_DIGITS: usize = 18;
 
-/// The number that 1 to 18 ASCII digits spell, with leading zeros or without.
+/// Reads a number of 1 to 18 ASCII digits, with or without leading zeros.
 pub fn number(bytes: &[u8]) -> Option<u64>
     ensures value { result ≡ number_of bytes.now }
     ensures small { IfSome result (λ n. n < 10 ^ 18) }
@@ -25,8 +25,8 @@ pub fn number(bytes: &[u8]) -> Option<u64>
     Some(value)
 }
 
-/// Whether the digits of a number are those that the filter writes: none of them is a leading zero. Of any other
-/// bytes too it tells whether no zero stands before the rest of them.
+/// Whether the filter would write these digits for their number, which means that there is no leading zero. It looks
+/// only at the length and the first byte, so bytes that are no number give an answer too.
 pub fn is_shortest(digits: &[u8]) -> bool
     ensures spelled { (n : ℕ) → number_of digits.now ≡ Some n → result ≡ bytes_eq digits.now (spelled_number n) }
     ensures first { result ≡ (nat_lt (length digits.now) 2 || not (get_or digits.now 0 0 == 48)) }
@@ -34,7 +34,7 @@ pub fn is_shortest(digits: &[u8]) -> bool
     digits.len() < 2 || digits[0] != b'0'
 }
 
-/// How many digits the greatest `u64` has.
+/// The number of digits of the largest `u64`.
 const ROOM: usize = 20;
 
 /// The digits of a number, without leading zeros.
@@ -63,7 +63,7 @@ impl Digits {
     }
 }
 
-/// The digits of a number, as the filter writes it.
+/// The digits that the filter writes for a number.
 pub fn spell(n: u64) -> Digits
     ensures { result ≡ spelled_number n }
 {

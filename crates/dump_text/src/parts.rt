@@ -1,4 +1,4 @@
-//! The scan of a property block: a part of an entry, and a whole entry.
+//! Reads the entries of a property block: a part of an entry, and a whole entry.
 ghost use Rattle.std.specs.Prelude.{◌≡◌, MatchOption};
 ghost use Rattle.dump_text.specs.steps.PropertyScan.{IsLetter, HasLetter, HasSized, IsPartOf, HasEntry, IsEntryOf, is_shortest};
 
@@ -6,7 +6,7 @@ use crate::numbers::{number, spell};
 use crate::props::Entry;
 use crate::scan::first_line;
 
-/// A part of an entry: the digits of its length, its bytes, and what stands behind it.
+/// A part of an entry: the digits of its length, its bytes, and the text after it.
 #[derive(Clone, Copy)]
 pub(crate) struct Part<'a> {
     pub(crate) digits: &'a [u8],
@@ -25,7 +25,7 @@ impl<'a> Parts<'a> {
     ghost use Rattle.dump_text.specs.steps.PropertyScan.{parts_property, parts_rest, are_shortest};
     ghost use Rattle.dump_text.specs.steps.PropertyViews.{entry_property};
 
-    /// The entry.
+    /// The property of this entry, or its deletion.
     pub(crate) fn entry(&self) -> Entry<'a>
         ensures { entry_property result ≡ parts_property self.now }
     {
@@ -43,7 +43,7 @@ impl<'a> Parts<'a> {
         }
     }
 
-    /// What stands behind the entry.
+    /// The text after the entry.
     pub(crate) fn rest(&self) -> &'a [u8]
         ensures { result.now ≡ parts_rest self.now }
     {
@@ -64,7 +64,7 @@ impl<'a> Parts<'a> {
     }
 }
 
-/// What stands behind the letter and a space at the front of a text.
+/// The text after the letter and the space that it begins with.
 fn behind_letter(letter: u8, text: &[u8]) -> Option<&[u8]>
     ensures { MatchOption result (¬ HasLetter letter text.now) (λ behind. IsLetter letter text.now behind.now) }
 {
@@ -74,7 +74,7 @@ fn behind_letter(letter: u8, text: &[u8]) -> Option<&[u8]>
     Some(&text[2..])
 }
 
-/// The part of this letter at the front of a text.
+/// Reads the part that begins with this letter at the front of a text.
 fn sized_part(letter: u8, text: &[u8]) -> Option<Part<'_>>
     ensures { MatchOption result (¬ HasSized letter text.now) (λ part. IsPartOf letter text.now part) }
 {
@@ -98,7 +98,7 @@ fn sized_part(letter: u8, text: &[u8]) -> Option<Part<'_>>
     })
 }
 
-/// The parts of the entry at the front of a text.
+/// Reads the entry at the front of a text.
 pub(crate) fn entry(text: &[u8]) -> Option<Parts<'_>>
     ensures { MatchOption result (¬ HasEntry text.now) (λ parts. IsEntryOf text.now parts) }
 {
@@ -114,7 +114,7 @@ pub(crate) fn entry(text: &[u8]) -> Option<Parts<'_>>
     Some(Parts::Set { name, value })
 }
 
-/// Whether the length has no leading zeros.
+/// Whether the part's length has no leading zeros.
 fn is_shortest(part: &Part<'_>) -> bool
     ensures { result ≡ is_shortest part.now }
 {

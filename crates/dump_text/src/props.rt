@@ -1,4 +1,4 @@
-//! A property block, read where it stands.
+//! A property block, read in place.
 ghost use Rattle.std.specs.Prelude.{◌≡◌, ◌↔◌, List, [], length, bytes_eq, IsTrue, IsSome, IfSome, MatchOption, option_copied};
 ghost use Rattle.dump_text.specs.PropertyList.{Property, IsPropertyBlock, has_deletes, property_block_text};
 ghost use Rattle.dump_text.specs.steps.PropertyReading.{HasProperties, HasPropertyChanges, property_value};
@@ -11,12 +11,12 @@ use crate::parts::entry;
 /// The line that ends a property block.
 pub(crate) const BLOCK_END: &[u8] = b"PROPS-END\n";
 
-/// What the entries of a property block are like.
+/// What a scan of the entries of a property block finds.
 #[derive(Clone, Copy)]
 struct Scan {
-    /// Whether their text is as it is written.
+    /// Whether the filter would write the same bytes for the entries and their end.
     spelled: bool,
-    /// Whether one of them deletes a property.
+    /// Whether an entry deletes a property.
     deletes: bool,
 }
 
@@ -24,9 +24,9 @@ struct Scan {
 #[derive(Clone, Copy)]
 pub struct Props<'a> {
     bytes: &'a [u8],
-    /// Whether the bytes are as they are written.
+    /// Whether the filter would write the same bytes.
     spelled: bool,
-    /// Whether a property is deleted.
+    /// Whether an entry deletes a property.
     deletes: bool,
     pub ghost reads: { ∥ HasPropertyChanges bytes.now ∥₁ },
     pub ghost written: { (ps : List Property) → IsPropertyBlock bytes.now ps
@@ -34,19 +34,19 @@ pub struct Props<'a> {
     pub ghost deleting: { (ps : List Property) → IsPropertyBlock bytes.now ps → deletes ≡ has_deletes ps },
 }
 
-/// What was found in a property block, without its bytes.
+/// What [`Props`] has found in a property block, without the block's bytes.
 #[derive(Clone, Copy)]
 pub struct PropsReading {
-    /// Whether the bytes are as they are written.
+    /// Whether the filter would write the same bytes.
     spelled: bool,
-    /// Whether a property is deleted.
+    /// Whether an entry deletes a property.
     deletes: bool,
 }
 
 impl<'a> Props<'a> {
     ghost use Rattle.dump_text.specs.steps.PropertyViews.{props_bytes, entries_text, HasEntriesLeft, IsReadingOf};
 
-    /// The property block that these bytes are, where this was found in them.
+    /// Makes the [`Props`] again from the bytes and from what was found in them.
     pub fn of_reading(bytes: &'a [u8], reading: PropsReading) -> Props<'a>
         requires { IsReadingOf reading bytes.now }
         ensures { props_bytes result ≡ bytes.now }
@@ -58,7 +58,7 @@ impl<'a> Props<'a> {
         }
     }
 
-    /// What was found in the block, for who has its bytes anyway.
+    /// What was found in the block, for a caller that keeps the bytes itself.
     pub fn reading(&self) -> PropsReading
         ensures { IsReadingOf result (props_bytes self.now) }
     {
@@ -68,8 +68,8 @@ impl<'a> Props<'a> {
         }
     }
 
-    /// The property block that the bytes are, from the first to the last, with no deleted property in it; no bytes at
-    /// all are the empty list.
+    /// Reads the whole slice as a property block in which no entry deletes a property. An empty slice is the empty
+    /// list.
     pub fn read(block: &'a [u8]) -> Option<Props<'a>>
         ensures found { IsSome result ↔ HasProperties block.now }
         ensures bytes { IfSome result (λ props. props_bytes props ≡ block.now) }
@@ -78,7 +78,7 @@ impl<'a> Props<'a> {
         if props.deletes { None } else { Some(props) }
     }
 
-    /// The same, where properties may be deleted too, as in a node of format version 3.
+    /// Does the same, but entries may delete properties, as in a node under format version 3.
     pub fn read_with_deletes(block: &'a [u8]) -> Option<Props<'a>>
         ensures found { IsSome result ↔ HasPropertyChanges block.now }
         ensures bytes { IfSome result (λ props. props_bytes props ≡ block.now) }
@@ -98,14 +98,14 @@ impl<'a> Props<'a> {
         })
     }
 
-    /// The block as it stands.
+    /// The bytes of the block as they are in the dump.
     pub fn bytes(&self) -> &'a [u8]
         ensures { result.now ≡ props_bytes self.now }
     {
         self.bytes
     }
 
-    /// The properties, in their order.
+    /// The properties in their order, with the deleted ones.
     pub fn entries(&self) -> Entries<'a>
         ensures properties { (ps : List Property) → IsPropertyBlock (props_bytes self.now) ps → HasEntriesLeft result ps }
         ensures lent { entries_text result ≡ props_bytes self.now }
@@ -113,7 +113,7 @@ impl<'a> Props<'a> {
         Entries { rest: self.bytes }
     }
 
-    /// The value of the first property of that name that isn't deleted.
+    /// The value of the first property of this name that isn't deleted.
     pub fn get(&self, name: &[u8]) -> Option<&'a [u8]>
         ensures value { (ps : List Property) → IsPropertyBlock (props_bytes self.now) ps
             → option_copied result ≡ property_value name.now ps }
@@ -129,8 +129,8 @@ impl<'a> Props<'a> {
         None
     }
 
-    /// Whether the block is byte for byte as it is written: no length has a leading zero, and the list
-    /// without properties has its end.
+    /// Whether the filter would write the same bytes: no length has a leading zero, and an empty list has its end
+    /// line.
     pub fn spelled(&self) -> bool
         ensures { IsTrue result ↔ ((ps : List Property) × (props_bytes self.now ≡ property_block_text ps)) }
     {
@@ -142,7 +142,7 @@ impl<'a> Props<'a> {
 #[derive(Clone, Copy)]
 pub struct Entry<'a> {
     pub name: &'a [u8],
-    /// No bytes where the property is gone.
+    /// Empty if the property is deleted.
     pub value: &'a [u8],
     /// Whether the property is deleted.
     pub gone: bool,
@@ -175,7 +175,7 @@ impl<'a> Iterator for Entries<'a> {
     }
 }
 
-/// What the entries of a text of entries and their end are like; None for any other text.
+/// Reads a text that is entries and their end line, and returns what they are like; `None` for any other text.
 fn read_entries(text: &[u8]) -> Option<Scan>
     ensures { MatchOption result (¬ HasEntries text.now) (λ scan. IsScanOf text.now scan) }
 {

@@ -1,4 +1,4 @@
-//! What no clause says: worked examples, and each call once.
+//! What no contract says: worked examples, and one call of each function.
 use crate::laws::{blocks_are_read_as_written, properties_are_read_as_written};
 use crate::{
     Block, FaultKind, HeaderName, Headers, Props, find, is_shortest, number, push_block_end,
@@ -56,7 +56,7 @@ fn a_block_is_cut_where_it_stands(rt: HostRuntime) -> Result<(), Fail> {
     Ok(())
 }
 
-/// A line's name, value and whole text.
+/// The name, the value and the whole text of a line.
 type LineRow<'a> = (&'a [u8], &'a [u8], &'a [u8]);
 
 /// Whether these are the lines of a block.
@@ -91,14 +91,14 @@ fn lines_are_given_in_their_order(rt: HostRuntime) -> Result<(), Fail> {
     Ok(())
 }
 
-/// Whether a known name has this value, by each way to ask.
+/// Whether a known name has this value, whichever function is called to look it up.
 fn has_value(headers: &Headers<'_>, name: HeaderName, value: Option<&[u8]>) -> bool {
     headers.value(name) == value
         && headers.has(name) == value.is_some()
         && headers.block().get(name.bytes()) == value
 }
 
-/// Whether a known name's value stands at its place, or nowhere.
+/// Whether the place of a known name gives this value, or there is no place if there is no value.
 fn is_placed(headers: &Headers<'_>, name: HeaderName, value: Option<&[u8]>) -> bool {
     let place = headers.place_of(name);
     place.is_there() == value.is_some() && headers.block().value_at(place) == value
@@ -174,7 +174,7 @@ fn a_byte_is_found_where_it_stands_first(rt: HostRuntime) {
     assert!(rt; find(b':', b"a").is_none());
 }
 
-/// An entry's name, its value, and whether it is gone.
+/// An entry's name, its value, and whether it deletes the property.
 type EntryRow<'a> = (&'a [u8], &'a [u8], bool);
 
 /// Whether these are the entries of a block.

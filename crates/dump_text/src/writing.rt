@@ -1,4 +1,4 @@
-//! Header lines and property blocks as the filter writes them, which are read again as what they were.
+//! Writes header lines and property blocks, in the form that the filter gives them.
 ghost use Rattle.std.specs.Prelude.{◌≡◌, ◌++◌, ◌∷◌, [], OnOk, Some, None, length};
 ghost use Rattle.dump_text.specs.HeaderLine.{header_text};
 ghost use Rattle.dump_text.specs.Number.{spelled_number};
@@ -8,7 +8,7 @@ use crate::numbers::spell;
 use crate::props::BLOCK_END;
 use std::alloc::AllocError;
 
-/// Adds the line of a name and a number.
+/// Appends the header line of a name and a number.
 pub fn push_header(out: &mut Vec<u8>, name: &[u8], number: u64) -> Result<(), AllocError>
     ensures { OnOk result (out.new.items
         ≡ out.old.items ++ (header_text (record { name = name.now; value = spelled_number number }) ++ 10 ∷ [])) }
@@ -19,7 +19,7 @@ pub fn push_header(out: &mut Vec<u8>, name: &[u8], number: u64) -> Result<(), Al
     out.extend_from_slice(b"\n")
 }
 
-/// Adds bytes behind their letter and their length.
+/// Appends a letter, the length of the bytes and the bytes themselves, as a property entry has them.
 fn push_sized(out: &mut Vec<u8>, letter: &[u8], bytes: &[u8]) -> Result<(), AllocError>
     ensures { OnOk result (out.new.items
         ≡ out.old.items ++ sized_text letter.now (spelled_number (length bytes.now)) bytes.now) }
@@ -32,7 +32,7 @@ fn push_sized(out: &mut Vec<u8>, letter: &[u8], bytes: &[u8]) -> Result<(), Allo
     out.extend_from_slice(b"\n")
 }
 
-/// Adds a property.
+/// Appends the entry of a property.
 pub fn push_property(out: &mut Vec<u8>, name: &[u8], value: &[u8]) -> Result<(), AllocError>
     ensures { OnOk result (out.new.items
         ≡ out.old.items ++ entry_text (record { name = name.now; value = Some value.now })) }
@@ -41,14 +41,14 @@ pub fn push_property(out: &mut Vec<u8>, name: &[u8], value: &[u8]) -> Result<(),
     push_sized(out, b"V", value)
 }
 
-/// Adds that the property of this name is deleted.
+/// Appends the entry that deletes the property of this name.
 pub fn push_deletion(out: &mut Vec<u8>, name: &[u8]) -> Result<(), AllocError>
     ensures { OnOk result (out.new.items ≡ out.old.items ++ entry_text (record { name = name.now; value = None })) }
 {
     push_sized(out, b"D", name)
 }
 
-/// Adds the line that ends a property block.
+/// Appends the line that ends a property block.
 pub fn push_block_end(out: &mut Vec<u8>) -> Result<(), AllocError>
     ensures { OnOk result (out.new.items ≡ out.old.items ++ block_end) }
 {

@@ -1,4 +1,4 @@
--- What the contracts see of a block with its values.
+-- What contracts say of a block with its values.
 use Rattle.dump_text.specs.declared.block.Block.{Block}
 use Rattle.dump_text.specs.declared.headers.Headers.{Headers}
 

@@ -1,4 +1,4 @@
--- The known names as the program has them, and their values among some header lines.
+-- The known names as the program lists them, and their values in a list of header lines.
 use Rattle.std.specs.Prelude.{◌==◌, ℕ, Bool, not, ◌&&◌, List, [], ◌∷◌, length, filter, Option, slice_index_or, bytes_eq, find}
 use Rattle.std.specs.List.{position_or_len}
 use Rattle.dump_text.specs.declared.names.HeaderName.{HeaderName}
@@ -36,23 +36,23 @@ all_names =
     ContentLength ∷ NodeCopyfromRev ∷ NodeCopyfromPath ∷ TextCopySourceMd5 ∷ TextCopySourceSha1 ∷ NodeKind ∷
     NodeAction ∷ TextContentMd5 ∷ TextContentSha1 ∷ TextDelta ∷ PropDelta ∷ []
 
--- the names of so many bytes
+-- the names of this length
 abbrev pub names_of_length : ℕ → List HeaderName
 names_of_length n = filter (λ name. length (name_text name) == n) all_names
 
--- the name that these bytes are
+-- the name with these bytes, if it is known
 abbrev pub known_name : List ℕ → Option HeaderName
 known_name bytes = find (λ name. bytes_eq bytes (name_text name)) all_names
 
--- the place of a name among them
+-- the index of a name in this list
 abbrev pub name_place : HeaderName → ℕ
 name_place name = position_or_len (λ other. bytes_eq (name_text other) (name_text name)) all_names
 
--- where the value of a name is noted to stand
+-- the span that is stored for a name
 abbrev pub noted_span : List ValueSpan → HeaderName → ValueSpan
 noted_span spans name = slice_index_or spans (name_place name) no_span
 
--- for each name its value among these lines stands there in the dump
+-- the span of each name gives its value in these lines, in the dump
 abbrev pub AreValues : List ℕ → List Header → List ValueSpan → Type 0
 AreValues dump headers spans =
     (name : HeaderName) → IsSpanOf dump (noted_span spans name) (header_value (name_text name) headers)

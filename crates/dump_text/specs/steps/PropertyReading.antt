@@ -1,12 +1,12 @@
--- What is asked of a property list that is read.
+-- What is looked up in a property list.
 use Rattle.std.specs.Prelude.{ℕ, List, Option, ◌&&◌, find, option_and_then, is_some, bytes_eq, IsFalse}
 use Rattle.dump_text.specs.PropertyList.{Property, IsPropertyBlock, has_deletes}
 
--- the text is the property block of some list, in which none is deleted
+-- the text is the property block of a list without deletions
 abbrev pub HasProperties : List ℕ → Type 0
 HasProperties text = (ps : List Property) × IsPropertyBlock text ps × IsFalse (has_deletes ps)
 
--- the text is the property block of some list, in which some may be deleted
+-- the text is the property block of a list, which may have deletions
 abbrev pub HasPropertyChanges : List ℕ → Type 0
 HasPropertyChanges text = (ps : List Property) × IsPropertyBlock text ps
 

@@ -1,4 +1,4 @@
--- What the parts of the scan of a property block find.
+-- What the functions find that read the entries of a property block.
 use Rattle.std.specs.Prelude.{◌≡◌, ℕ, Bool, ◌&&◌, List, [], ◌∷◌, ◌++◌, length, Some, None, bytes_eq}
 use Rattle.dump_text.specs.declared.parts.Part.{Part}
 use Rattle.dump_text.specs.declared.parts.Parts.{Parts}
@@ -15,7 +15,7 @@ pub record IsSized (letter : ℕ) (text digits bytes rest : List ℕ) : Type 0 w
 abbrev pub HasSized : ℕ → List ℕ → Type 0
 HasSized letter text = (digits bytes rest : List ℕ) × IsSized letter text digits bytes rest
 
--- the part stands at the front of the text
+-- the part is at the front of the text
 abbrev pub IsPartOf : ℕ → List ℕ → Part → Type 0
 IsPartOf letter text part = IsSized letter text part.digits.now part.bytes.now part.rest.now
 
@@ -36,12 +36,12 @@ abbrev pub IsEntryOf : List ℕ → Parts → Type 0
 IsEntryOf text (Set name value) = IsPartOf 75 text name × IsPartOf 86 name.rest.now value
 IsEntryOf text (Deleted name) = IsPartOf 68 text name
 
--- the property of an entry's parts
+-- the property of an entry with these parts
 abbrev pub parts_property : Parts → Property
 parts_property (Set name value) = record { name = name.bytes.now; value = Some value.bytes.now }
 parts_property (Deleted name) = record { name = name.bytes.now; value = None }
 
--- what stands behind them
+-- the text after them
 abbrev pub parts_rest : Parts → List ℕ
 parts_rest (Set name value) = value.rest.now
 parts_rest (Deleted name) = name.rest.now
@@ -50,15 +50,15 @@ parts_rest (Deleted name) = name.rest.now
 abbrev pub is_shortest : Part → Bool
 is_shortest part = bytes_eq part.digits.now (spelled_number (length part.bytes.now))
 
--- whether each length of an entry has none
+-- whether no length of an entry has leading zeros
 abbrev pub are_shortest : Parts → Bool
 are_shortest (Set name value) = is_shortest name && is_shortest value
 are_shortest (Deleted name) = is_shortest name
 
--- the text is entries of some list, and then the end
+-- the text is the entries of a list, and then the end line
 abbrev pub HasEntries : List ℕ → Type 0
 HasEntries text = (ps : List Property) × AreEntries text ps
 
--- the text is a property block as it is written
+-- the text is a property block as the filter writes it
 abbrev pub IsWritten : List ℕ → Type 0
 IsWritten text = (ps : List Property) × (text ≡ property_block_text ps)

@@ -1,4 +1,4 @@
--- What the contracts see of property blocks.
+-- What contracts say of property blocks.
 use Rattle.std.specs.Prelude.{◌≡◌, ℕ, bytes_eq, List, [], ◌++◌, Option, Some, None, if◌then◌else◌}
 use Rattle.dump_text.specs.declared.props.Props.{Props}
 use Rattle.dump_text.specs.declared.props.PropsReading.{PropsReading}
@@ -11,7 +11,7 @@ use Rattle.dump_text.specs.steps.PropertyReading.{HasPropertyChanges}
 abbrev pub props_bytes : Props → List ℕ
 props_bytes p = p.bytes.now
 
--- this was found in the property block that the bytes are
+-- what was found in the property block with these bytes
 pub record IsReadingOf (reading : PropsReading) (bytes : List ℕ) : Type 0 where
   pub reads : ∥ HasPropertyChanges bytes ∥₁
   pub written : (ps : List Property) → IsPropertyBlock bytes ps
@@ -22,15 +22,16 @@ pub record IsReadingOf (reading : PropsReading) (bytes : List ℕ) : Type 0 wher
 abbrev pub entry_property : Entry → Property
 entry_property e = record { name = e.name.now; value = if e.gone then None else Some e.value.now }
 
--- the bytes that an iterator over properties has left
+-- the bytes that an iterator over properties has not yet read
 abbrev pub entries_text : Entries → List ℕ
 entries_text entries = entries.rest.now
 
--- the properties that an iterator has left
+-- the properties that an iterator has not yet returned
 abbrev pub HasEntriesLeft : Entries → List Property → Type 0
 HasEntriesLeft entries ps = IsPropertyBlock (entries_text entries) ps
 
--- one call of an iterator over properties: the next one and the rest behind its entry, or none where none is left
+-- one call of an iterator over properties: it returns the next one and goes on after its entry, or none if none is
+-- left
 abbrev pub EntryStep : Entries → Option Entry → Entries → Type 0
 EntryStep old None new = HasEntriesLeft old [] × (new ≡ old)
 EntryStep old (Some e) new = (text : List ℕ)

@@ -1,4 +1,4 @@
--- What the parts of the scan of a block find.
+-- What the functions find that scan a block.
 use Rattle.std.specs.Prelude.{◌≡◌, ℕ, ◌+◌, ◌<◌, ◌≤◌, Bool, List, ◌∷◌, ◌++◌, take, drop, length, nat_lt, IsTrue, IsFalse, bytes_eq}
 use Rattle.std.specs.List.{list_any, list_all}
 use Rattle.dump_text.specs.Names.{known_names}
@@ -6,7 +6,7 @@ use Rattle.dump_text.specs.HeaderLine as line
 use Rattle.dump_text.specs.HeaderBlock.{lines_bytes, BeginsWithBlock}
 use Rattle.dump_text.specs.steps.ReadHeaders.{headers_of, AreHeaderLines}
 
--- the byte stands first at place k
+-- k is the first place of the byte
 pub record IsFirstAt (b : ℕ) (text : List ℕ) (k : ℕ) : Type 0 where
   pub below : k < length text
   pub cut : text ≡ take k text ++ b ∷ drop (k + 1) text
@@ -17,13 +17,13 @@ pub record IsFirstLine (text whole rest : List ℕ) : Type 0 where
   pub cut : text ≡ whole ++ 10 ∷ rest
   pub one_line : IsFalse (line.has_byte 10 whole)
 
--- the line is cut at its first colon
+-- the name and the value are the parts of the line before and after its first colon and the space that follows it
 pub record IsCutAtColon (whole name value : List ℕ) : Type 0 where
   pub spelled : whole ≡ name ++ 58 ∷ 32 ∷ value
   pub named : IsTrue (nat_lt 0 (length name))
   pub no_colon : IsFalse (line.has_byte 58 name)
 
--- the text is no header line
+-- the text is not the text of a header line
 abbrev pub IsNoHeader : List ℕ → Type 0
 IsNoHeader whole = (h : line.Header) → IsTrue (line.is_header h) → whole ≡ line.header_text h → ⊥
 
@@ -32,13 +32,13 @@ abbrev pub HasLines : List ℕ → Type 0
 HasLines text = (headers : List line.Header) × (rest : List ℕ)
     × IsTrue (list_all line.is_header headers) × (text ≡ lines_bytes headers ++ 10 ∷ rest)
 
--- header lines take the first bytes of the text, and an empty line follows
+-- the first bytes of the text are header lines, and an empty line follows
 pub record IsLinesEnd (text : List ℕ) (size : ℕ) : Type 0 where
   pub below : size < length text
   pub lines : AreHeaderLines (take size text)
   pub ended : text ≡ take size text ++ 10 ∷ drop (size + 1) text
 
--- a block takes the first bytes of the text
+-- the first bytes of the text are a block
 pub record IsBlockEnd (text : List ℕ) (size : ℕ) : Type 0 where
   pub inside : size ≤ length text
   pub block : BeginsWithBlock text (headers_of (take size text)) (drop size text)

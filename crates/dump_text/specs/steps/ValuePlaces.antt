@@ -1,4 +1,4 @@
--- Where the values of header lines stand in a dump.
+-- Where the values of header lines are in a dump.
 use Rattle.std.specs.Prelude.{◌≡◌, ◌==◌, ◌≤◌, ℕ, Bool, not, List, length, drop, slice_range, Option, Some, None, if◌then◌else◌}
 use Rattle.std.specs.List.{before_first}
 use Rattle.dump_text.specs.declared.value_place.ValuePlace.{ValuePlace}
@@ -12,7 +12,7 @@ is_there place = not (place.byte == 0)
 abbrev pub no_place : ValuePlace
 no_place = record { byte = 0 }
 
--- the value that stands there in a dump: it ends before the first LF
+-- the value at this place of a dump: it ends before the first LF
 abbrev pub value_at : List ℕ → ValuePlace → Option (List ℕ)
 value_at dump place = if is_there place then Some (before_first (λ b. b == 10) (drop place.byte dump)) else None
 
@@ -25,7 +25,7 @@ abbrev pub span_text : List ℕ → ValueSpan → Option (List ℕ)
 span_text dump span =
     if is_there span.place then Some (slice_range dump span.place.byte span.after) else None
 
--- this is the value that stands there in a dump, and it ends there
+-- both the place and the span give this value in the dump, or both give none
 pub record IsSpanOf (dump : List ℕ) (span : ValueSpan) (value : Option (List ℕ)) : Type 0 where
   pub stands : value_at dump span.place ≡ value
   pub ends : span_text dump span ≡ value
