@@ -91,7 +91,7 @@ count_fits number place text rest (r ∷ rs) (lfs, front, behind, is, at, b, mor
     let some = record_some r in
     omega arith
 
--- what a cutter at a place has before it and behind it
+-- what a cutter at a place has before it and after it
 pub record CutAt (dump : List ℕ) (number place version : ℕ) : Type 0 where
   pub records : List DumpRecord
   pub before : List ℕ
@@ -123,7 +123,7 @@ number_fits dump number place version up =
     let count = at.count in
     omega arith
 
--- the records before a place, and what is cut behind it
+-- the records before a place, and what is cut after it
 go_on : (dump : List ℕ) (number place version : ℕ) (at : CutAt dump number place version) (after rest : List ℕ)
     (ss : List DumpRecord)
     → IsCutInto number place after ss rest → IsCutInto 0 0 (at.before ++ after) (at.records ++ ss) rest
@@ -142,7 +142,7 @@ module _ (dump : List ℕ) (number place version gap : ℕ) (up : IsCutUpTo dump
   behind : drop place dump ≡ line_feeds gap ++ drop (place + gap) dump
   behind = lfs.spelled ∙ ap (λ t. line_feeds gap ++ t) (drop-drop gap place dump)
 
-  -- a record stands behind the LFs
+  -- a record follows the LFs
   module _ (r : DumpRecord) (after : ℕ) (r_at : r.place ≡ place + gap)
       (in_force : r.version ≡ version_from version r.headers)
       (b : BeginsWithRecord number (drop (place + gap) dump) r (drop after dump)) where
@@ -213,7 +213,7 @@ module _ (dump : List ℕ) (number place version gap : ℕ) (up : IsCutUpTo dump
         at.count,
       )
 
-  -- no record stands behind the LFs
+  -- no record follows the LFs
   pub ends_broken : (fault : FaultKind) → (place + gap ≡ length dump → number ≡ 0) → place + gap ≤ length dump
       → IsCutFault number (drop (place + gap) dump) fault
       → EndsAfter dump number (Ending.Broken fault (place + gap))
@@ -246,7 +246,7 @@ pub gap_in : (dump : List ℕ) (place gap : ℕ) → IsGap (take (length dump - 
     → IsGap (drop place dump) gap
 gap_in dump place gap lfs = subst (λ (t : List ℕ). IsGap t gap) (take_rest dump place) lfs
 
--- a record that stands behind the others of a dump
+-- a record that follows the others of a dump
 module _ (dump : List ℕ) (number place before : ℕ) (b : Block) (text_from after version : ℕ)
     (follows : FollowsRecords dump number place before) (dump_is : block_dump b ≡ dump)
     (place_is : block_place b ≡ place) (s : StandsAt number before b text_from after version) where
@@ -269,7 +269,7 @@ module _ (dump : List ℕ) (number place before : ℕ) (b : Block) (text_from af
   pub item_record : IsRecordOf dump number item
   item_record = subst (λ (d : List ℕ). IsRecordOf d number item) dump_is own_record
 
-  -- the dump is cut up to behind it, one record more
+  -- the dump is cut up to after it, one record more
   pub item_cut : IsCutUpTo dump (number + 1) after version
   item_cut = subst (λ (d : List ℕ). IsCutUpTo d (number + 1) after version) dump_is
       (cut_on (block_dump b) number own.from before own.gap own.up_to own.lfs item after (place_is ∙ own.place_is)
@@ -283,7 +283,7 @@ module _ (dump : List ℕ) (number place before : ℕ) (b : Block) (text_from af
       let size = ap length dump_is in
       omega arith
 
--- the LFs behind the records end within the dump
+-- the LFs after the records end within the dump
 pub room_behind : (dump : List ℕ) (number place version gap : ℕ) → IsCutUpTo dump number place version
     → IsGap (drop place dump) gap → place + gap ≤ length dump
 room_behind dump number place version gap up lfs =

@@ -1,4 +1,4 @@
--- What lawful header lines tell of their record's kind and numbers.
+-- What lawful header lines say about their record's kind and numbers.
 use Rattle.dump_records.proofs.Prelude.{◌≡◌, ℕ, ◌+◌, ◌<◌, ◌^◌, arith, ◌==◌, ◌&&◌, ◌||◌, not, Bool, true, false, List, [], ◌∷◌, refl, sym, ap, ◌∙◌, Option, Some, None, is_some, is_none, count_by, option_and_then, unwrap_or, none-some, and-false, nat_tests, true_from_ne_false, eqb-true, IfSome, version_name, uuid_name, revision_name, path_name, copy_revision_name, copy_path_name, content_length_name, deciding_names, length_names, list_any, number_of, Header, has_header, header_value, first_false, second_false, false_true, is_there, value_at, ValuePlace, has_value, place_has, header_number, header_length, property_length, text_length, version_from, is_one_alone, has_bad_kind, is_read_version, has_bad_version, has_bad_number, KindParts, Version, version_in, IsKindOf}
 
 -- of four names exactly one is there
@@ -56,7 +56,7 @@ both_or_none true false alone = alone
 both_or_none false true alone = sym alone
 both_or_none false false alone = refl
 
--- a node's two copyfrom headers stand together
+-- a node has both copyfrom headers or neither
 pub copy_both : (headers : List Header) → has_bad_kind headers ≡ false → has_header path_name headers ≡ true
     → has_header copy_revision_name headers ≡ has_header copy_path_name headers
 copy_both headers good node = both_or_none (has_header copy_revision_name headers) (has_header copy_path_name headers)
@@ -74,7 +74,7 @@ pub no_value : (name : List ℕ) (headers : List Header) → has_header name hea
     → None ≡ header_value name headers
 no_value name headers missing = none_of (header_value name headers) (has_value name headers ∙ missing)
 
--- a name that isn't among the lines tells no number
+-- a name that isn't among the lines gives no number
 pub no_number : (name : List ℕ) (headers : List Header) → has_header name headers ≡ false
     → None ≡ header_number name headers
 no_number name headers missing = ap (option_and_then number_of) (no_value name headers missing)
@@ -133,13 +133,13 @@ module _ (headers : List Header) (good : has_bad_number headers ≡ false) where
       (copy_revision_name ∷ length_names) ≡ false
   rest = second_false (has_header revision_name headers && is_none (header_number revision_name headers)) _ good
 
-  -- the revision number is told exactly where it is read
+  -- the revision number is given exactly where it is read
   pub revision_there : has_header revision_name headers ≡ is_some (header_number revision_name headers)
   revision_there = number_there revision_name headers
       (first_false _ (list_any (λ name. has_header name headers && is_none (header_number name headers))
       (copy_revision_name ∷ length_names)) good)
 
-  -- the copy revision is told exactly where it is read
+  -- the copy revision is given exactly where it is read
   pub copy_there : has_header copy_revision_name headers ≡ is_some (header_number copy_revision_name headers)
   copy_there = number_there copy_revision_name headers
       (first_false _ (list_any (λ name. has_header name headers && is_none

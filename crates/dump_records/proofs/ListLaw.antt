@@ -1,4 +1,4 @@
--- Each dump has a list of records: at each place either a record stands or a fault is found, and a record takes bytes.
+-- Each dump has a list of records: at each place there is either a record or a fault, and a record takes bytes.
 use Rattle.dump_records.proofs.Prelude.{◌≡◌, ◌≢◌, ◌⊎◌, ℕ, zero, suc, ◌+◌, ◌<◌, ◌≤◌, nat_lt, Bool, true, false, ◌==◌, List, [], ◌∷◌, ◌++◌, take, drop, length, refl, sym, ap, ◌∙◌, subst, arith, append_assoc, length-append, inl, inr, list_all, length-drop, take-append-drop, length-take-le, nil_from_length, eqb-true, eqb-false, FaultKind, has_byte, header_text, is_header, is_block, lines_bytes, block_text, BeginsWithBlock, HasBlock, block_fault, IsFirstLine, IsCutAtColon, IsNoHeader, HasLines, Split, split, Cut, Lacks, first_of, lawful, split_once, lawful_lines, lines_once, regroup, clash, lines_behind, no_line_here, header_text-is, is_line, version_from, property_length, text_length, DumpRecord, record_text, BeginsWithRecord, is_lawful, IsCutFault, Ending, line_feeds, IsCutInto, HaveVersions, HasEnding, HasRecords, EachDumpHasOneList, header_fault, no_block-lines}
 use borrow.Author.Tests.{ltb-true, ltb-false}
 use Rattle.dump_text.specs.declared.fault.FaultKind.TheVariants as faults
@@ -107,7 +107,7 @@ find_block text = by_lines (scan (length text) text (omega arith))
             let no_way : false ≡ true = sym bad ∙ ap is_block same ∙ b.block in
             cc)
 
--- the record with this number at the front of a text that stands at this place, where this version was in force before;
+-- the record with this number at the front of a text that is at this place, where this version was in force before;
 -- or why there is none
 data Stands (number place version : ℕ) (text : List ℕ) : Type 0 where
   Here : (r : DumpRecord) (after : List ℕ) → r.place ≡ place → r.version ≡ version_from version r.headers

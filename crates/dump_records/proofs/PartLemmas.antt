@@ -1,4 +1,4 @@
--- Why no record stands at a place, and what stands there else.
+-- Why no record is at a place, and what is there instead.
 use Rattle.dump_records.proofs.Prelude.{◌≡◌, ◌≢◌, ℕ, ◌+◌, ◌-◌, ◌<◌, ◌≤◌, get_or, Bool, true, false, List, ◌++◌, take, drop, length, slice_range, refl, sym, ap, ◌∙◌, subst, arith, append_assoc, unwrap_or, Result, Ok, Err, absurd_bool, not_so, take-append-drop, length-drop, length-take-le, drop-drop, drop_more, drop_all, ne_eqb, IsErrAnd, IfErr, line_feeds, FaultKind, fault_code, block_text, starts_with_lf, has_empty_line, BeginsWithBlock, HasBlock, block_fault, headers_between, IsBlockBetween, block_once, property_length, text_length, has_bad_kind, has_bad_version, has_bad_number, has_bad_lengths, BeginsWithRecord, is_lawful, HasBlockWith, HoldsOfText, IsCutFault, record_between, version_in, header_fault, IsUnlawful, LengthsOf, Lengths, RecordHeader, IsHeaderOf, Block, block_dump, block_place, block_after, block_headers, IsGap, StandsAt}
 use Rattle.dump_text.specs.declared.fault.FaultKind.TheVariants as faults
 use Rattle.dump_text.specs.HeaderLine as line
@@ -9,7 +9,7 @@ no_less : (fault : FaultKind) → fault_code fault < 1 → ⊥
 no_less faults.HeaderCut low = omega arith
 no_less fault low = omega arith
 
--- where no block stands, that is the fault
+-- if there is no block, that is the fault
 pub no_block : (number : ℕ) (text : List ℕ) → ¬ HasBlock text → IsCutFault number text (block_fault text)
 no_block number text none = cases (starts_with_lf text) (has_empty_line text) refl refl
   where
@@ -87,7 +87,7 @@ module _ (number : ℕ) (text : List ℕ) (headers : List line.Header) (after : 
           let all : is_lawful number headers ≡ true = rw (is-k, is-v, is-n, is-l) refl in
           absurd (absurd_bool _ all broken)
 
-  -- too few bytes are left behind lawful lines
+  -- too few bytes are left after lawful lines
   pub cut_short : is_lawful number headers ≡ true → length after < property_length headers + text_length headers
       → IsCutFault number text faults.ContentCut
   cut_short lawful short =
@@ -153,13 +153,13 @@ gap_whole text i front end bound =
       stop = ap starts_with_lf (drop_all i text end);
     }
 
--- an error that `?` hands on is the one that it was
+-- the error that `?` returns is the error of the call
 pub handed_on : {T : Type 0} (r : Result T FaultKind) (P : FaultKind → Type 0) (fault : FaultKind)
     → IsErrAnd r (λ e. e ≡ fault) → P fault → IfErr r P
 handed_on (Ok x) P fault is holds = tt
 handed_on (Err e) P fault is holds = subst P (sym is) holds
 
--- what reading the lines of a block that was cut at a place tells of that place
+-- what reading the lines of a block that was cut at a place says about that place
 module _ (dump : List ℕ) (place number : ℕ) (b : Block) (dump_is : block_dump b ≡ dump)
     (place_is : block_place b ≡ place) where
   here : IsBlockBetween dump place (block_after b)
@@ -192,7 +192,7 @@ module _ (dump : List ℕ) (place number : ℕ) (b : Block) (dump_is : block_dum
       cut_short number (drop place dump) headers (drop (block_after b) dump) here.block
       (ap (is_lawful number) (sym headers_here) ∙ found.lawful) (omega arith)
 
--- the record of a block with these lines and lengths stands at its place
+-- the record of a block with these lines and lengths is at its place
 pub stands_here : (number : ℕ) (b : Block) (header : RecordHeader) (lengths : Lengths)
     (before version text_from after : ℕ)
     → IsHeaderOf (block_dump b) (block_headers b) header → LengthsOf number (block_headers b) lengths

@@ -114,7 +114,7 @@ untruncated dump rs b =
     (λ c. is_front dump all law.1 law.2 rs c) in
     subst (BeginsWithRecords dump) (sym is) (whole_front dump all law.1 law.2 (length rs))
 
--- the record with the next number stands behind the first records
+-- the record with the next number follows the first records
 pub one_more : (dump : List ℕ) (rs : List DumpRecord) (r : DumpRecord) → BeginsWithRecords dump rs
     → ∥ IsRecordOf dump (length rs) r ∥₁
     → BeginsWithRecords dump (rs ++ r ∷ [])

@@ -2,7 +2,7 @@
 use Rattle.dump_records.proofs.Prelude.{◌≡◌, ℕ, ◌-◌, Bool, true, false, if◌then◌else◌, List, Option, Some, None, Bor, drop, refl, sym, ◌∙◌, subst, arith, option_copied, IfSome, length-take, length-drop, path_name, copy_path_name, Header, has_header, header_value, is_copied_node, part_of_node, IsPartBetween, block_size, value_lent, if_copied, Record, place_after, record_item, IsInBlock}
 use Rattle.dump_records.proofs.HeaderLemmas.{no_value}
 
--- a header's value stands in the block
+-- a header's value is in the block
 pub value_in_block : (r : Record) (name : List ℕ) (value : List ℕ)
     → Some value ≡ header_value name (record_item r).headers → IsInBlock r value
 value_in_block r name value is =
@@ -40,7 +40,7 @@ copy_has r name other = cases (has_header path_name headers) (has_header copy_pa
         let copy : is_copied_node r.header.parts ≡ false = r.says.kind.copied ∙ rw node refl in
         rw (node, copy) refl
 
--- what stands behind a record begins at its end
+-- what follows a record begins at its end
 pub end_of_record : (r : Record) → place_after (record_item r) ≡ r.after
 end_of_record r =
     let b = r.block in

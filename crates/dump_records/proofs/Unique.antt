@@ -7,7 +7,7 @@ pub clash : (a : Bool) → not a ≡ true → a ≡ true → ⊥
 clash true n y = cc
 clash false n y = cc
 
--- the content behind a record's block, and what follows it
+-- the content after a record's block, and what follows it
 abbrev pub content : DumpRecord → List ℕ → List ℕ
 content r after = r.props ++ (r.text ++ after)
 
@@ -43,7 +43,7 @@ parts_once number other text r s x y b c =
     ∙ sym c.text_fits) contents.1 in
     (blocks.0, contents.0, texts.0, texts.1)
 
--- at a place, under a version, stands at most one record
+-- at a place, under a version, there is at most one record
 pub record_once : (number : ℕ) (text : List ℕ) (r s : DumpRecord) (x y : List ℕ)
     → r.place ≡ s.place → r.version ≡ s.version
     → BeginsWithRecord number text r x → BeginsWithRecord number text s y → (r ≡ s) × (x ≡ y)
@@ -93,7 +93,7 @@ module _ (number : ℕ) (text : List ℕ) (r : DumpRecord) (after : List ℕ) (b
       let tl = b.text_fits in
       grind (arith, length-append, n, p, t, pl, tl, short)
 
-  -- where a record stands, none of the cut faults holds
+  -- where a record is, none of the cut faults holds
   pub none_holds : (kind : FaultKind) → ¬ HoldsOfText number text kind
   none_holds faults.HeaderCut h = h.0 (r.headers, content r after, begins number text r after b)
   none_holds faults.Header h = h.0 (r.headers, content r after, begins number text r after b)
@@ -157,7 +157,7 @@ ends_once size count x y (Ending.Broken k p) (Ending.Broken l q) same a b =
     let places : p ≡ q = omega arith in
     λ i. Ending.Broken (kinds i) (places i)
 
--- the records don't end where one stands
+-- the records don't end where one is
 pub goes_on : (size count : ℕ) (x : List ℕ) (e : Ending) (r : DumpRecord) (after : List ℕ)
     → BeginsWithRecord count x r after → EndsWith size count x e → ⊥
 goes_on size count x Ending.Whole r after b a =
@@ -217,7 +217,7 @@ cuts_once size number place before count other text (r ∷ rs) (s ∷ ss) x y e 
     (omega arith) (omega arith) more more' have.1 versions a z in
     ((λ i. one i ∷ rest.0 i), rest.1)
 
--- how a list of records ends is told by its length and the dump's
+-- the lengths of the list and of the dump say how a list of records ends
 pub ending_of : (dump : List ℕ) (records : List DumpRecord) (rest : List ℕ) (e : Ending) → HasEnding dump records rest e
     → EndsWith (length dump) (length records) rest e
 ending_of dump records rest Ending.Whole h = h

@@ -99,7 +99,7 @@ two_deciding_names = refl
 half_a_copy : has_bad_kind (node ++ header (codes "Node-copyfrom-rev") (codes "1") ∷ []) ≡ true
 half_a_copy = refl
 
--- only of a node a copyfrom header alone is refused
+-- a copyfrom header alone is a fault only in a node
 half_a_copy_elsewhere : has_bad_kind (revision (codes "7") ++ header (codes "Node-copyfrom-rev") (codes "1") ∷ [])
     ≡ false
 half_a_copy_elsewhere = refl
@@ -256,7 +256,7 @@ place_behind_line_feeds (lfs, front, after, e, at, is, _) =
     let none : lfs ≡ 0 = omega arith in
     apart (ap first (e ∙ ap (λ n. line_feeds n ++ front) none ∙ is.spelled))
 
--- a dump that is joined from version 2, version 3 and version 2: each version record, and a node behind it
+-- a dump that is joined from version 2, version 3 and version 2: each version record, and a node after it
 abbrev version_of_three : DumpRecord
 version_of_three = record (version_record 118) { version = 3; headers = versioned (codes "3") }
 
@@ -267,7 +267,7 @@ joined_versions : HaveVersions 0 (version_record 0 ∷ file_under 2 ∷ version_
     ∷ file_under 2 ∷ [])
 joined_versions = (refl, (refl, (refl, (refl, (refl, (refl, tt))))))
 
--- the first version isn't in force behind the second version record
+-- the first version isn't in force after the second version record
 first_version_is_over : ¬ HaveVersions 0 (version_record 0 ∷ version_of_three ∷ file_under 2 ∷ [])
 first_version_is_over (_, (_, (same, _))) = omega arith
 

@@ -1,7 +1,7 @@
 -- The versions in force along a list of records.
 use Rattle.dump_records.proofs.Prelude.{◌≡◌, ℕ, List, [], ◌∷◌, ◌++◌, refl, DumpRecord, HaveVersions, last_version}
 
--- the version in force behind two lists of records is that behind the second
+-- the version in force after two lists of records is that after the second
 pub last_append : (version : ℕ) (rs ss : List DumpRecord)
     → last_version version (rs ++ ss) ≡ last_version (last_version version rs) ss
 last_append version [] ss = refl

@@ -1,4 +1,4 @@
-//! Cuts a dump into its records, from place to place.
+//! Cuts a dump into its records.
 ghost use Rattle.std.specs.Prelude.{◌≡◌, IfOk, IfErr, drop};
 ghost use Rattle.dump_records.specs.RecordText.{IsCutFault};
 ghost use Rattle.dump_records.specs.steps.Standing.{IsGap, FollowsRecords};
@@ -9,23 +9,23 @@ use crate::record::Record;
 use dump_text::{FaultKind, Headers};
 use std::marker::Model;
 
-/// What a cutter gives: the next record, or how the list of records ends.
+/// What a call of [`Cutter::next`] returns: the next record, or how the list of records ends.
 #[derive(Clone, Copy)]
 pub enum Cut<'a> {
     Item(Record<'a>),
-    /// The records end with the dump.
+    /// The last record ends at the end of the dump, up to line feeds.
     Finished,
-    /// No record stands at this byte of the dump, for this fault.
+    /// No record is at this byte of the dump, because of this fault.
     Fault { kind: FaultKind, place: usize },
 }
 
-/// Gives the records of a dump in their order. After its end it gives the same end again.
+/// Returns the records of a dump in their order. After the end it returns the same end at each call.
 #[derive(Drop)]
 pub struct Cutter<'a> {
     dump: &'a [u8],
     number: u64,
     place: usize,
-    /// The format version in force behind the records up to the place.
+    /// The format version in force after the records that were returned.
     version: u8,
 }
 
@@ -75,7 +75,7 @@ impl<'a> Cutter<'a> {
     }
 }
 
-/// How many LFs a text begins with.
+/// The number of LFs at the front of a text.
 fn count_line_feeds(text: &[u8]) -> usize
     ensures { IsGap text.now result }
 {
@@ -87,7 +87,7 @@ fn count_line_feeds(text: &[u8]) -> usize
     text.len()
 }
 
-/// The record with this number at a place of the dump, where this format version was in force before; or the first
+/// Reads the record with this number at a place of the dump; `version` was in force before it. The error is the first
 /// fault that holds there.
 fn record_at(dump: &[u8], place: usize, number: u64, version: u8) -> Result<Record<'_>, FaultKind>
     requires { FollowsRecords dump.now number place version }

@@ -1,4 +1,4 @@
-//! What the header lines of a block say of their record, and the rules that they may break.
+//! Reads the header lines of a block, and checks the rules for them.
 ghost use Rattle.std.specs.Prelude.{◌≡◌, ◌<◌, ◌+◌, ◌^◌, ◌==◌, ◌&&◌, not, IfSome, IsFalse, MatchResult, is_none, is_some, bytes_eq, unwrap_or, codes, []};
 ghost use Rattle.dump_text.specs.Names.{version_name, node_kind_name, content_length_name};
 ghost use Rattle.dump_text.specs.steps.KnownValues.{name_text};
@@ -12,7 +12,7 @@ use crate::kind::KindParts;
 use crate::readings::{Lengths, NumberRead, Numbers, RecordHeader};
 use dump_text::{FaultKind, HeaderName, Headers, is_shortest, number};
 
-/// The number that the header of this name gives, and how it is spelled.
+/// The number that the header of this name has, and whether it is in its shortest spelling.
 fn number_at(headers: &Headers<'_>, name: HeaderName) -> NumberRead
     ensures value { result.number ≡ header_number (name_text name) (lines_of headers.now) }
     ensures small { IfSome result.number (λ n. n < 10 ^ 18) }
@@ -31,7 +31,7 @@ fn number_at(headers: &Headers<'_>, name: HeaderName) -> NumberRead
     }
 }
 
-/// The numbers that the lines give, each read once.
+/// The numbers that the lines have; each is read once.
 fn numbers_of(headers: &Headers<'_>) -> Numbers
     ensures { AreNumbers (lines_of headers.now) result }
 {
@@ -55,7 +55,8 @@ fn numbers_of(headers: &Headers<'_>) -> Numbers
     }
 }
 
-/// Whether not exactly one deciding name stands in the block, or one copyfrom header alone in a node.
+/// Whether the block doesn't have exactly one of the names that say the kind of record, or is a node with only one of
+/// the two copyfrom headers.
 fn has_bad_kind(headers: &Headers<'_>) -> bool
     ensures { result ≡ has_bad_kind (lines_of headers.now) }
 {
@@ -69,7 +70,7 @@ fn has_bad_kind(headers: &Headers<'_>) -> bool
     deciding != 1 || (is_node && half_copy)
 }
 
-/// Whether the first record of the dump is no version record, or a version isn't 2 or 3.
+/// Whether this is the first record and no version record, or its version isn't 2 or 3.
 fn has_bad_version(headers: &Headers<'_>, numbers: &Numbers, number: u64) -> bool
     requires { AreNumbers (lines_of headers.now) numbers.now }
     ensures { result ≡ has_bad_version number (lines_of headers.now) }
@@ -80,7 +81,7 @@ fn has_bad_version(headers: &Headers<'_>, numbers: &Numbers, number: u64) -> boo
     }
 }
 
-/// Whether the header of this name is there and gives no number.
+/// Whether there is a header of this name and its value isn't a number.
 fn is_no_number(headers: &Headers<'_>, name: HeaderName, found: Option<u64>) -> bool
     requires { found ≡ header_number (name_text name) (lines_of headers.now) }
     ensures { result ≡ (has_header (name_text name) (lines_of headers.now)
@@ -144,7 +145,7 @@ fn has_bad_lengths(headers: &Headers<'_>, numbers: &Numbers) -> bool
     headers.has(HeaderName::RevisionNumber) && has_text
 }
 
-/// What the record is, with the parts that its kind has.
+/// The kind of record, with the values that only this kind has.
 fn parts_of(headers: &Headers<'_>, numbers: &Numbers) -> KindParts
     requires numbers { AreNumbers (lines_of headers.now) numbers.now }
     requires kind { IsFalse (has_bad_kind (lines_of headers.now)) }
@@ -192,7 +193,7 @@ fn says_true(headers: &Headers<'_>, name: HeaderName) -> bool
     }
 }
 
-/// Whether the lines, under the numbers and lengths that they have, are written as they stand.
+/// Whether the filter writes these lines unchanged if it keeps their numbers and lengths.
 fn are_written(headers: &Headers<'_>, numbers: &Numbers) -> bool
     requires { AreNumbers (lines_of headers.now) numbers.now }
     ensures { result ≡ are_written (lines_of headers.now) }
@@ -202,8 +203,8 @@ fn are_written(headers: &Headers<'_>, numbers: &Numbers) -> bool
         && (headers.has(HeaderName::ContentLength) || lengths.props + lengths.text == 0)
 }
 
-/// What the header lines of the record with this number say, where this format version was in force before, and its
-/// lengths; or the first rule that they break.
+/// Reads the header lines of the record with this number, and its lengths; `before` is the format version that was in
+/// force before the record. The error is the first rule that the lines break.
 pub(crate) fn read_header(
     headers: &Headers<'_>,
     number: u64,

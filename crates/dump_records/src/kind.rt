@@ -1,10 +1,10 @@
-//! What a record is.
+//! The kinds of records.
 ghost use Rattle.std.specs.Prelude.{◌≡◌, unwrap_or};
 ghost use Rattle.dump_records.specs.steps.KindReading.{version_in};
 
 use dump_text::ValuePlace;
 
-/// What a record is, by the one deciding name that its block has.
+/// The kind of a record. Exactly one of four header names in its block says it.
 #[derive(Clone, Copy, Debug, PartialEq, Eq)]
 pub enum RecordKind {
     Version,
@@ -13,20 +13,20 @@ pub enum RecordKind {
     Node,
 }
 
-/// What a record is, with what only a record of its kind has.
+/// The kind of a record, with the values that only this kind has.
 #[derive(Clone, Copy)]
 pub(crate) enum KindParts {
     Version { number: u8 },
     Uuid,
     Revision { number: u64 },
     Node { path: ValuePlace },
-    /// What it is copied from is read of its lines when it is asked for: copies are few, and a record is sent between
-    /// threads.
+    /// A caller that asks for the copy source reads it from the header lines. It isn't stored here, because copies are
+    /// rare and records are sent between threads.
     Copy { path: ValuePlace },
 }
 
 impl KindParts {
-    /// The format version in force for a record with these parts, where this one was in force before.
+    /// The format version in force for a record of this kind; `before` was in force before it.
     pub(crate) fn version_from(&self, before: u8) -> u8
         ensures { result ≡ unwrap_or (version_in self.now) before }
     {

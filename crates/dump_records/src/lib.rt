@@ -1,10 +1,10 @@
-//! The records of a Subversion dump: a cutter gives them one after another, as views into the dump.
+//! The records of a Subversion dump: a cutter returns them one after another, as views of the dump.
 //!
-//! A [`Record`] is a block of header lines, then its properties, then its text. [`Cutter::next`] gives
-//! the next one, or says how the list of records ends: with the dump, or at a byte where there is no
-//! record, with the first fault that holds there. After its end a cutter gives the same end again. A
-//! record is a view that can be copied. It holds places of the dump and what its header lines say,
-//! which are read once, and lends parts of the dump.
+//! A [`Record`] is a block of header lines, then its properties, then its text. [`Cutter::next`] returns
+//! the next record, or says how the list of records ends: at the end of the dump, or at a byte where
+//! there is no record, with the first fault that holds there. After the end a cutter returns the same
+//! end at each call. A record is a view that can be copied. It holds places in the dump and what its
+//! header lines say, which the cutter reads once, and it returns slices of the dump.
 //!
 //! ```
 //! let mut cutter = Cutter::new(dump);
@@ -16,8 +16,8 @@
 //! }
 //! ```
 //!
-//! `tests::are_in_force` runs this: it compares the format version in force for each record. What
-//! `next` gives is one of three:
+//! `tests::are_in_force` runs this: it compares the format version in force for each record. `next`
+//! returns one of these three:
 //!
 //! ```
 //! match cut {
@@ -30,9 +30,9 @@
 //! `tests::seen_in` runs this.
 //!
 //! [`laws`] states two laws of dumps: no record begins another, and each dump has exactly one list of
-//! records. This crate looks at each record by itself: not at the order of nodes and revisions, nor at
-//! property blocks, digests, copy sources and mergeinfo. It reads format versions 2 and 3 and no
-//! other; a concatenated dump may have both. It takes no memory.
+//! records. This crate looks at each record by itself. It checks neither the order of nodes and
+//! revisions nor property blocks, digests, copy sources and mergeinfo. It reads format versions 2 and 3
+//! and no other; a concatenated dump may have both. It allocates nothing.
 #![tactic(auto)]
 
 mod cutter;

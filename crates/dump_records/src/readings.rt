@@ -1,8 +1,8 @@
-//! What is read of header lines.
+//! What is read from header lines.
 use crate::kind::KindParts;
 use dump_text::ValuePlace;
 
-/// What a header line gives whose value may be a number.
+/// What was read from a header line whose value should be a number.
 #[derive(Clone, Copy)]
 pub(crate) struct NumberRead {
     pub(crate) number: Option<u64>,
@@ -10,7 +10,7 @@ pub(crate) struct NumberRead {
     pub(crate) is_shortest: bool,
 }
 
-/// The numbers that header lines give.
+/// The numbers in header lines.
 #[derive(Clone, Copy)]
 pub(crate) struct Numbers {
     pub(crate) version: Option<u64>,
@@ -19,7 +19,7 @@ pub(crate) struct Numbers {
     pub(crate) props: Option<u64>,
     pub(crate) text: Option<u64>,
     pub(crate) content: Option<u64>,
-    /// Whether each of them but the version is in its shortest spelling.
+    /// Whether each of them except the version is in its shortest spelling.
     pub(crate) are_shortest: bool,
 }
 
@@ -30,8 +30,8 @@ pub(crate) struct Lengths {
     pub(crate) text: u64,
 }
 
-/// What the header lines of a record say, and the format version that is in force for it. What is small stands side by
-/// side, since a record is sent between threads.
+/// What the header lines of a record say, and the format version in force for it. Small fields are next to each other
+/// to save space, since a record is sent between threads.
 #[derive(Clone, Copy)]
 pub(crate) struct RecordHeader {
     pub(crate) parts: KindParts,
@@ -42,9 +42,9 @@ pub(crate) struct RecordHeader {
     pub(crate) has_props: bool,
     pub(crate) has_text: bool,
     pub(crate) has_content: bool,
-    /// Whether the header of a delta says `true`, which counts in a node under version 3 alone.
+    /// Whether the value of `Text-delta` is `true`; this has a meaning only in a node under version 3.
     pub(crate) text_delta: bool,
-    /// The same of the property block.
+    /// The same of `Prop-delta` and the property block.
     pub(crate) prop_delta: bool,
     pub(crate) is_written: bool,
 }

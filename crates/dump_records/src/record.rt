@@ -1,4 +1,4 @@
-//! A record of a dump, as a view into it.
+//! A record of a dump, as a view of the dump.
 ghost use Rattle.std.specs.Prelude.{drop, ◌+◌, ◌<◌, ◌≤◌, ◌^◌};
 ghost use Rattle.dump_text.specs.steps.Views.{block_dump, block_place, block_after, block_headers};
 ghost use Rattle.dump_records.specs.RecordText.{BeginsWithRecord};
@@ -11,7 +11,7 @@ use crate::kind::{KindParts, RecordKind};
 use crate::readings::RecordHeader;
 use dump_text::{Block, HeaderName, number};
 
-/// A part of a record, behind which the others stand in this order.
+/// The parts of a record, in the order in which a record has them.
 #[derive(Clone, Copy)]
 pub enum RecordPart {
     /// Its header lines.
@@ -22,8 +22,8 @@ pub enum RecordPart {
     Text,
 }
 
-/// A record of a dump, with its number there, what its header lines say and the format version in force for it. Every
-/// slice that it lends is a part of the dump.
+/// A record of a dump, with its number, what its header lines say, and the format version in force for it. Each slice
+/// that it returns is a part of the dump.
 #[derive(Clone, Copy)]
 pub struct Record<'a> {
     pub(crate) block: Block<'a>,
@@ -69,21 +69,21 @@ impl<'a> Record<'a> {
         self.block.place()
     }
 
-    /// The byte behind its text.
+    /// The place of the first byte after its text.
     pub fn after(&self) -> usize
         ensures { result ≡ place_after (record_item self.now) }
     {
         self.after
     }
 
-    /// The format version in force for it: that of the last version record up to it; of a version record its own.
+    /// The format version in force for it: that of the last version record up to it, which may be this record.
     pub fn version(&self) -> u64
         ensures { result ≡ (record_item self.now).version }
     {
         u64::from(self.header.version)
     }
 
-    /// What it is.
+    /// The kind of record.
     pub fn kind(&self) -> RecordKind
         ensures { result ≡ kind_of (record_item self.now).headers }
     {
@@ -126,7 +126,7 @@ impl<'a> Record<'a> {
         }
     }
 
-    /// The value of the header of this name, of a node that is copied.
+    /// The value of the header of this name, if the record is a node with a copy source.
     fn of_copy(&self, name: HeaderName) -> Option<&'a [u8]>
         ensures value { option_copied result ≡ (if is_copied_node self.now.header.parts
             then header_value (name_text name) (record_item self.now).headers else None) }
@@ -168,7 +168,7 @@ impl<'a> Record<'a> {
         }
     }
 
-    /// Whether its lines say that it is a file.
+    /// Whether the value of its `Node-kind` is `file`.
     pub fn is_file(&self) -> bool
         ensures { result ≡ bytes_eq (unwrap_or (header_value node_kind_name (record_item self.now).headers) [])
             (codes "file") }
@@ -176,21 +176,21 @@ impl<'a> Record<'a> {
         self.header.is_file
     }
 
-    /// Whether its text is a delta: only of a node under version 3 whose header says `true`.
+    /// Whether its text is a delta: it is a node under version 3, and its `Text-delta` is `true`.
     pub fn text_delta(&self) -> bool
         ensures { result ≡ has_text_delta (record_item self.now) }
     {
         self.may_have_delta() && self.header.text_delta
     }
 
-    /// Whether its property block is a delta: only of a node under version 3 whose header says `true`.
+    /// Whether its property block is a delta: it is a node under version 3, and its `Prop-delta` is `true`.
     pub fn prop_delta(&self) -> bool
         ensures { result ≡ has_prop_delta (record_item self.now) }
     {
         self.may_have_delta() && self.header.prop_delta
     }
 
-    /// Whether its lines say that its text or its property block is a delta, whatever it is and under any version.
+    /// Whether its `Text-delta` or its `Prop-delta` is `true`, in a record of any kind and under any version.
     pub fn says_delta(&self) -> bool
         ensures { let r = record_item self.now in
             result ≡ (says_true prop_delta_name r.headers || says_true text_delta_name r.headers) }
@@ -198,14 +198,14 @@ impl<'a> Record<'a> {
         self.header.prop_delta || self.header.text_delta
     }
 
-    /// Whether it is a node under version 3: a delta may be part of it, and its properties may be deleted.
+    /// Whether it is a node under version 3; only such a node may have deltas or delete properties.
     pub fn may_have_delta(&self) -> bool
         ensures { let r = record_item self.now in result ≡ (has_header path_name r.headers && r.version == 3) }
     {
         self.is_node() && self.header.version == 3
     }
 
-    /// The MD5 digest that its lines tell of its text.
+    /// The value of `Text-content-md5`.
     pub fn md5(&self) -> Option<&'a [u8]>
         ensures value { option_copied result ≡ header_value md5_name (record_item self.now).headers }
         ensures lent { IfSome result (λ digest. IsInBlock self.now digest.now) }
@@ -213,7 +213,7 @@ impl<'a> Record<'a> {
         self.block.value_at(self.header.md5)
     }
 
-    /// The SHA-1 digest that its lines tell of its text.
+    /// The value of `Text-content-sha1`.
     pub fn sha1(&self) -> Option<&'a [u8]>
         ensures value { option_copied result ≡ header_value sha1_name (record_item self.now).headers }
         ensures lent { IfSome result (λ digest. IsInBlock self.now digest.now) }
@@ -221,36 +221,36 @@ impl<'a> Record<'a> {
         self.block.value_at(self.header.sha1)
     }
 
-    /// Whether it has a length for properties.
+    /// Whether it has a `Prop-content-length`.
     pub fn has_props(&self) -> bool
         ensures { result ≡ has_header property_length_name (record_item self.now).headers }
     {
         self.header.has_props
     }
 
-    /// Whether it has a length for a text.
+    /// Whether it has a `Text-content-length`.
     pub fn has_text(&self) -> bool
         ensures { result ≡ has_header text_length_name (record_item self.now).headers }
     {
         self.header.has_text
     }
 
-    /// Whether it has a length for its content.
+    /// Whether it has a `Content-length`.
     pub fn has_content(&self) -> bool
         ensures { result ≡ has_header content_length_name (record_item self.now).headers }
     {
         self.header.has_content
     }
 
-    /// Whether its block, under the numbers and lengths that it has, is written as it stands: no number has a leading
-    /// zero, and content has its length.
+    /// Whether the filter writes its block unchanged if it keeps the block's numbers and lengths: none of them has a
+    /// leading zero, and there is a `Content-length` if there is content.
     pub fn is_written(&self) -> bool
         ensures { result ≡ are_written (record_item self.now).headers }
     {
         self.header.is_written
     }
 
-    /// Its properties, where it has a length for them.
+    /// Its property block, if it has a length for it.
     pub fn props(&self) -> Option<&'a [u8]>
         ensures value { let r = record_item self.now in
             option_copied result ≡ part_with property_length_name r r.props }
@@ -264,7 +264,7 @@ impl<'a> Record<'a> {
         }
     }
 
-    /// Its text, where it has a length for it.
+    /// Its text, if it has a length for it.
     pub fn text(&self) -> Option<&'a [u8]>
         ensures value { let r = record_item self.now in
             option_copied result ≡ part_with text_length_name r r.text }
@@ -278,14 +278,14 @@ impl<'a> Record<'a> {
         }
     }
 
-    /// Its property block; no bytes where it has no length for one.
+    /// Its property block; empty if it has no length for one.
     pub fn property_bytes(&self) -> &'a [u8]
         ensures { result.now ≡ (record_item self.now).props }
     {
         &self.block.dump()[self.block.after()..self.text_from]
     }
 
-    /// Its text; no bytes where it has no length for one.
+    /// Its text; empty if it has no length for one.
     pub fn text_bytes(&self) -> &'a [u8]
         ensures { result.now ≡ (record_item self.now).text }
     {
@@ -311,7 +311,8 @@ impl<'a> Record<'a> {
         &self.block.dump()[self.start_of(part)..self.after]
     }
 
-    /// Its bytes from this part on with these behind them, where the dump has them there.
+    /// Its bytes from this part on, followed by the bytes of `end`; `None` if the dump doesn't have these after the
+    /// record.
     pub fn bytes_from_with(&self, part: RecordPart, end: &[u8]) -> Option<&'a [u8]>
         ensures lent { IfSome result (λ bytes. bytes.now ≡ bytes_from part (record_item self.now) ++ end.now) }
         ensures there { let r = record_item self.now in

@@ -1,4 +1,4 @@
-//! What no clause says: worked examples, and each call once.
+//! What no contract says: worked examples, and one call of each function.
 use crate::laws::{each_dump_has_one_list, no_record_begins_another};
 use crate::{Cut, Cutter, Record, RecordKind, RecordPart};
 use dump_text::FaultKind;
@@ -11,18 +11,18 @@ const VERSION_THREE: &[u8] = b"SVN-fs-dump-format-version: 3\n\n";
 
 const UUID: &[u8] = b"UUID: 7bf7a5ef-cabf-0310-b7d4-93df341afa7e\n\n";
 
-/// A revision, with one LF behind it.
+/// A revision with one LF after it.
 const REVISION: &[u8] =
     b"Revision-number: 0\nProp-content-length: 56\nContent-length: 56\n\nK 8\nsvn:date\nV 27\n2024-01-02T03:04:05.000000Z\nPROPS-END\n\n";
 
-/// A revision with a header that only a node has a use for.
+/// A revision with a header that has a meaning only in a node.
 const COPYING_REVISION: &[u8] =
     b"Revision-number: 4\nNode-copyfrom-path: other/f\nProp-content-length: 10\nContent-length: 10\n\nPROPS-END\n";
 
 const NODE: &[u8] =
     b"Node-path: trunk/f\nNode-kind: file\nNode-action: add\nNode-copyfrom-rev: 3\nNode-copyfrom-path: other/f\nText-content-length: 3\nContent-length: 3\n\nabc";
 
-/// What a call of `next` gives.
+/// The result of a call of `next`.
 #[derive(Clone, Copy, Debug, PartialEq, Eq)]
 enum Seen {
     Item(u64),
@@ -53,7 +53,7 @@ fn next_record<'a>(cutter: &mut Cutter<'a>) -> Result<Record<'a>, Fail> {
     }
 }
 
-/// Whether so many records are cut, and then this is told again and again.
+/// Whether this many records are cut, and each later call then gives the same end.
 fn ends_behind(dump: &[u8], count: u64, end: Seen) -> bool {
     let mut cutter = Cutter::new(dump);
     for number in 0..count {
@@ -100,7 +100,8 @@ fn the_first_record_is_a_version_record(rt: HostRuntime) {
     }
 }
 
-/// Whether the bytes from a part are lent, with one LF behind them and not with two.
+/// Whether `bytes_from` returns `bytes`, `bytes_from_with` returns `with` for one LF after the record, and two LFs
+/// aren't there.
 fn is_lent(record: &Record<'_>, part: RecordPart, bytes: &[u8], with: &[u8]) -> bool {
     record.bytes_from(part) == bytes
         && record.bytes_from_with(part, b"\n") == Some(with)
@@ -151,7 +152,7 @@ fn no_version_but_two_and_three_is_read(rt: HostRuntime) {
     }
 }
 
-/// Whether the records of a dump stand under these versions.
+/// Whether these versions are in force for the records of a dump.
 fn are_in_force(dump: &[u8], versions: [u64; 8]) -> bool {
     let mut cutter = Cutter::new(dump);
     for version in versions {
@@ -290,7 +291,7 @@ fn header_lines_that_break_a_rule_are_a_fault(rt: HostRuntime) {
     }
 }
 
-/// Whether a record has this kind, number, place and place behind it.
+/// Whether a record has this kind, number, place and end.
 fn is_placed(item: &Record<'_>, kind: RecordKind, places: (u64, usize, usize)) -> bool {
     item.kind() == kind && (item.number(), item.place(), item.after()) == places
 }
@@ -334,7 +335,7 @@ fn has_block(node: &Record<'_>) -> bool {
         && block.get(b"Node-kind") == Some(b"file".as_slice())
 }
 
-/// A version, a UUID, a revision with a header that only a node has a use for, and a node.
+/// A version, a UUID, a revision with a header that has a meaning only in a node, and a node.
 const FOUR: &[u8] = b"SVN-fs-dump-format-version: 2\n\n\
 UUID: 7bf7a5ef-cabf-0310-b7d4-93df341afa7e\n\n\
 Revision-number: 4\nNode-copyfrom-path: other/f\nProp-content-length: 10\nContent-length: 10\n\nPROPS-END\n\
@@ -374,7 +375,7 @@ fn what_the_lines_of_a_node_say_is_read(rt: HostRuntime) -> Result<(), Fail> {
     Ok(())
 }
 
-/// Whether the block of the first record behind the version is written as it stands.
+/// Whether the filter would write the block of the record after the version record unchanged.
 fn is_written(alloc: Global, lines: &[u8], content: &[u8]) -> Result<bool, Fail> {
     let dump = joined(alloc, &[VERSION, lines, b"\n", content])?;
     let mut cutter = Cutter::new(&dump);

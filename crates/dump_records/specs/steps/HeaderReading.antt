@@ -1,4 +1,4 @@
--- What is read of the header lines of a record.
+-- What is read from the header lines of a record.
 use Rattle.std.specs.Prelude.{◌≡◌, ◌<◌, ◌+◌, ◌==◌, ◌^◌, ℕ, Bool, true, ◌&&◌, ◌||◌, List, [], Option, Some, None, bytes_eq, codes, unwrap_or}
 use Rattle.dump_text.specs.declared.headers.Headers.{Headers}
 use Rattle.dump_text.specs.Number.{spelled_number}
@@ -16,27 +16,27 @@ use Rattle.dump_records.specs.steps.KindReading.{IsKindOf}
 abbrev pub lines_of : Headers → List Header
 lines_of headers = block_headers (headers_block headers)
 
--- the dump that they stand in
+-- the dump that contains them
 abbrev pub dump_of : Headers → List ℕ
 dump_of headers = block_dump (headers_block headers)
 
--- whether digits, where they are a number, are written as that number is
+-- whether the digits, if they are a number, are the shortest spelling of it
 abbrev pub are_spelled : Option (List ℕ) → Option ℕ → Bool
 are_spelled (Some digits) (Some n) = bytes_eq digits (spelled_number n)
 are_spelled (Some digits) None = true
 are_spelled None n = true
 
--- whether the number of this name, if there is one, is written so
+-- the same of the header with this name, if there is one
 abbrev pub is_spelled : List ℕ → List Header → Bool
 is_spelled name headers = are_spelled (header_value name headers) (header_number name headers)
 
--- whether each number but that of a version is written so
+-- the same of each number except the version
 abbrev pub are_numbers_shortest : List Header → Bool
 are_numbers_shortest headers =
     is_spelled revision_name headers && is_spelled copy_revision_name headers && is_spelled property_length_name headers
     && is_spelled text_length_name headers && is_spelled content_length_name headers
 
--- the numbers are those that the lines give, and the lengths are small
+-- the numbers are those of the lines, and the lengths are small
 pub record AreNumbers (headers : List Header) (numbers : Numbers) : Type 0 where
   pub version : numbers.version ≡ header_number version_name headers
   pub revision : numbers.revision ≡ header_number revision_name headers
@@ -48,13 +48,13 @@ pub record AreNumbers (headers : List Header) (numbers : Numbers) : Type 0 where
   pub text_small : text_length headers < 10 ^ 18
   pub shortest : numbers.are_shortest ≡ are_numbers_shortest headers
 
--- whether lines under the numbers and lengths that they have are written as they stand
+-- whether the filter writes the lines unchanged if it keeps their numbers and lengths
 abbrev pub are_written : List Header → Bool
 are_written headers =
     are_numbers_shortest headers
     && (has_header content_length_name headers || property_length headers + text_length headers == 0)
 
--- the header says what the lines say, which stand in the dump
+-- the header says what the lines say, whose values are in the dump
 pub record IsHeaderOf (dump : List ℕ) (headers : List Header) (h : RecordHeader) : Type 0 where
   pub kind : IsKindOf dump headers h.parts
   pub file : h.is_file ≡ bytes_eq (unwrap_or (header_value node_kind_name headers) []) (codes "file")

@@ -1,4 +1,4 @@
--- What a record is, with the parts that its kind has, as its header lines say it.
+-- The kind of a record with the values that only this kind has, as its header lines say them.
 use Rattle.std.specs.Prelude.{◌≡◌, ℕ, Bool, true, false, List, Option, Some, None, ◌&&◌}
 use Rattle.dump_text.specs.Names.{version_name, uuid_name, revision_name, path_name, copy_path_name}
 use Rattle.dump_text.specs.HeaderLine.{Header, has_header, header_value}
@@ -61,7 +61,7 @@ is_revision (Revision number) = true
 is_revision (Node path) = false
 is_revision (Copy path) = false
 
--- the parts are those that the lines say, which stand in the dump
+-- the parts are what the lines say, and their places are in the dump
 pub record IsKindOf (dump : List ℕ) (headers : List Header) (parts : KindParts) : Type 0 where
   pub version : is_version parts ≡ has_header version_name headers
   pub uuid : is_uuid parts ≡ has_header uuid_name headers

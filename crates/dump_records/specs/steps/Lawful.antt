@@ -1,4 +1,4 @@
--- What reading the header lines of a block finds.
+-- The result of reading the header lines of a block.
 use Rattle.std.specs.Prelude.{◌≡◌, ℕ, ◌<◌, ◌^◌, List, IsTrue, IsFalse, if◌then◌else◌}
 use Rattle.dump_text.specs.declared.fault.FaultKind.{FaultKind}
 use Rattle.dump_text.specs.declared.fault.FaultKind.TheVariants as faults
@@ -7,7 +7,7 @@ use Rattle.dump_records.specs.HeaderRules.{property_length, text_length, has_bad
 use Rattle.dump_records.specs.RecordText.{is_lawful}
 use Rattle.dump_records.specs.declared.readings.Lengths.{Lengths}
 
--- the lines break no rule, and the lengths are theirs
+-- the lines break no rule, and these are their lengths
 pub record LengthsOf (number : ℕ) (headers : List Header) (found : Lengths) : Type 0 where
   pub lawful : IsTrue (is_lawful number headers)
   pub props_is : found.props ≡ property_length headers
@@ -15,7 +15,7 @@ pub record LengthsOf (number : ℕ) (headers : List Header) (found : Lengths) : 
   pub props_small : found.props < 10 ^ 18
   pub text_small : found.text < 10 ^ 18
 
--- the first rule that lines break which break one
+-- the first rule that the lines break, if they break one
 abbrev pub header_fault : ℕ → List Header → FaultKind
 header_fault number headers =
     if has_bad_kind headers then faults.Kind

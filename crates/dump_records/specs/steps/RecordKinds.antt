@@ -5,7 +5,7 @@ use Rattle.dump_text.specs.HeaderLine.{Header, has_header}
 use Rattle.dump_records.specs.declared.kind.RecordKind.{RecordKind}
 use Rattle.dump_records.specs.declared.kind.RecordKind.TheVariants.{Version, Uuid, Revision, Node}
 
--- the kind of record, by the deciding name that the block has
+-- the kind of record, by the header name that says it
 abbrev pub kind_of : List Header → RecordKind
 kind_of headers =
     if has_header version_name headers then Version

@@ -1,4 +1,4 @@
--- Where the parts of a record stand in its dump.
+-- Where the parts of a record are in its dump.
 use Rattle.std.specs.Prelude.{ℕ, ◌+◌, List, length, slice_range}
 use Rattle.dump_text.specs.HeaderBlock.{block_text}
 use Rattle.dump_text.specs.steps.ReadHeaders.{headers_between}
@@ -12,7 +12,7 @@ props_place r = r.place + length (block_text r.headers)
 abbrev pub text_place : DumpRecord → ℕ
 text_place r = props_place r + length r.props
 
--- the byte behind it
+-- the byte after it
 abbrev pub place_after : DumpRecord → ℕ
 place_after r = text_place r + length r.text
 

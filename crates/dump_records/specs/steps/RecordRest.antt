@@ -1,4 +1,4 @@
--- A record's bytes from one of its parts on.
+-- The bytes of a record from one of its parts on.
 use Rattle.std.specs.Prelude.{ℕ, List, ◌++◌}
 use Rattle.dump_records.specs.RecordText.{DumpRecord, record_text}
 use Rattle.dump_records.specs.declared.record.RecordPart.{RecordPart}

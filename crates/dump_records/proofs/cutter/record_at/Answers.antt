@@ -29,7 +29,7 @@ returns-then-left-lengths-clause-fault c =
     (sym same) c.in_ok-found.ensures.1)
     (omega arith)
 
--- what is read of a block that was cut at a place of the dump: the record that stands there
+-- what is read of a block that was cut at a place of the dump: the record that is there
 record IsReadAt (dump : List ℕ) (number place before : ℕ) (b : Block) (header : RecordHeader) (text_from after : ℕ)
     : Type 0 where
   dump_is : block_dump b ≡ dump

@@ -2,7 +2,7 @@ use Rattle.dump_records.proofs.Prelude.{◌≡◌, ◌⊎◌, List, ℕ, ap, sym
 use Rattle.dump_records.proofs.RecordLemmas.{copy_in_block}
 use Rattle.dump_records.proofs.record.Record.path.Goals as goal
 
--- a node's path stands at its place, whether it is copied or not
+-- a node's path is at its place, whether it is copied or not
 path_at : (dump : List ℕ) (parts : KindParts) (path : ValuePlace)
     → (parts ≡ Node path) ⊎ (parts ≡ Copy path)
     → value_at dump path ≡ path_in dump parts
