@@ -80,7 +80,7 @@ pub cut_begins : (path : List ℕ) (n : ℕ) → n < length path → get_or path
     → list_any (λ prefix. begins_path prefix path) prefixes ≡ true
 cut_begins path n low slash = any_keeps _ _ (begins_cut path n low slash)
 
--- where no prefix is empty, the path, or the part of it before one of its slashes, none begins it
+-- if no prefix is empty, the path, or the part of it before one of its slashes, no prefix begins the path
 pub none_begins : (path : List ℕ) (near longest : ℕ) → ((n : ℕ) → n ≤ longest → n < length path → n < near)
     → (prefixes : List (List ℕ)) → AreWithin longest prefixes
     → list_any (λ prefix. bytes_eq [] prefix) prefixes ≡ false
@@ -99,7 +99,7 @@ none_begins path near longest reach (prefix ∷ prefixes) within some other clea
 
 -- one more prefix
 
--- whether some of the first bare prefixes passes a test, where one more stands there
+-- whether some of the first bare prefixes passes a test, if there is one more
 bare_more : (prefixes : List (List ℕ)) (place : ℕ) → place < length prefixes → (test : List ℕ → Bool)
     → list_any test (map bare_prefix (take (place + 1) prefixes))
     ≡ (list_any test (map bare_prefix (take place prefixes)) || (test (bare_at prefixes place) || false))
@@ -117,7 +117,7 @@ place_more prefixes index place low all test =
     list_any-append (λ n. test (bare_at prefixes n)) index (place ∷ [])
     ∙ ap (λ b. b || (test (bare_at prefixes place) || false)) (all test) ∙ sym (bare_more prefixes place low test)
 
--- texts within a length are within a greater one
+-- texts that aren't longer than a length aren't longer than a greater one
 pub within_wider : (low high : ℕ) → low ≤ high → (texts : List (List ℕ)) → AreWithin low texts → AreWithin high texts
 within_wider low high up texts within = false_from_ne_true _ (λ some. both_ways _ within
     (any_keeps _ _ (λ text long. lt-ltb _ _ (further text (ltb-true _ _ long))) texts some))
@@ -125,7 +125,7 @@ within_wider low high up texts within = false_from_ne_true _ (λ some. both_ways
     further : (text : List ℕ) → high < length text → low < length text
     further text long = omega arith
 
--- the first bare prefixes and the next one are within a length that is no less than theirs
+-- the first bare prefixes and the next one aren't longer than a length that is no less than theirs
 pub within_more : (prefixes : List (List ℕ)) (place low high : ℕ) → place < length prefixes → low ≤ high
     → length (bare_at prefixes place) ≤ high → AreWithin low (map bare_prefix (take place prefixes))
     → AreWithin high (map bare_prefix (take (place + 1) prefixes))

@@ -17,7 +17,7 @@ slash_behind (a ∷ prefix) (b ∷ path) =
     (eq_sym a b)
     ∙ sym (and_assoc (nat_eq b a) (bytes_eq (take (length prefix) path) prefix) _)
 
--- a mapped list has an element that passes where the list has one whose image passes
+-- a mapped list has an element that passes if the list has one whose image passes
 pub any_mapped : {X Y : Type 0} (f : X → Y) (p : Y → Bool) (xs : List X) → list_any p (map f xs) ≡ list_any
     (λ x. p (f x)) xs
 any_mapped f p [] = refl

@@ -1,4 +1,4 @@
--- Kept revisions that rise: how many stand up to a number, their new numbers and their images.
+-- Kept revisions that rise: how many are up to a number, their new numbers and their images.
 use Rattle.dump_rules.proofs.Prelude.{◌≡◌, ◌⊎◌, ℕ, zero, suc, ◌+◌, ◌<◌, ◌≤◌, Bool, true, false, cond, List, [], ◌∷◌, ◌++◌, length, get_or, nat_lt, nat_le, refl, sym, ap, ◌∙◌, inl, inr, arith, Some, None, Option, option_map, count_by, filter, append-nil, lt-ltb, last_or, IsNonDecreasing, IsPartitionedBy, IsPartitionPoint, leb_tells, nat_tests, All-head, All-tail, filter-append, IsPartitionedBy-leb, IsPartitionedBy-ltb, IsPartitionPoint-from_clause, Bor, sum_by-cons, sum_by_push, KeptRevisions, new_number, last_kept, image, RiseFrom}
 use Rattle.std.proofs.Common.{All}
 use Rattle.std.specs.Fn.{Called, ComputesKey}
@@ -22,7 +22,7 @@ below-cons n k numbers = sum_by-cons (λ j. cond (nat_lt j n) 1 0) k numbers
 pub up_to-cons : (n k : ℕ) (numbers : List ℕ) → up_to n (k ∷ numbers) ≡ cond (nat_le k n) 1 0 + up_to n numbers
 up_to-cons n k numbers = sum_by-cons (λ j. cond (nat_le j n) 1 0) k numbers
 
--- the test for less fails of a number that isn't smaller
+-- the test for less is false for a number that isn't smaller
 pub is_not_below : (k n : ℕ) → n ≤ k → nat_lt k n ≡ false
 is_not_below k n h = grind (arith, nat_tests)
 
@@ -37,7 +37,7 @@ none_below first n (k ∷ numbers) low up =
     let later = none_below (k + 1) n numbers (omega arith) up.1 in
     below-cons n k numbers ∙ rw (is_not_below k n (omega arith), later) refl
 
--- the last number up to n: there is none and what was before stays, or it has all the others up to n below it
+-- the last number up to n: either there is none and the earlier one remains, or all others up to n are below it
 abbrev EndsUpTo : ℕ → ℕ → List ℕ → Option ℕ → Type 0
 EndsUpTo first n numbers before =
     ((up_to n numbers ≡ 0) × (last_or before (filter (λ k. nat_le k n) numbers) ≡ before))
@@ -70,7 +70,7 @@ last_up_to first n (k ∷ numbers) before up =
     left (inl none) fails over = inl (up_to-cons n k numbers ∙ rw (fails, none.0) refl, rw fails none.1)
     left (inr some) fails over = let higher = some.2 in let within = some.3 in absurd (omega arith)
 
--- how many numbers stand before one of them, and of the whole list
+-- how many numbers are before one of them, and of the whole list
 
 -- a new number is at most the old one
 pub new_number_fits : (kept : KeptRevisions) (n : ℕ) → RiseFrom kept.first kept.numbers → kept.first ≤ n
@@ -156,7 +156,7 @@ image_fits kept n m up is = elim (last_up_to kept.first n kept.numbers None up) 
 
 -- one more kept revision
 
--- numbers that rise still do with a higher one behind them
+-- numbers that rise still do with a higher one after them
 pub rise_pushed : (first n : ℕ) (numbers : List ℕ) → RiseFrom first numbers → All (λ k. k < n) numbers → first ≤ n
     → RiseFrom first (numbers ++ n ∷ [])
 rise_pushed first n [] up all low = (low, tt)
@@ -207,12 +207,12 @@ image_pushed kept n r low =
       | inr within ↦ ap Some (new_number_pushed kept n last (omega arith))
     ]
 
--- behind one more element that is the last
+-- after one more element that is the last
 pub last_or_pushed : {A : Type 0} (before : Option A) (xs : List A) (x : A) → last_or before (xs ++ x ∷ []) ≡ Some x
 last_or_pushed before [] x = refl
 last_or_pushed before (y ∷ xs) x = last_or_pushed (Some y) xs x
 
--- from its own number on it gives the image
+-- from its own number on, its new number is the image
 pub image_at_pushed : (kept : KeptRevisions) (n r : ℕ) → All (λ k. k < n) kept.numbers → n ≤ r
     → image (record kept { numbers = kept.numbers ++ n ∷ [] }) r ≡ Some (kept.first + length kept.numbers)
 image_at_pushed kept n r all low =
@@ -244,16 +244,16 @@ rises first (k ∷ numbers) up (suc i) (suc j) d under within = rises (k + 1) nu
     (omega arith)
 rises first numbers up i j d under within = absurd (omega arith)
 
--- what a search asks of the kept numbers
+-- what a search needs to know of the kept numbers
 pub parted_from_rise : (first n : ℕ) (numbers : List ℕ) → RiseFrom first numbers
     → IsPartitionedBy (λ k. nat_le k n) numbers
 parted_from_rise first n numbers up = IsPartitionedBy-leb (λ k. k) numbers n (rises first numbers up)
 
--- where numbers rise, those below n stand in front of the others
+-- if the numbers rise, those below n come before the others
 pub parted_below : (first n : ℕ) (numbers : List ℕ) → RiseFrom first numbers → IsPartitionedBy (λ k. nat_lt k n) numbers
 parted_below first n numbers up = IsPartitionedBy-ltb (λ k. k) numbers n (rises first numbers up)
 
--- what it finds counts those that pass
+-- the result of the search is how many pass
 pub count_at_point : (p : ℕ → Bool) (i : ℕ) (numbers : List ℕ) → i ≤ length numbers
     → IsPartitionPoint (λ k. p k ≡ true) (λ k. p k ≡ false) numbers i → i ≡ count_by p numbers
 count_at_point p i [] within point = omega arith

@@ -1,7 +1,7 @@
-//! Range lists in any order, held against themselves block by block. Only ranges of unlike kinds
-//! contradict each other, so those of one kind are held, some thousands at a time and in order, and
-//! each of the other kind is searched in them: a list of n ranges is read at most n / (2 * BLOCK_SIZE)
-//! times and once more. A block takes no memory but the stack's.
+//! Looks for contradictions in range lists of any order, block by block. Only ranges of different kinds contradict
+//! each other. So a block holds up to some thousands of ranges of one kind, sorted, and each range of the other kind
+//! is looked up in it. A list of n ranges is read at most n / (2 * BLOCK_SIZE) times and once more. A block is on the
+//! stack; nothing is allocated.
 ghost use Rattle.std.specs.Prelude.{◌≡◌, ℕ, ◌+◌, ◌≤◌, ◌∷◌, IfSome, length, option_copied};
 ghost use Rattle.std.specs.List.{list_any};
 ghost use Rattle.std.specs.List.Sorted.{IsNonDecreasingBy};
@@ -11,20 +11,20 @@ ghost use Rattle.dump_rules.specs.steps.ReadRanges.{range_of, range_parts};
 use crate::ranges::range;
 use dump_text::find;
 
-/// How many ranges are held at a time: 64 KiB of the stack.
+/// The number of ranges in a block: 64 KiB of the stack.
 const BLOCK_SIZE: usize = 4096;
 
-/// The ends of a range whose kind is known.
+/// The ends of a range whose kind the caller knows.
 #[derive(Clone, Copy)]
 struct Ends {
     from: u64,
     to: u64,
 }
 
-/// What a place of a block holds before a range is read into it.
+/// The entry of a block before a range is read into it.
 const NO_ENDS: Ends = Ends { from: 0, to: 0 };
 
-/// The first part of a list, and those behind its comma, if it has one.
+/// The first part of a list, and the rest after its comma, if it has one.
 fn first_part(list: &[u8]) -> (&[u8], Option<&[u8]>)
     ensures parts { range_parts list.now ≡ result.0.now ∷ parts_left (option_copied result.1) }
     ensures shorter { IfSome result.1 (λ rest. length rest.now + 1 ≤ length list.now) }
@@ -35,8 +35,8 @@ fn first_part(list: &[u8]) -> (&[u8], Option<&[u8]>)
     }
 }
 
-/// Reads ranges from the front of a list, and those of one kind into the block, as many as it takes.
-/// It tells how many these are and the parts behind them, or that one of them isn't a range.
+/// Reads ranges from the front of a list, and stores those of one kind in the block until it is full. Returns how many
+/// it stored and the rest of the list, or `None` if a part isn't a range.
 fn fill<'a>(
     block: &mut [Ends; BLOCK_SIZE],
     inheritable: bool,
@@ -77,7 +77,8 @@ fn raise(block: &mut [Ends])
     }
 }
 
-/// Puts the ranges into an order to be searched, with which the same ranges have a number in common.
+/// Reorders and widens the ranges so that they can be searched. A range meets one of the new ones exactly if it meets
+/// one of the old ones.
 fn arrange(block: &mut [Ends])
     ensures from_rises { IsNonDecreasingBy (λ ends. ends.from) block.new }
     ensures to_rises { IsNonDecreasingBy (λ ends. ends.to) block.new }
@@ -87,8 +88,8 @@ fn arrange(block: &mut [Ends])
     raise(block);
 }
 
-/// Whether one of the ranges has a number in common with that from one number to another. The last
-/// that begins at or before its end reaches as far as any of those.
+/// Whether one of the ranges has a number in common with the range from `from` to `to`. Of the ranges that begin at or
+/// before `to`, the last one ends last, so it alone is compared.
 fn some_meets(block: &[Ends], from: u64, to: u64) -> bool
     requires from_rises { IsNonDecreasingBy (λ ends. ends.from) block.now }
     requires to_rises { IsNonDecreasingBy (λ ends. ends.to) block.now }
@@ -98,7 +99,7 @@ fn some_meets(block: &[Ends], from: u64, to: u64) -> bool
     begun > 0 && from <= block[begun - 1].to
 }
 
-/// Whether the part is a range that contradicts one of these, which are of this kind.
+/// Whether the part is a range that contradicts one of the block's ranges, which are of this kind.
 fn part_contradicts_some(block: &[Ends], inheritable: bool, part: &[u8]) -> bool
     requires from_rises { IsNonDecreasingBy (λ ends. ends.from) block.now }
     requires to_rises { IsNonDecreasingBy (λ ends. ends.to) block.now }
@@ -112,7 +113,7 @@ fn part_contradicts_some(block: &[Ends], inheritable: bool, part: &[u8]) -> bool
     }
 }
 
-/// Whether a part of the list is a range that contradicts one of these, which are of this kind.
+/// Whether a part of the list is a range that contradicts one of the block's ranges, which are of this kind.
 fn list_contradicts_some(block: &[Ends], inheritable: bool, list: &[u8]) -> bool
     requires from_rises { IsNonDecreasingBy (λ ends. ends.from) block.now }
     requires to_rises { IsNonDecreasingBy (λ ends. ends.to) block.now }
@@ -123,7 +124,7 @@ fn list_contradicts_some(block: &[Ends], inheritable: bool, list: &[u8]) -> bool
         .any(|part| part_contradicts_some(block, inheritable, part))
 }
 
-/// The same of ranges in no order.
+/// The same, if the block isn't sorted yet.
 fn arranged_contradicts_some(block: &mut [Ends], inheritable: bool, list: &[u8]) -> bool
     ensures { result ≡ list_any
         (λ part. block_contradicts inheritable block.old (range_of part)) (range_parts list.now) }
@@ -132,14 +133,14 @@ fn arranged_contradicts_some(block: &mut [Ends], inheritable: bool, list: &[u8])
     list_contradicts_some(block, inheritable, list)
 }
 
-/// Whether fewer parts of the list lack a star than have one.
+/// Whether the list has fewer parts without a star than with one.
 fn lacks_few_stars(list: &[u8]) -> bool {
     let stars = list.iter().filter(|b| **b == b'*').count();
     let commas = list.iter().filter(|b| **b == b',').count();
     stars > commas / 2
 }
 
-/// Whether all parts of the list are ranges of which none contradicts another, whatever their order.
+/// Whether all parts of the list are ranges and no two of them contradict each other, in any order.
 pub(crate) fn each_part_agrees(list: &[u8]) -> bool
     ensures { result ≡ parts_agree (range_parts list.now) (range_parts list.now) }
 {

@@ -1,7 +1,7 @@
-//! Laws of mergeinfo, each the contract of a function that does nothing.
+//! Laws of mergeinfo. Each law is the contract of a function that does nothing.
 ghost use Rattle.dump_rules.specs.RangeLaws.{EachMapHasOneSpelling};
 
-/// Each map that a range list means has exactly one spelling, which is read as that map.
+/// Each map that is the meaning of a range list has exactly one spelling, and this is read as that map.
 pub fn each_map_has_one_spelling()
     ensures { EachMapHasOneSpelling }
 {}

@@ -1,8 +1,8 @@
-//! The rules of the filter: its options, which paths they keep, the new numbers of revisions, and
-//! what becomes of mergeinfo.
+//! The rules of the filter: its options, which paths they keep, the new numbers of revisions, and what
+//! the filter makes of mergeinfo.
 //!
-//! [`Options`] hold what a user asked for: whether nodes are included or excluded, the path prefixes,
-//! what becomes of revisions without a kept node, and three switches.
+//! [`Options`] hold what a user asked for: whether nodes are included or excluded, the prefixes, what
+//! the filter does with revisions without a kept node, and three switches.
 //!
 //! ```
 //! let [renumber, preserve, skip] = flags;
@@ -10,9 +10,9 @@
 //! ```
 //!
 //! `tests::prefixes::is_handed_in` runs this. [`keeps`] says whether options keep a path. A prefix
-//! matches a path by whole names: `trunk` matches `trunk` and `trunk/a`, and not `trunk2`. Slashes at
-//! both ends of a prefix don't count, nor one in front of a path. A prefix of slashes alone, or of
-//! nothing, matches every path. Options that include the prefixes from `/p0000/` to `/p4999/` keep
+//! matches whole names of a path: `trunk` matches `trunk` and `trunk/a`, but not `trunk2`. Slashes at
+//! both ends of a prefix are ignored, and so is one at the front of a path. A prefix that is empty or
+//! only slashes matches every path. Options that include the prefixes from `/p0000/` to `/p4999/` keep
 //! none of these paths:
 //!
 //! ```
@@ -23,7 +23,8 @@
 //! }
 //! ```
 //!
-//! `tests::prefixes::keeps_five_thousand` runs this. [`bare_path`] and [`bare_prefix`] give what is compared:
+//! `tests::prefixes::keeps_five_thousand` runs this. [`bare_path`] and [`bare_prefix`] return what is
+//! compared:
 //!
 //! ```
 //! let prefix = bare_prefix(b"//trunk/");
@@ -32,9 +33,9 @@
 //!
 //! `tests::slashes_at_the_ends_do_not_count` runs this.
 //!
-//! A [`Reach`] is the table of the revisions that were kept so far. Renumbering closes the gaps: kept
-//! revisions count up from the dump's first number, whether or not that revision was kept. A dropped
-//! revision has the new number of the last kept one before it, if there is one.
+//! A [`Reach`] is a table of the revisions that were kept so far. Renumbering closes the gaps: the new
+//! numbers of kept revisions count up from the dump's first number, whether or not the filter keeps that
+//! revision. A dropped revision has the new number of the last kept one before it, if there is one.
 //!
 //! ```
 //! let mut reach = Reach::new(rt.alloc(), 5);
@@ -45,8 +46,8 @@
 //! let rows = [(5, None), (6, fifth), (8, fifth), (9, sixth), (100, sixth)];
 //! ```
 //!
-//! `tests::images_are_of_the_last_kept_revision` runs this, and asks for the image of each revision
-//! of `rows`:
+//! `tests::images_are_of_the_last_kept_revision` runs this, and compares the image of each revision of
+//! `rows`:
 //!
 //! ```
 //! for (revision, image) in rows {
@@ -59,14 +60,15 @@
 //! `tests::has_images` runs this.
 //!
 //! [`merge_reads`] says whether a value of `svn:mergeinfo` is lines of a path, a colon and ranges of
-//! revisions, as `/trunk:1-4,6*`. No line may have a revision both with `*` and without. [`without_lf`]
-//! gives the value without an LF at its end, and [`merge_path_of`] the path of one of its lines.
+//! revisions, as `/trunk:1-4,6*`. A line can't have a revision both with `*` and without. [`without_lf`]
+//! returns the value without an LF at its end, and [`merge_path_of`] returns the path of one of its
+//! lines.
 //!
-//! [`rewrite`] gives the new value: the lines whose paths are kept, each with the runs of its map, in
-//! new numbers if revisions are renumbered. [`laws`] says that a map has no other spelling. Two faults
-//! are reported first: a line whose path is dropped, and a number that the dump can't have. A caller
-//! with several values reads them with [`Merged::with`], asks what they say together, and then makes
-//! each [`new_value`].
+//! [`rewrite`] returns the new value: the lines whose paths are kept, each with the runs of its map, in
+//! new numbers if revisions are renumbered. [`laws`] says that a map has exactly one spelling.
+//! [`rewrite`] reports two faults before it writes anything: a line whose path is dropped, and a number
+//! that the dump can't have. A caller with several values reads them with [`Merged::with`], asks for the
+//! faults of all of them, and then calls [`new_value`] for each.
 //!
 //! ```
 //! let reach = Reach::new(rt.alloc(), 0);
@@ -81,12 +83,12 @@
 //! };
 //! ```
 //!
-//! `tests::rewriting::new_value_or_no_memory` runs this under options that include all paths.
+//! `tests::rewriting::new_value_or_no_memory` runs this with options that include all paths.
 //!
-//! `Options::new` takes memory for its copies of the prefixes, `Reach::push` if its table grows, and
-//! `rewrite` for the value; each says so if there is none. Prefixes are bytes: no pattern, no letter
-//! case and no `..` has a meaning. Of the switches `rewrite` reads two. What the others do is for the
-//! filter, and a `Reach` renumbers whether or not the options ask for it.
+//! `Options::new` allocates memory for copies of the prefixes, `Reach::push` allocates if its table
+//! grows, and `rewrite` allocates the value; each returns an error if an allocation fails. Prefixes are
+//! bytes: patterns, letter case and `..` have no special meaning. `rewrite` reads two of the switches;
+//! the filter reads the others. A `Reach` renumbers whether or not the options ask for it.
 #![tactic(auto)]
 
 mod blocks;

@@ -1,7 +1,7 @@
-//! The error of calls that take memory.
+//! The error of calls that allocate memory.
 use std::alloc::{AllocError, AllocFailed};
 
-/// Memory ran out.
+/// An allocation failed.
 #[derive(Clone, Copy, Debug, PartialEq, Eq)]
 pub struct Memory;
 

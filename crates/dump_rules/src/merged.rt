@@ -1,4 +1,5 @@
-//! What values of svn:mergeinfo say to the filter: whether a source is missing, and which numbers they name.
+//! What values of svn:mergeinfo contain that the filter asks for: whether a source is missing, and the bounds of their
+//! numbers.
 ghost use Rattle.std.specs.Prelude.{◌≡◌, ◌↔◌, ◌==◌, ◌||◌, ℕ, IfSome, IsSome};
 ghost use Rattle.std.specs.List.{slice_split};
 ghost use Rattle.dump_rules.specs.steps.Merged.{is_outside, line_merged, lines_merged, list_bounds, nothing_merged, widened, widened_by};
@@ -12,7 +13,7 @@ use crate::ranges::{Span, list_reads, range};
 use crate::runs::cut_at;
 use dump_text::find;
 
-/// The least and the greatest number of some ranges, as far as they are any: no number lies outside of none.
+/// The least and the greatest number of a set of ranges. Without ranges the least is above the greatest.
 #[derive(Clone, Copy, Debug, PartialEq, Eq)]
 pub struct Bounds {
     least: u64,
@@ -20,13 +21,13 @@ pub struct Bounds {
 }
 
 impl Bounds {
-    /// Those of no range: whatever range comes first has its own.
+    /// The bounds of no ranges. Adding a range to them gives the range's own bounds.
     pub const NONE: Bounds = Bounds {
         least: u64::MAX,
         greatest: 0,
     };
 
-    /// The bounds with those of a range.
+    /// The bounds with a range added.
     fn widened(bounds: Bounds, span: Span) -> Bounds
         ensures { result ≡ widened bounds (span_range span) }
     {
@@ -36,7 +37,7 @@ impl Bounds {
         }
     }
 
-    /// The bounds with those of a part, if it is a range.
+    /// The bounds with a part of a list added, if it is a range.
     fn widened_by(bounds: Bounds, part: &[u8]) -> Bounds
         ensures { result ≡ widened_by bounds (range_of part.now) }
     {
@@ -46,7 +47,7 @@ impl Bounds {
         }
     }
 
-    /// The bounds with those of a list.
+    /// The bounds with the ranges of a list added.
     fn widened_by_list(bounds: Bounds, list: &[u8]) -> Bounds
         ensures { result ≡ list_bounds bounds list.now }
     {
@@ -63,8 +64,8 @@ impl Bounds {
         Bounds::widened_by(bounds, rest)
     }
 
-    /// Whether a number is above `present`, the present revision, or one below `first`, the dump's first, where such
-    /// numbers may not be left out. `options` are those that the numbers were read under.
+    /// Whether a number is above `present`, the present revision, or below `first`, the first revision of the dump.
+    /// The latter doesn't count if missing sources are skipped. `options` are those under which the numbers were read.
     pub fn has_foreign_number(&self, options: &Options, first: u64, present: u64) -> bool
         ensures { result ≡ is_outside options.now first present self.now }
     {
@@ -72,17 +73,17 @@ impl Bounds {
     }
 }
 
-/// What values of svn:mergeinfo say under some options, each read once. It takes no memory.
+/// What some values of svn:mergeinfo say under some options; each value is read once. It allocates nothing.
 #[derive(Clone, Copy, Debug, PartialEq, Eq)]
 pub struct Merged {
-    /// Whether a line's path isn't kept, and such lines may not be left out.
+    /// Whether the path of a line isn't kept, and missing sources aren't skipped.
     misses: bool,
-    /// The bounds of the numbers in lines that stay, where revisions are renumbered.
+    /// The bounds of the numbers in lines whose paths are kept, if revisions are renumbered.
     numbers: Bounds,
 }
 
 impl Merged {
-    /// What no value says.
+    /// What no values say.
     pub fn new() -> Merged
         ensures { result ≡ nothing_merged }
     {
@@ -92,7 +93,7 @@ impl Merged {
         }
     }
 
-    /// What these values and one more say; `None` where it isn't mergeinfo.
+    /// What these values and one more say; `None` if that one isn't mergeinfo.
     pub fn with(self, value: &[u8], options: &Options) -> Option<Merged>
         ensures read { IsSome result ↔ HasMergeLines value.now }
         ensures sources { IfSome result (λ m. m.misses ≡ (self.misses || value_misses options.now value.now)) }
@@ -126,7 +127,7 @@ impl Merged {
         merged.with_line(rest, options)
     }
 
-    /// What these values and a line say; `None` where it isn't a line of mergeinfo.
+    /// What these values and a line say; `None` if it isn't a line of mergeinfo.
     fn with_line(self, line: &[u8], options: &Options) -> Option<Merged>
         ensures { result ≡ line_merged options.now self line.now }
     {
@@ -150,23 +151,23 @@ impl Merged {
         })
     }
 
-    /// Whether a line's path isn't kept, where such lines may not be left out.
+    /// Whether the path of a line isn't kept, and missing sources aren't skipped.
     pub fn misses_source(&self) -> bool
         ensures { result ≡ self.now.misses }
     {
         self.misses
     }
 
-    /// The bounds of the numbers in lines that stay, where revisions are renumbered.
+    /// The bounds of the numbers in lines whose paths are kept, if revisions are renumbered.
     pub fn numbers(&self) -> Bounds
         ensures { result ≡ self.now.numbers }
     {
         self.numbers
     }
 
-    /// Whether revisions are renumbered and a line that stays has a number above `present`, the present revision, or
-    /// one below `first`, the dump's first, where such numbers may not be left out. `options` are those that the values
-    /// were read under.
+    /// Whether revisions are renumbered, and a line whose path is kept has a number above `present`, the present
+    /// revision, or below `first`, the first revision of the dump. The latter doesn't count if missing sources are
+    /// skipped. `options` are those under which the values were read.
     pub fn has_foreign_number(&self, options: &Options, first: u64, present: u64) -> bool
         ensures { result ≡ is_outside options.now first present self.now.numbers }
     {

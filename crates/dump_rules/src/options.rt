@@ -17,14 +17,14 @@ pub enum Side {
     Exclude,
 }
 
-/// What becomes of a revision without a kept node.
+/// What the filter does with a revision without a kept node.
 #[derive(Clone, Copy, Debug, PartialEq, Eq)]
 pub enum Empty {
-    /// It stays, and its properties are replaced where it had nodes.
+    /// It keeps it; a revision that had nodes is padded.
     Pad,
-    /// It goes where it had nodes.
+    /// It drops it if it had nodes.
     DropEmptied,
-    /// It goes.
+    /// It drops it.
     DropAll,
 }
 
@@ -62,7 +62,7 @@ impl Options {
         self.prefixes.begin(bare_path(path))
     }
 
-    /// Options with copies of the prefixes.
+    /// Makes options with copies of the prefixes.
     pub fn new(
         alloc: Global,
         side: Side,
@@ -99,14 +99,14 @@ impl Options {
         self.side
     }
 
-    /// The prefix with this index, as it was handed in.
+    /// The prefix with this index, as the caller of `new` passed it.
     pub fn prefix(&self, n: usize) -> Option<&[u8]>
         ensures { option_copied result ≡ slice_get self.now.prefixes n }
     {
         self.prefixes.get(n)
     }
 
-    /// What becomes of revisions without a kept node.
+    /// What the filter does with revisions without a kept node.
     pub fn empty(&self) -> Empty
         ensures { result ≡ self.now.empty }
     {
@@ -120,14 +120,14 @@ impl Options {
         self.renumber
     }
 
-    /// Whether a revision that lost its nodes keeps its properties.
+    /// Whether an emptied revision keeps its properties.
     pub fn preserve(&self) -> bool
         ensures { result ≡ self.now.preserve }
     {
         self.preserve
     }
 
-    /// Whether merge sources that aren't kept are left out.
+    /// Whether lines of mergeinfo are omitted if their paths aren't kept.
     pub fn skip_missing(&self) -> bool
         ensures { result ≡ self.now.skip_missing }
     {

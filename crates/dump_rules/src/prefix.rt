@@ -1,4 +1,4 @@
-//! The slashes at the ends of prefixes and paths, which don't count.
+//! The slashes at the ends of prefixes and paths, which are ignored.
 ghost use Rattle.std.specs.Prelude.{◌≡◌};
 ghost use Rattle.dump_rules.specs.Prefix.{without_leading_slashes, without_trailing_slashes, bare_prefix, bare_path};
 
@@ -24,7 +24,7 @@ fn trim_end(text: &[u8]) -> &[u8]
     rest
 }
 
-/// The path without one leading slash, if it has one. A dump may spell paths either way.
+/// The path without one leading slash, if it has one. A dump may have paths with or without it.
 pub fn bare_path(path: &[u8]) -> &[u8]
     ensures { result.now ≡ bare_path path.now }
 {
@@ -34,7 +34,7 @@ pub fn bare_path(path: &[u8]) -> &[u8]
     }
 }
 
-/// The prefix without the slashes at both its ends: the filter compares prefixes so.
+/// The prefix without the slashes at both ends. The filter compares prefixes in this form.
 pub fn bare_prefix(prefix: &[u8]) -> &[u8]
     ensures { result.now ≡ bare_prefix prefix.now }
 {

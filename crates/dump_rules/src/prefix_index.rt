@@ -1,4 +1,4 @@
-//! The prefixes of the options, looked up by what stands between their slashes.
+//! The prefixes of the options, and an index to look them up without the slashes at their ends.
 ghost use Rattle.std.specs.Prelude.{◌≡◌, IfOk, bytes_eq, map, option_copied, slice_get};
 ghost use Rattle.std.specs.List.{list_any};
 ghost use Rattle.dump_rules.specs.Prefix.{bare_prefix, begins_path};
@@ -9,7 +9,7 @@ use crate::prefix::bare_prefix;
 use std::alloc::Global;
 use std::marker::Model;
 
-/// Prefixes as they were handed in, and an index of them: their places, in the order of the bare prefixes there.
+/// Prefixes as the caller passed them, and an index: their places, sorted by the bare prefixes at these places.
 #[derive(Drop)]
 pub(crate) struct IndexedPrefixes {
     texts: Vec<Vec<u8>>,
@@ -40,7 +40,7 @@ fn copies(alloc: Global, texts: &[&[u8]]) -> Result<Vec<Vec<u8>>, Memory>
     Ok(copied)
 }
 
-/// The bare prefix at a place; empty where there is none.
+/// The bare prefix at a place; empty if there is none.
 fn bare_at(prefixes: &[Vec<u8>], place: usize) -> &[u8]
     ensures { result.now ≡ bare_at (map (λ text. text.items) prefixes.now) place }
 {
@@ -71,7 +71,7 @@ impl IndexedPrefixes {
         })
     }
 
-    /// The prefix with this index, as it was handed in.
+    /// The prefix with this index, as the caller passed it.
     pub(crate) fn get(&self, n: usize) -> Option<&[u8]>
         ensures { option_copied result ≡ slice_get self.now n }
     {
@@ -91,10 +91,10 @@ impl IndexedPrefixes {
             .is_ok()
     }
 
-    /// Whether a bare prefix begins the path. One that does is the path, or the part of it before
-    /// a slash, or empty, so these are looked up, unless they are longer than all prefixes. A
-    /// look-up costs the logarithm of the number of prefixes, times the bytes that the text and a
-    /// prefix have in common; no path costs more than one as long as the longest prefix.
+    /// Whether a bare prefix begins the path, by whole names. Such a prefix is the path, the part of it before a
+    /// slash, or empty. So this function looks up each of these texts that isn't longer than the longest prefix; a
+    /// longer path costs no more than one of that length. A look-up costs the logarithm of the number of prefixes,
+    /// times the bytes that the text and a prefix have in common.
     pub(crate) fn begin(&self, path: &[u8]) -> bool
         ensures { result ≡ list_any (λ prefix. begins_path prefix path.now) (map bare_prefix self.now) }
     {

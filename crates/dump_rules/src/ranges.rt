@@ -1,4 +1,4 @@
-//! The ranges of svn:mergeinfo, read where they lie.
+//! Reads the ranges of svn:mergeinfo in place.
 ghost use Rattle.std.specs.Prelude.{◌≡◌, ◌==◌, not, option_map, position};
 ghost use Rattle.dump_rules.specs.steps.Blocks.{parts_agree};
 ghost use Rattle.dump_rules.specs.steps.ReadRanges.{ends_in_star, highest_numbers, ends_of, list_reads, raised, raised_by, range_parts, range_of, span_range, without_star};
@@ -6,7 +6,7 @@ ghost use Rattle.dump_rules.specs.steps.ReadRanges.{ends_in_star, highest_number
 use crate::blocks::each_part_agrees;
 use dump_text::{find, number};
 
-/// The revisions from one number to another, all inheritable or all not.
+/// A range of revisions, all inheritable or all not.
 #[derive(Clone, Copy)]
 pub(crate) struct Span {
     pub(crate) from: u64,
@@ -14,7 +14,7 @@ pub(crate) struct Span {
     pub(crate) inheritable: bool,
 }
 
-/// The text without a star at its end, and whether there is none.
+/// The text without a star at its end, and whether it had no star.
 fn cut_star(text: &[u8]) -> (&[u8], bool)
     ensures body { result.0.now ≡ without_star text.now }
     ensures inheritable { result.1 ≡ not (ends_in_star text.now) }
@@ -25,7 +25,7 @@ fn cut_star(text: &[u8]) -> (&[u8], bool)
     }
 }
 
-/// The two ends of a range without its star.
+/// The two ends of a range, which is given without its star.
 fn ends(text: &[u8]) -> Option<(u64, u64)>
     ensures { result ≡ ends_of text.now }
 {
@@ -42,7 +42,7 @@ fn ends(text: &[u8]) -> Option<(u64, u64)>
     }
 }
 
-/// The range that the text is, if it is one.
+/// Reads a text as a range.
 pub(crate) fn range(text: &[u8]) -> Option<Span>
     ensures { option_map span_range result ≡ range_of text.now }
 {
@@ -59,7 +59,7 @@ pub(crate) fn range(text: &[u8]) -> Option<Span>
     }
 }
 
-/// The highest numbers of each kind.
+/// The highest numbers so far of each kind of range.
 #[derive(Clone, Copy)]
 struct HighestNumbers {
     inheritable: u64,
@@ -67,7 +67,8 @@ struct HighestNumbers {
 }
 
 impl HighestNumbers {
-    /// The highest numbers with those of a range, which has to begin above those of the other kind.
+    /// The highest numbers with those of one more range. `None` if the range doesn't begin above those of the other
+    /// kind.
     fn raised(self, span: Span) -> Option<HighestNumbers>
         ensures { result ≡ raised self (span_range span) }
     {
@@ -90,7 +91,7 @@ impl HighestNumbers {
         }
     }
 
-    /// The same of a part, which has to be a range.
+    /// The same with a part of a list. `None` also if the part is no range.
     fn raised_by(self, part: &[u8]) -> Option<HighestNumbers>
         ensures { result ≡ raised_by self (range_of part.now) }
     {
@@ -101,7 +102,8 @@ impl HighestNumbers {
     }
 }
 
-/// The highest numbers of a list in which each range begins above those of the other kind before it.
+/// The highest numbers of a list. `None` if a part is no range, or doesn't begin above all ranges of the other kind
+/// before it.
 fn highest_numbers(list: &[u8]) -> Option<HighestNumbers>
     ensures { result ≡ highest_numbers (record { inheritable = 0; starred = 0 }) (range_parts list.now) }
 {
@@ -120,15 +122,15 @@ fn highest_numbers(list: &[u8]) -> Option<HighestNumbers>
     highest.raised_by(rest)
 }
 
-/// Whether all parts of the list are ranges that don't contradict each other. One pass tells it of
-/// ranges that rise, as Subversion writes them, and of ranges of one kind.
+/// Whether all parts of the list are ranges and no two of them contradict each other. One pass over the list is enough
+/// if the ranges rise, as Subversion writes them, or are all of one kind.
 fn parts_agree(list: &[u8]) -> bool
     ensures { result ≡ parts_agree (range_parts list.now) (range_parts list.now) }
 {
     highest_numbers(list).is_some() || each_part_agrees(list)
 }
 
-/// Whether the text is a range list without contradictions.
+/// Whether the text is a list of ranges without contradictions.
 pub(crate) fn list_reads(list: &[u8]) -> bool
     ensures { result ≡ list_reads list.now }
 {

@@ -12,8 +12,8 @@ use std::marker::Model;
 
 /// The revisions that the filter keeps, and their new numbers.
 ///
-/// New numbers count up from the dump's first revision, without gaps. Revisions are told in rising
-/// order, as they are kept, and the new number of each is asked by binary search.
+/// New numbers count up from the dump's first revision, without gaps. A caller adds the kept revisions in rising
+/// order, and a binary search finds the new number of each.
 #[derive(Drop)]
 pub struct Reach {
     first: u64,
@@ -32,7 +32,7 @@ impl Model for Reach {
 }
 
 impl Reach {
-    /// No kept revision so far, in a dump whose first revision has this number. It takes no memory.
+    /// A table without kept revisions, for a dump whose first revision has this number. It allocates nothing.
     pub fn new(alloc: Global, first: u64) -> Reach
         ensures { result ≡ record { first = first; numbers = [] } }
     {
@@ -42,7 +42,7 @@ impl Reach {
         }
     }
 
-    /// Keeps one more revision. Where there is no memory for it, the table stays as it was.
+    /// Adds a kept revision. If the allocation fails, the table is unchanged.
     pub fn push(&mut self, revision: u64) -> Result<(), Memory>
         requires from_first { self.old.first ≤ revision }
         requires above_last { All (λ k. k < revision) self.old.numbers }
@@ -75,7 +75,7 @@ impl Reach {
         self.numbers.partition_point(|number| *number <= revision)
     }
 
-    /// The new numbers of the kept revisions of a range, if there are some.
+    /// The new numbers of the kept revisions in a range, if there are any.
     pub(crate) fn span(&self, span: Span) -> Option<Span>
         ensures { option_map span_range result ≡ new_range self.now (span_range span) }
     {

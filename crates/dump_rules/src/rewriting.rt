@@ -24,9 +24,9 @@ use std::alloc::Global;
 /// Why a value of svn:mergeinfo can't be rewritten.
 #[derive(Clone, Copy, Debug, PartialEq, Eq)]
 pub enum RewriteFault {
-    /// A line names a path that isn't kept, and such lines may not be left out.
+    /// The path of a line isn't kept, and missing sources aren't skipped.
     MergeSource,
-    /// A line that stays names a revision that the dump can't have, and revisions are renumbered.
+    /// Revisions are renumbered, and a line whose path is kept has a number that the dump can't have.
     MergeRange,
     /// Memory ran out.
     Memory,
@@ -40,7 +40,7 @@ impl From<Memory> for RewriteFault {
     }
 }
 
-/// Adds an LF where something stands already.
+/// Appends an LF, unless the output is empty.
 fn push_break(out: &mut Vec<u8>) -> Result<(), Memory>
     ensures { OnOk result (out.new.items ≡ with_break out.old.items) }
 {
@@ -50,7 +50,7 @@ fn push_break(out: &mut Vec<u8>) -> Result<(), Memory>
     push_bytes(out, b"\n")
 }
 
-/// Adds a line of the runs of these ranges, if there are ranges.
+/// Appends a line with the runs of these ranges, if there are any.
 fn push_spans(out: &mut Vec<u8>, path: &[u8], spans: Vec<Span>) -> Result<(), Memory>
     requires numbers { HaveNumbers (map span_range spans.items) }
     requires consistent { IsConsistent (map span_range spans.items) }
@@ -67,7 +67,7 @@ fn push_spans(out: &mut Vec<u8>, path: &[u8], spans: Vec<Span>) -> Result<(), Me
     push_runs(out, &spans)
 }
 
-/// Adds what becomes of a line.
+/// Appends what the filter makes of a line.
 fn push_line(
     alloc: Global,
     out: &mut Vec<u8>,
@@ -87,7 +87,7 @@ fn push_line(
     push_spans(out, path, spans)
 }
 
-/// Adds what becomes of the lines of a text that isn't empty.
+/// Appends what the filter makes of the lines of a text that isn't empty.
 fn push_lines(
     alloc: Global,
     out: &mut Vec<u8>,
@@ -109,7 +109,7 @@ fn push_lines(
     push_line(alloc, out, rest, options, reach)
 }
 
-/// What becomes of the lines of a text.
+/// What the filter makes of the lines of a text.
 fn new_text(alloc: Global, text: &[u8], options: &Options, reach: &Reach) -> Result<Vec<u8>, Memory>
     requires rising { RiseFrom reach.now.first reach.now.numbers }
     requires reads { lines_read text.now ≡ true }
@@ -122,10 +122,11 @@ fn new_text(alloc: Global, text: &[u8], options: &Options, reach: &Reach) -> Res
     Ok(out)
 }
 
-/// The new value of one whose faults were asked for before: the lines whose paths are kept, in their order, each with the
-/// runs of its map, in new numbers if revisions are renumbered. A line whose map is empty goes.
+/// The new value of mergeinfo whose faults the caller has already looked for: the lines whose paths are kept, in their
+/// order, each with the runs of its map, in new numbers if revisions are renumbered. A line whose map is empty is
+/// omitted.
 ///
-/// The work is that of sorting each line's ranges, however many numbers they have.
+/// The cost is that of sorting the ranges of each line, however many numbers they contain.
 pub fn new_value(
     alloc: Global,
     value: &[u8],
@@ -135,13 +136,13 @@ pub fn new_value(
     requires reads { ¬ ¬ HasMergeLines value.now }
     ensures { IfOk result (λ v. IsNewMergeinfo options.now reach.now value.now v.items) }
 {
-    // a read, which says that the kept revisions rise
+    // this call is there for its contract: the numbers of the kept revisions rise
     let _first = reach.first();
     new_text(alloc, without_lf(value), options, reach)
 }
 
-/// The [`new_value`], or the fault of the value. `now` is the present revision, and `reach` has those kept up to it. A
-/// fault is found before memory is taken.
+/// The [`new_value`], or the fault of the value. `now` is the present revision, and `reach` has the kept revisions up
+/// to it. All faults are found before anything is allocated.
 pub fn rewrite(
     alloc: Global,
     value: &[u8],

@@ -1,4 +1,4 @@
-//! New ranges of a line of mergeinfo, and how they are written.
+//! Computes the new ranges of a line of mergeinfo, and writes them.
 ghost use Rattle.std.specs.Prelude.{◌≡◌, ◌+◌, ◌<◌, ◌++◌, ◌==◌, [], IfOk, OnOk, codes, drop, if◌then◌else◌, length, map, option_map, take};
 ghost use Rattle.dump_text.specs.Number.{spelled_number};
 ghost use Rattle.dump_rules.specs.steps.NewRanges.{list_new, part_range, parts_ranges};
@@ -13,14 +13,14 @@ use dump_text::{find, spell};
 use std::alloc::Global;
 
 impl Span {
-    /// Whether the ranges are of one kind, and the other begins in this one or at once behind it.
+    /// Whether the ranges are of one kind, and the other begins in this one or directly after it.
     fn touches(self, other: Span) -> bool
         ensures { result ≡ touches (span_range self) (span_range other) }
     {
         self.inheritable == other.inheritable && other.from <= self.to.saturating_add(1)
     }
 
-    /// The range up to this number, or to its own end where that is higher.
+    /// The range with its end raised to this number, if that is higher.
     fn reaching(self, to: u64) -> Span
         ensures { span_range result ≡ reaching (span_range self) to }
     {
@@ -32,7 +32,7 @@ impl Span {
     }
 }
 
-/// The range that a part is, in new numbers if those are wanted.
+/// The range that a part of a list is, in new numbers if `renumber` is set. `None` if it has no kept revision then.
 fn new_span(part: &[u8], renumber: bool, reach: &Reach) -> Option<Span>
     ensures { option_map span_range result ≡ part_range renumber reach.now (range_of part.now) }
 {
@@ -44,7 +44,7 @@ fn new_span(part: &[u8], renumber: bool, reach: &Reach) -> Option<Span>
     }
 }
 
-/// Adds what becomes of a part.
+/// Appends the new range of a part, if there is one.
 fn push_new(spans: &mut Vec<Span>, part: &[u8], renumber: bool, reach: &Reach) -> Result<(), Memory>
     ensures { OnOk result (map span_range spans.new.items
         ≡ map span_range spans.old.items ++ with_range (part_range renumber reach.now (range_of part.now)) []) }
@@ -55,7 +55,7 @@ fn push_new(spans: &mut Vec<Span>, part: &[u8], renumber: bool, reach: &Reach) -
     }
 }
 
-/// The text before a place, and what stands behind the byte there.
+/// The text before a place, and the text after the byte there.
 pub(crate) fn cut_at(text: &[u8], place: usize) -> (&[u8], &[u8])
     requires { place < length text.now }
     ensures before { result.0.now ≡ take place text.now }
@@ -64,7 +64,7 @@ pub(crate) fn cut_at(text: &[u8], place: usize) -> (&[u8], &[u8])
     (&text[..place], &text[place + 1..])
 }
 
-/// What becomes of the parts of a list that isn't empty.
+/// The new ranges of a list that isn't empty.
 fn parts_spans(
     alloc: Global,
     list: &[u8],
@@ -84,7 +84,7 @@ fn parts_spans(
     Ok(spans)
 }
 
-/// What becomes of the ranges of a list, in the list's order.
+/// The new ranges of a list, in the list's order.
 pub(crate) fn new_spans(
     alloc: Global,
     list: &[u8],
@@ -99,7 +99,7 @@ pub(crate) fn new_spans(
     parts_spans(alloc, list, renumber, reach)
 }
 
-/// Puts ranges in the order of their lower ends.
+/// Sorts ranges by their lower ends.
 pub(crate) fn sort(spans: &mut Vec<Span>)
     requires numbers { HaveNumbers (map span_range spans.old.items) }
     requires consistent { IsConsistent (map span_range spans.old.items) }
@@ -108,14 +108,14 @@ pub(crate) fn sort(spans: &mut Vec<Span>)
     spans.sort_unstable_by_key(|span| span.from);
 }
 
-/// Adds bytes.
+/// Appends bytes.
 pub(crate) fn push_bytes(out: &mut Vec<u8>, bytes: &[u8]) -> Result<(), Memory>
     ensures { OnOk result (out.new.items ≡ out.old.items ++ bytes.now) }
 {
     Ok(out.extend_from_slice(bytes)?)
 }
 
-/// Adds the upper end of a run that has more than one number.
+/// Appends the upper end of a run that has more than one number.
 fn push_end(out: &mut Vec<u8>, run: Span) -> Result<(), Memory>
     ensures { OnOk result (out.new.items
         ≡ out.old.items ++ (if run.from == run.to then [] else codes "-" ++ spelled_number run.to)) }
@@ -127,7 +127,7 @@ fn push_end(out: &mut Vec<u8>, run: Span) -> Result<(), Memory>
     push_bytes(out, spell(run.to).bytes())
 }
 
-/// Adds a run.
+/// Appends a run.
 fn push_run(out: &mut Vec<u8>, run: Span) -> Result<(), Memory>
     ensures { OnOk result (out.new.items ≡ out.old.items ++ run_text (span_range run)) }
 {
@@ -140,7 +140,7 @@ fn push_run(out: &mut Vec<u8>, run: Span) -> Result<(), Memory>
     }
 }
 
-/// Adds the runs from this one on, with the ranges behind it in order.
+/// Appends the runs of the range `first` and the sorted ranges `behind` that follow it.
 fn push_from(out: &mut Vec<u8>, first: Span, behind: &[Span]) -> Result<(), Memory>
     ensures { OnOk result (out.new.items
         ≡ out.old.items ++ runs_text (joined_from (span_range first) (map span_range behind.now))) }
@@ -158,7 +158,7 @@ fn push_from(out: &mut Vec<u8>, first: Span, behind: &[Span]) -> Result<(), Memo
     push_run(out, run)
 }
 
-/// Adds the runs of ranges that are in order.
+/// Appends the runs of sorted ranges.
 pub(crate) fn push_runs(out: &mut Vec<u8>, spans: &[Span]) -> Result<(), Memory>
     ensures { OnOk result (out.new.items ≡ out.old.items ++ runs_text (joined (map span_range spans.now))) }
 {

@@ -1,4 +1,4 @@
-//! What no clause says: worked examples, each call once, and memory that is refused.
+//! What no contract says: worked examples, one call of each function, and allocations that fail.
 use crate::{
     Empty, Memory, Options, Reach, Side, bare_path, bare_prefix, merge_path_of, merge_reads,
     without_lf,
@@ -36,7 +36,7 @@ fn images_are_of_the_last_kept_revision(rt: HostRuntime) -> Result<(), Fail> {
     Ok(())
 }
 
-/// Run with each allocation refused in turn: a revision is kept, or nothing has changed, and the next one is.
+/// Run with each allocation failing in turn: the revision is added, or the table is unchanged and takes the next one.
 #[test]
 fn push_or_no_memory(rt: HostRuntime) {
     let mut reach = Reach::new(rt.alloc(), 5);
@@ -92,7 +92,7 @@ fn no_revision_stands_with_a_star_and_without(rt: HostRuntime) {
     }
 }
 
-/// So many single numbers that fall from the first one, every second with a star.
+/// This many single numbers that fall from the first one; every second one has a star.
 fn falling(alloc: Global, first: u64, count: u64) -> Result<String, AllocError> {
     let mut text = format!(in alloc; "{first}")?;
     for n in 1..count {
@@ -103,7 +103,7 @@ fn falling(alloc: Global, first: u64, count: u64) -> Result<String, AllocError> 
     Ok(text)
 }
 
-/// Whether the text is mergeinfo between these.
+/// Whether the text is mergeinfo if it is put between `before` and `after`.
 fn is_read_between(
     alloc: Global,
     before: &str,
@@ -117,7 +117,7 @@ fn is_read_between(
     Ok(merge_reads(value.as_bytes()))
 }
 
-/// Whether a text is mergeinfo between the two of each row, or not, as the row says.
+/// Whether a text is mergeinfo between the two strings of each row, or not, as the row says.
 fn are_read_between(
     alloc: Global,
     text: &str,

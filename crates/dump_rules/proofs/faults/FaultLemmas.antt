@@ -1,11 +1,11 @@
--- A value is refused where a line's path isn't kept, or a line that stays has a number that the dump can't have.
+-- A value has a fault if a line's path isn't kept, or a line whose path is kept has a number that the dump can't have.
 use Rattle.dump_rules.proofs.Prelude.{◌≡◌, ◌⊎◌, ℕ, ◌<◌, zero, suc, Bool, true, false, not, ◌&&◌, ◌||◌, List, [], ◌∷◌, nat_lt, refl, sym, ap, subst, ◌∙◌, inl, inr, arith, Some, None, Option, Contains, list_any, Any-from_list_any, list_any-from_Any, All-contains, All-contains_itself, All-filter, filter_passes, both_ways, cases_Bool, AllZip, and_parts, or_right, or_cases, or_left, lt-ltb, ltb-true, not_true, not_false, Settings, keeps_path, KeptRevisions, Range, HasNumber, range_of, range_parts, MergeLine, IsMergeLine, IsMergeinfo, HasMergeLines, without_lf, value_reads, staying_lines, HasMissingSource, HasForeignNumber, HaveNumbers, ranges_of, with_range, list_ranges, line_list, line_misses, text_misses, range_foreign, part_foreign, list_foreign, line_foreign, text_foreign}
 use Rattle.dump_text.proofs.BoolLemmas.{both_true as both}
 use Rattle.dump_rules.proofs.reading.MergeinfoLemmas.{reads_exactly}
 use Rattle.dump_rules.proofs.new_values.RunsLaw.{have_numbers}
 use Rattle.dump_rules.proofs.new_values.ValueLemmas.{line_parts, texts_are}
 
--- some line that passes
+-- some line passes the test
 
 any_line : (test : List ℕ → Bool) (passes : MergeLine → Bool) (texts : List (List ℕ)) (lines : List MergeLine)
     → AllZip IsMergeLine texts lines
@@ -21,7 +21,7 @@ pub found : {X : Type 0} (passes : X → Bool) (xs : List X) → list_any passes
     × (passes x ≡ true)
 found passes xs some = let at = Any-from_list_any passes xs some in (at.1, (at.0, at.2, at.3), at.4)
 
--- some element of a list passes the test, where it contains one that passes
+-- if a list contains an element that passes the test, some element of it passes
 pub finds : {X : Type 0} (passes : X → Bool) (xs : List X) (x : X) → Contains xs x → passes x ≡ true
     → list_any passes xs ≡ true
 finds passes xs x (i, within, is) so = list_any-from_Any passes xs (i, x, within, is, so)
@@ -128,7 +128,7 @@ number_back settings first now (r ∷ rest) kind number (inl has) (inr under) =
     let lower = under.1 in
     or_left _ _ (or_right _ _ (both _ _ (not_false settings.skip_missing under.0) (lt-ltb r.from first (omega arith))))
 
--- lines that stay
+-- lines whose paths are kept
 
 stays_there : (settings : Settings) (lines : List MergeLine) (line : MergeLine) → Contains lines line
     → keeps_path settings line.path ≡ true → Contains (staying_lines settings lines) line
@@ -192,7 +192,7 @@ foreign_back settings kept now value (renumber, lines, is, line, within, k, numb
     ∙ both _ _ renumber (finds (Foreign settings kept.first now) lines line stays.0
     (both _ _ stays.1 (number_back settings kept.first now line.ranges k number has foreign)))
 
--- values that aren't refused
+-- values without a fault
 
 -- a value that can't be anything but mergeinfo is mergeinfo
 pub has_lines : (value : List ℕ) → ¬ ¬ HasMergeLines value → HasMergeLines value

@@ -1,9 +1,9 @@
--- What the two tests of a value tell, where the value is mergeinfo.
+-- What the two tests of a value say, where the value is mergeinfo.
 use Rattle.dump_rules.proofs.Prelude.{◌≡◌, ◌↔◌, ◌||◌, ◌<◌, ◌^◌, sym, ap, ◌∙◌, both_ways, ℕ, ◌≤◌, Bool, true, false, List, inl, inr, Merged, is_outside, nothing_merged, Contains, leb_tells, Settings, KeptRevisions, HasNumber, MergeLine, IsMergeinfo, HasMergeLines, staying_lines, HasMissingSource, HasForeignNumber, value_misses, value_foreign}
 use Rattle.dump_rules.proofs.faults.FaultLemmas.{missing_there, missing_back, foreign_there, foreign_back, has_lines}
 use Rattle.dump_rules.proofs.faults.MergedMeaning.{none_outside}
 
--- what is told of the sources of the first value says whether one is missing
+-- what is said of the sources of the first value says whether one is missing
 pub first_misses : (s : Settings) (said : Merged) (last : Bool) (value : List ℕ) (told : Bool) → said ≡ nothing_merged
     → last ≡ (said.misses || value_misses s value) → told ≡ last → ¬ ¬ HasMergeLines value
     → (told ≡ true) ↔ HasMissingSource s value
@@ -11,7 +11,7 @@ first_misses s said last value told none is tells some =
     let same = tells ∙ is ∙ ap (λ (m : Merged). m.misses || value_misses s value) none in
     (λ e. missing_there s value (has_lines value some) (sym same ∙ e), λ h. same ∙ missing_back s value h)
 
--- where no missing source is told of the first value, what is told of its numbers says whether one is foreign
+-- if no source of the first value is missing, what is said of its numbers says whether one is foreign
 pub first_foreign : (s : Settings) (kept : KeptRevisions) (first now : ℕ) (said last : Merged) (value : List ℕ)
     (misses told : Bool) → first < 2 ^ 64 → first ≡ kept.first → said ≡ nothing_merged
     → last.misses ≡ (said.misses || value_misses s value)
@@ -30,7 +30,7 @@ first_foreign s kept first now said last value misses told fits first_is none so
       λ e h. both_ways told e (same ∙ foreign_back s kept now value h),
     )
 
--- where no number is refused, the lines that stay have none above the present revision
+-- if no number is foreign, the lines whose paths are kept have none above the present revision
 pub foreign_below : (settings : Settings) (kept : KeptRevisions) (now : ℕ) (value : List ℕ)
     → ¬ HasForeignNumber settings kept now value
     → settings.renumber ≡ true → (lines : List MergeLine) → IsMergeinfo value lines → (line : MergeLine)

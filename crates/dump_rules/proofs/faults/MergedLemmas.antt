@@ -1,13 +1,13 @@
 -- What values of mergeinfo say together, part by part and line by line.
 use Rattle.dump_rules.proofs.Prelude.{◌≡◌, ℕ, List, [], ◌∷◌, refl, sym, ap, ◌∙◌, Some, None, Option, option_and_then, Bounds, Merged, Settings, range_of, range_parts, widened_by, parts_bounds, list_bounds, line_merged, lines_merged}
 
--- one part more
+-- one more part
 pub bounds_first : (bounds next : Bounds) (part : List ℕ) (others all : List (List ℕ)) → all ≡ part ∷ others
     → next ≡ widened_by bounds (range_of part) → parts_bounds bounds all ≡ parts_bounds next others
 bounds_first bounds next part others all is made =
     ap (parts_bounds bounds) is ∙ ap (λ (b : Bounds). parts_bounds b others) (sym made)
 
--- one line more
+-- one more line
 pub lines_first : (settings : Settings) (said next : Merged) (line : List ℕ) (others all : List (List ℕ))
     → all ≡ line ∷ others
     → line_merged settings said line ≡ Some next → lines_merged settings said all ≡ lines_merged settings next others

@@ -77,7 +77,7 @@ module _ (s : Settings) (first now : ℕ) where
     | inr e ↦ let bad : Path (Option Merged) None (Some last) = rw e at is in cc
   ]
 
-  -- a value's numbers are outside bounds where those said before are, or one of its own
+  -- a value's numbers are outside bounds if those of the earlier values are, or one of its own is
   pub outside_value : (said last : Merged) (value : List ℕ) → text_merged s said value ≡ Some last
       → is_outside s first now last.numbers ≡ (is_outside s first now said.numbers || value_foreign s first now value)
   outside_value said last value is = outside_lines said last (text_lines (without_lf value)) is
@@ -108,7 +108,7 @@ module _ (s : Settings) where
     | inr e ↦ let bad : Path (Option Merged) None (Some last) = rw e at is in cc
   ]
 
-  -- a source is missing where one was before, or in this value
+  -- a source is missing if one was missing before, or one is in this value
   pub missed_value : (said last : Merged) (value : List ℕ) → text_merged s said value ≡ Some last
       → last.misses ≡ (said.misses || value_misses s value)
   missed_value said last value is = missed_lines said last (text_lines (without_lf value)) is
@@ -124,18 +124,18 @@ module _ (s : Settings) where
   read_text said [] = refl
   read_text said (b ∷ text) = read_lines said (text_lines (b ∷ text))
 
-  -- something is said of a value where it is mergeinfo
+  -- there is a result for a value if it is mergeinfo
   pub read_value : (said : Merged) (value : List ℕ) → is_some (text_merged s said value) ≡ value_reads value
   read_value said value = read_text said (without_lf value)
 
--- what is said of a value, as far as it is mergeinfo
+-- what a value says, as far as it is mergeinfo
 pub said_sources : (s : Settings) (said : Merged) (value : List ℕ) (made : Option Merged)
     → made ≡ text_merged s said value
     → IfSome made (λ m. m.misses ≡ (said.misses || value_misses s value))
 said_sources s said value None is = tt
 said_sources s said value (Some m) is = missed_value s said m value (sym is)
 
--- with one more value, a number is outside where one was before or where the value has a foreign one
+-- with one more value, a number is outside if one was before or the value has a foreign one
 pub said_numbers : (s : Settings) (first now : ℕ) (said : Merged) (value : List ℕ) (made : Option Merged)
     → made ≡ text_merged s said value
     → IfSome made (λ m. is_outside s first now m.numbers ≡

@@ -45,11 +45,11 @@ apart r s e same =
 
 -- maps
 
--- where one list means the same map as another, and that as a third, the first means the same as the third
+-- if one list means the same map as another, and that as a third, the first means the same as the third
 pub same_trans : (a b c : List Range) → IsSameMap a b → IsSameMap b c → IsSameMap a c
 same_trans a b c one two kind n = (λ h. (one kind n).0 ((two kind n).0 h), λ h. (two kind n).1 ((one kind n).1 h))
 
--- where one list means the same map as another, the other means the same as it
+-- if one list means the same map as another, the other means the same as it
 pub same_sym : (a b : List Range) → IsSameMap a b → IsSameMap b a
 same_sym a b one kind n = ((one kind n).1, (one kind n).0)
 
@@ -177,7 +177,7 @@ swapped r s rest kind n = (turn s r, turn r s)
     turn a b (inr (inl h)) = inl h
     turn a b (inr (inr h)) = inr (inr h)
 
--- a range into ranges in order, behind a first one that begins no higher
+-- a range is put into sorted ranges, after a first one that begins no higher
 record AreOrdered (r : Range) (rest all : List Range) : Type 0 where
   up : Rises all
   same : IsSameMap (r ∷ rest) all

@@ -1,4 +1,4 @@
--- A new value stays a new value where only higher revisions are kept later.
+-- A new value remains a new value if only higher revisions are kept later.
 use Rattle.dump_rules.proofs.Prelude.{◌≡◌, ℕ, ◌+◌, ◌<◌, ◌≤◌, Bool, true, false, cond, MatchBool, List, [], ◌∷◌, ◌++◌, suc, refl, sym, ap, ◌∙◌, arith, inl, inr, Contains, nat_lt, AllZip, All-head, All-tail, All-contains, Contains-append_left, Contains-append_cases, sum_by-append, Settings, KeptRevisions, new_number, Range, HasNumber, MergeLine, IsRenumberedMap, IsSameMap, IsNewLine, IsNewMergeinfo, HasForeignNumber, staying_lines}
 use Rattle.std.proofs.Common.{All}
 use Rattle.dump_rules.proofs.ReachLemmas.{below, below-cons, is_not_below}
@@ -93,7 +93,7 @@ each_line settings before after (old ∷ lines) (new ∷ new_lines) one all = (
 )
 each_line settings before after lines new_lines one all = absurd all
 
--- a new value stays one after higher revisions are kept, where the old value has no foreign number
+-- a new value remains one after higher revisions are kept, if the old value has no foreign number
 pub later_revisions : (settings : Settings) (kept : KeptRevisions) (more : List ℕ) (now : ℕ) (value new : List ℕ)
     → (settings.renumber ≡ true → All (λ later. now < later) more) → ¬ HasForeignNumber settings kept now value
     → IsNewMergeinfo settings kept value new → IsNewMergeinfo settings

@@ -1,4 +1,4 @@
--- What becomes of a line, as it is computed.
+-- The new line of a line, as the program computes it.
 use Rattle.dump_rules.proofs.Prelude.{◌≡◌, ℕ, ◌+◌, ◌<◌, Bool, true, false, ◌==◌, List, [], ◌∷◌, ◌++◌, length, take, drop, nat_lt, nat_le, position, refl, sym, ap, subst, ◌∙◌, arith, Some, None, codes, list_all, slice_split, inl, inr, cases_Bool, and_parts, Range, IsConsistent, runs_text, list_reads, colon_end, line_reads, KeptRevisions, RiseFrom, Settings, HaveNumbers, ordered_into, ordered, joined, runs_of, list_ranges, new_ranges, list_new, line_list, with_break, with_runs, with_new_line, with_new_lines}
 use Rattle.dump_rules.proofs.reading.RangeLemmas.{position_split, position_whole}
 use Rattle.dump_rules.proofs.reading.RangeListLemmas.{read_is_list}
@@ -42,7 +42,7 @@ written_runs out path a b new sorted ranges some same first second third =
 
 -- the ranges of a list that is read
 
--- each range has numbers, and no number stands as both kinds
+-- each range has numbers, and no number is in ranges of both kinds
 pub record AreFit (ranges : List Range) : Type 0 where
   pub numbers : HaveNumbers ranges
   pub consistent : IsConsistent ranges
@@ -56,7 +56,7 @@ ranges_fit list reads =
       consistent = subst IsConsistent same found.2;
     }
 
--- what becomes of fit ranges is fit, with renumbering or without
+-- the new ranges of fit ranges are fit, with renumbering or without
 pub new_ranges_fit : (renumber : Bool) (kept : KeptRevisions) → RiseFrom kept.first kept.numbers → (ranges : List Range)
     → AreFit ranges → AreFit (new_ranges renumber kept ranges)
 new_ranges_fit true kept up ranges fit = record {
@@ -66,7 +66,7 @@ new_ranges_fit true kept up ranges fit = record {
 }
 new_ranges_fit false kept up ranges fit = subst AreFit (sym (unchanged kept ranges)) fit
 
--- what becomes of the range list of a line that is read is fit
+-- the new ranges of a line that is read are fit
 pub line_fits : (renumber : Bool) (kept : KeptRevisions) → RiseFrom kept.first kept.numbers → (line : List ℕ)
     → line_reads line ≡ true → AreFit (list_new renumber kept (line_list line))
 line_fits renumber kept up line reads =
@@ -87,13 +87,13 @@ parts_first b rest part others k is first later =
 pub lines_last : (rest : List ℕ) → position (λ b. b == 10) rest ≡ None → slice_split (λ b. b == 10) rest ≡ rest ∷ []
 lines_last rest is = position_whole 10 rest is
 
--- where all lines are read, the first one is, and all others are
+-- if all lines are read, the first one is, and all others are
 pub first_reads : (line : List ℕ) (lines all : List (List ℕ)) → all ≡ line ∷ lines → list_all line_reads all ≡ true
     → (line_reads line ≡ true) × (list_all line_reads lines ≡ true)
 first_reads line lines all is reads =
     and_parts (line_reads line) (list_all line_reads lines) (ap (list_all line_reads) (sym is) ∙ reads)
 
--- what becomes of all lines is what becomes of the others, behind what became of the first one
+-- the new lines are the new lines of the others, after the new line of the first one
 pub step_lines : (settings : Settings) (kept : KeptRevisions) (out new line : List ℕ) (lines all : List (List ℕ))
     → all ≡ line ∷ lines
     → new ≡ with_new_line settings kept out line

@@ -185,7 +185,7 @@ new_range_fits kept up n high is some = (image_of_some kept n (high - 1) up (sym
 
 -- all ranges
 
--- with renumbering, the new ranges hold just the new numbers of the kept revisions in the old ones
+-- with renumbering, the new ranges contain exactly the new numbers of the kept revisions in the old ones
 pub renumbered : (kept : KeptRevisions) → RiseFrom kept.first kept.numbers → (ranges : List Range)
     → IsRenumberedMap kept ranges (new_ranges true kept ranges)
 renumbered kept up [] kind n = ((λ h. absurd h), (λ h. absurd h.3))
@@ -225,7 +225,7 @@ once kept up j k n has_j has_k is_j is_k =
     let same : i ≡ m = omega arith in
     sym at_i ∙ get_or_default kept.numbers i j k inside ∙ ap (λ p. get_or kept.numbers p k) same ∙ at_m
 
--- renumbered ranges have no number as both kinds, where the old ones have none
+-- no number is in renumbered ranges of both kinds, if none is in old ranges of both kinds
 pub renumbered_consistent : (kept : KeptRevisions) → RiseFrom kept.first kept.numbers → (old new : List Range)
     → IsRenumberedMap kept old new → IsConsistent old → IsConsistent new
 renumbered_consistent kept up old new map consistent n plain starred =
@@ -254,7 +254,7 @@ parts_new renumber kept (part ∷ parts) =
       | Some r ↦ ap (with_range (kept_range renumber kept r)) later
     ]
 
--- what becomes of a range list is what becomes of the ranges that it is read as
+-- the new ranges of a range list are those of the ranges as which it is read
 pub list_new_is : (renumber : Bool) (kept : KeptRevisions) (list : List ℕ)
     → list_new renumber kept list ≡ new_ranges renumber kept (list_ranges list)
 list_new_is renumber kept [] = refl

@@ -6,7 +6,7 @@ use Rattle.dump_rules.proofs.new_values.ValueLemmas.{line_parts, texts_are}
 line_eq : (a b : MergeLine) → a.path ≡ b.path → a.ranges ≡ b.ranges → a ≡ b
 line_eq a b path ranges = λ i. record { path = path i; ranges = ranges i }
 
--- lists that stand together with one list are one, where their elements are
+-- two lists that a relation zips with one list are the same, if it relates each element of that list to only one
 zip_once : {A B : Type 0} (R : A → B → Type 0) → ((x : A) (y z : B) → R x y → R x z → y ≡ z) → (xs : List A)
     (ys zs : List B) → AllZip R xs ys → AllZip R xs zs → ys ≡ zs
 zip_once R one [] [] [] all_y all_z = refl

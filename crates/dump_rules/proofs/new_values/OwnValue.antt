@@ -1,4 +1,4 @@
--- A new value is mergeinfo, and its own new value where everything is kept.
+-- A new value is mergeinfo, and its own new value if everything is kept.
 use Rattle.dump_rules.proofs.Prelude.{◌≡◌, ℕ, ◌<◌, ◌≤◌, Bool, true, false, MatchBool, List, [], ◌∷◌, length, map, nat_lt, Contains, refl, sym, ap, subst, ◌∙◌, inl, inr, arith, cases_Bool, AllZip, has_byte, Settings, keeps_path, KeptRevisions, new_number, RiseFrom, Range, IsConsistent, AreRuns, run_text, runs_text, MergeLine, IsMergeLine, IsMergeinfo, HasMergeLines, merge_line_text, mergeinfo_text, IsSameMap, IsRenumberedMap, IsNewLine, IsNewMergeinfo, staying_lines, nonempty_lines}
 use Rattle.dump_rules.proofs.ReachLemmas.{new_number_fits, from_first}
 use Rattle.dump_rules.proofs.new_values.NewRangeLemmas.{renumbered_consistent}
@@ -123,7 +123,7 @@ module _ (all : Settings) (again : KeptRevisions) (same : all.renumber ≡ false
   all_own_new [] own = tt
   all_own_new (line ∷ lines) own = (own_new line own.0, all_own_new lines own.1)
 
--- a new value is mergeinfo, and its own new value where every path is kept and nothing is renumbered
+-- a new value is mergeinfo, and its own new value if every path is kept and nothing is renumbered
 pub own_value : (settings : Settings) (kept : KeptRevisions) (old new : List ℕ)
     → RiseFrom kept.first kept.numbers
     → ((k : ℕ) → Contains kept.numbers k → 1 ≤ k → 1 ≤ new_number kept k)

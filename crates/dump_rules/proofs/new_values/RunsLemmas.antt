@@ -19,7 +19,7 @@ parts_first renumber kept rest k is =
     ∙ with_behind (part_range renumber kept (range_of (take k rest)))
     (parts_ranges renumber kept (range_parts (drop (k + 1) rest)))
 
--- what becomes of the parts is what becomes of the first one, and then of those behind its comma
+-- the new ranges of the parts are those of the first one, and then those of the parts after its comma
 pub parts_step : (renumber : Bool) (kept : KeptRevisions) (rest part behind : List ℕ) (k : ℕ) (old new : List Range)
     → position (λ b. b == 44) rest ≡ Some k
     → part ≡ take k rest → behind ≡ drop (k + 1) rest
@@ -29,7 +29,7 @@ parts_step renumber kept rest part behind k old new is first later more =
     rw (more, first, later) (ap (λ l. old ++ l) (parts_first renumber kept rest k is)
     ∙ sym (append_assoc old (with_range (part_range renumber kept (range_of (take k rest))) []) _))
 
--- what becomes of the parts of a list without a comma is what becomes of that one
+-- the new ranges of a list without a comma are those of its only part
 pub parts_last : (renumber : Bool) (kept : KeptRevisions) (rest : List ℕ) → position (λ b. b == 44) rest ≡ None
     → parts_ranges renumber kept (range_parts rest) ≡ with_range (part_range renumber kept (range_of rest)) []
 parts_last renumber kept rest is = ap (parts_ranges renumber kept) (position_whole 44 rest is)
@@ -101,7 +101,7 @@ touched : (r s : Range) (rest : List Range) → touches r s ≡ true → joined_
     (reaching r s.to) rest
 touched r s rest e = rw e refl
 
--- a range joined with those behind it gives at least one run
+-- a range joined with those after it gives at least one run
 pub some_joined : (r : Range) (rest : List Range) → (first : Range) × (later : List Range)
     × (joined_from r rest ≡ first ∷ later)
 some_joined r [] = (r, [], refl)
@@ -130,7 +130,7 @@ next_touches run spans i d within e =
     ap (λ (l : List Span). joined_from run (map span_range l)) (drop_more spans i d within)
     ∙ touched run (span_range (get_or spans i d)) (map span_range (drop (i + 1) spans)) e
 
--- where the next range doesn't touch a run, that run is written, a comma, and the runs from that range on
+-- if the next range doesn't touch a run, that run is written, a comma, and the runs from that range on
 pub next_left : (run : Range) (spans : List Span) (i : ℕ) (d : Span) → i < length spans
     → touches run (span_range (get_or spans i d)) ≡ false
     → runs_text (joined_from run (map span_range (drop i spans)))
@@ -140,7 +140,7 @@ next_left run spans i d within e =
     ap (λ (l : List Span). runs_text (joined_from run (map span_range l))) (drop_more spans i d within)
     ∙ left run (span_range (get_or spans i d)) (map span_range (drop (i + 1) spans)) e
 
--- what was written so far, and the next run and the text behind it
+-- what was written so far, and the next run and the text after it
 pub written_on : (run comma rest old mid new : List ℕ) → mid ≡ old ++ run → new ≡ mid ++ comma
     → old ++ (run ++ comma ++ rest) ≡ new ++ rest
 written_on run comma rest old mid new first second =

@@ -1,4 +1,4 @@
--- What becomes of a value: its new lines.
+-- The new value of a value: its new lines.
 use Rattle.dump_rules.proofs.Prelude.{◌≡◌, ◌⊎◌, ℕ, ◌-◌, Bool, true, false, ◌==◌, List, [], ◌∷◌, ◌++◌, length, take, map, nat_lt, refl, sym, ap, ◌∙◌, arith, codes, append_assoc, append-nil, inl, inr, cases_Bool, if◌then◌else◌, slice_split, join_with_byte, AllZip, nat_tests, take_at, Settings, keeps_path, KeptRevisions, RiseFrom, Range, runs_text, MergeLine, IsMergeLine, IsMergeinfo, merge_line_text, colon_end, without_lf, IsNewLine, IsNewMergeinfo, staying_lines, nonempty_lines, runs_of, list_ranges, new_ranges, list_new, line_path, line_list, text_lines, with_break, with_runs, with_new_line, with_new_lines}
 use Rattle.dump_rules.proofs.reading.RangeListLemmas.{HasFirst, split_joined, joined_some}
 use Rattle.dump_rules.proofs.reading.MergeinfoLemmas.{line_cut, bare, all_read}
@@ -126,7 +126,7 @@ added_is settings kept out text line is =
     ∙ ap (λ (l : List Range). if keeps_path settings line.path then with_runs out line.path (runs_of l) else out)
     (list_new_is settings.renumber kept (line_list text) ∙ ap (new_ranges settings.renumber kept) parts.ranges)
 
--- the lines, behind those that are done
+-- the lines after those that are already written
 written : (settings : Settings) (kept : KeptRevisions) (texts : List (List ℕ)) (lines : List MergeLine)
     → AllZip IsMergeLine texts lines → (done : List (List ℕ)) → AllSome done
     → with_new_lines settings kept (join_with_byte 10 done) texts ≡ join_with_byte 10

@@ -1,8 +1,8 @@
--- A list held against itself block by block agrees exactly where each of its parts does.
+-- Searching a list for contradictions block by block finds none exactly if each of its parts agrees with all.
 use Rattle.dump_rules.proofs.Prelude.{◌≡◌, ℕ, zero, suc, ◌-◌, ◌<◌, ◌≤◌, Bool, true, false, not, ◌&&◌, ◌||◌, nat_le, nat_lt, max, List, [], ◌∷◌, length, get_or, refl, sym, ap, ◌∙◌, inl, inr, Option, Some, None, arith, list_all, list_any, IsNonDecreasingBy, IsPartitionPoint, Any-from_list_any, get_or_default, list_any_at, list_any_none, or_cases, or_left, or_right, and_parts, and_from, and_left, and_right, not-true, not_from_false, leb-true, le-leb, le-ltb, cases_lt, false_from_ne_true, both_ways, nat_tests, Ends, block_agrees, block_contradicts, ends_range, kind_agrees, kind_part_agrees, meets, parts_agree, raised_ends, Range, contradicts, is_other, range_of, part_agrees, part_contradicts}
 use mathlib.Core.Bool.{beq}
 
--- the block held against the parts
+-- a block, compared with the parts
 
 -- a part that is no range contradicts no range of a block
 pub none_contradicts : (kind : Bool) (block : List Ends) → block_contradicts kind block None ≡ false
@@ -27,7 +27,7 @@ neither : (a b : Bool) → (not a && not b) ≡ not (a || b)
 neither true b = refl
 neither false b = refl
 
--- a block agrees with all parts where none of these contradicts one of its ranges
+-- a block agrees with all parts if none of these contradicts one of its ranges
 pub agrees_unless : (kind : Bool) (all : List (List ℕ)) (block : List Ends)
     → block_agrees kind all block ≡ not (list_any (λ part. block_contradicts kind block (range_of part)) all)
 agrees_unless kind all [] = ap not (sym (list_any_none (λ part. false) all (λ k d low. refl)))
@@ -68,7 +68,7 @@ same_if true false there back = sym (there refl)
 same_if false true there back = back refl
 same_if false false there back = refl
 
--- one kind held against all parts
+-- the ranges of one kind, compared with all parts
 
 contradicts_back : (r s : Range) → contradicts r s ≡ true → contradicts s r ≡ true
 contradicts_back r s is =
@@ -89,7 +89,7 @@ third_kind false true false one two = refl
 third_kind false true c one two = let bad : false ≡ true = two in cc
 third_kind a b c one two = let bad : false ≡ true = one in cc
 
--- a range s of which it is known that its part agrees doesn't contradict the range r of a part of the other kind
+-- if the part of a range s agrees with all, s doesn't contradict the range r of a part of the other kind
 unlike : (kind : Bool) (all : List (List ℕ)) (r : Range) (k : ℕ) → k < length all → range_of (get_or all k []) ≡ Some r
     → is_other kind r.inheritable ≡ true → (o : Option Range) → kind_part_agrees kind all o ≡ true
     → part_contradicts r o ≡ true → ⊥
@@ -120,7 +120,7 @@ partly : (kind : Bool) (all : List (List ℕ)) (o : Option Range) → part_agree
 partly kind all None agrees = agrees
 partly kind all (Some r) agrees = or_right _ _ agrees
 
--- all parts agree where they are ranges and those of one kind agree with all
+-- all parts agree if they are ranges and those of one kind agree with all
 pub one_kind_suffices : (kind : Bool) (all : List (List ℕ)) → kind_agrees kind all all ≡ parts_agree all all
 one_kind_suffices kind all =
     same_if _ _
@@ -128,7 +128,7 @@ one_kind_suffices kind all =
     (all_place _ [] all half k low)))
     (λ full. place_all _ [] all (λ k low. partly kind all (range_of (get_or all k [])) (all_place _ [] all full k low)))
 
--- ranges in an order to be searched
+-- ranges in an order that can be searched
 
 length_raised : (highest : ℕ) (block : List Ends) → length (raised_ends highest block) ≡ length block
 length_raised highest [] = refl
@@ -140,7 +140,7 @@ from_raised highest [] k d = refl
 from_raised highest (ends ∷ block) zero d = refl
 from_raised highest (ends ∷ block) (suc k) d = from_raised (max highest ends.to) block k d
 
--- raised ends leave the order of the beginnings
+-- raising the ends leaves the order of the beginnings unchanged
 pub from_rises : (highest : ℕ) (block : List Ends) → IsNonDecreasingBy (λ (e : Ends). e.from) block
     → IsNonDecreasingBy (λ (e : Ends). e.from) (raised_ends highest block)
 from_rises highest block up i j d order low =
@@ -157,7 +157,7 @@ above_raised highest (ends ∷ block) zero d low = omega arith
 above_raised highest (ends ∷ block) (suc k) d low =
     let behind = above_raised (max highest ends.to) block k d (omega arith) in omega arith
 
--- raised ends rise
+-- raised ends are in rising order
 pub to_rises : (highest : ℕ) (block : List Ends) → IsNonDecreasingBy (λ (e : Ends). e.to) (raised_ends highest block)
 to_rises highest [] i j d order low = absurd (omega arith)
 to_rises highest (ends ∷ block) zero zero d order low = omega arith
@@ -195,7 +195,7 @@ same_meets from to highest (ends ∷ block) up =
     ∙ regroup (nat_le ends.from to) (nat_le from highest) (nat_le from ends.to) (list_any (meets from to) block)
     (list_any begun block) (head_low to ends block up)
 
--- ranges in the order of their beginnings have a number in common with the same ranges when their ends are raised
+-- raising the ends of sorted ranges doesn't change whether one of them has a number in common with another range
 pub raised_meets : (from to : ℕ) (block : List Ends) → IsNonDecreasingBy (λ (e : Ends). e.from) block
     → list_any (meets from to) (raised_ends 0 block) ≡ list_any (meets from to) block
 raised_meets from to block up =
@@ -210,7 +210,7 @@ raised_meets from to block up =
         let zero_from = leb-true _ _ none in
         list_any_at (meets from to) block at.0 d at.1 (and_from _ _ at.2 (le-leb _ _ (omega arith)))
 
--- where no range begins at or before its end, none has a number in common with it
+-- if no range begins at or before its end, none has a number in common with it
 pub none_meets : (from to begun : ℕ) (block : List Ends) → begun ≤ 0
     → IsPartitionPoint (λ (e : Ends). nat_le e.from to ≡ true) (λ e. nat_le e.from to ≡ false) block begun
     → nat_lt 0 begun ≡ list_any (meets from to) block
@@ -218,7 +218,7 @@ none_meets from to begun block none point =
     let d : Ends = record { from = 0; to = 0 } in
     le-ltb 0 begun none ∙ sym (none_any (meets from to) d block (λ k low. and_left _ _ (point.1 k d (omega arith) low)))
 
--- the last range that begins at or before its end tells of all
+-- the last range that begins at or before its end decides for all
 pub last_meets : (from to begun : ℕ) (block : List Ends) (d : Ends) → 0 < begun → begun ≤ length block
     → IsPartitionPoint (λ (e : Ends). nat_le e.from to ≡ true) (λ e. nat_le e.from to ≡ false) block begun
     → IsNonDecreasingBy (λ (e : Ends). e.to) block
@@ -247,7 +247,7 @@ any_under true from to block = refl
 any_under false from to [] = refl
 any_under false from to (ends ∷ block) = any_under false from to block
 
--- a range contradicts one of a block of the other kind where it has a number in common with one
+-- a range contradicts one of a block of the other kind if it has a number in common with one
 pub meets_contradicts : (kind : Bool) (block : List Ends) (s : Range)
     → block_contradicts kind block (Some s) ≡ (is_other kind s.inheritable && list_any (meets s.from s.to) block)
 meets_contradicts kind block s = any_under (is_other kind s.inheritable) s.from s.to block

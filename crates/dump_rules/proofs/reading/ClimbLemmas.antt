@@ -1,4 +1,4 @@
--- Where each range begins above those of the other kind before it, no number stands as both kinds.
+-- If each range begins above those of the other kind before it, no number is in ranges of both kinds.
 use Rattle.dump_rules.proofs.Prelude.{◌≡◌, ℕ, ◌+◌, ◌-◌, ◌<◌, ◌≤◌, max, Bool, true, false, not, ◌==◌, List, [], ◌∷◌, take, drop, length, nat_lt, refl, sym, ap, subst, ◌∙◌, inl, inr, arith, ltb-true, cond_some, option_and_then_some, Some, None, Option, option_and_then, is_some, position, list_all, AllZip, HighestNumbers, Range, HasNumber, IsConsistent, range_of, range_parts, part_agrees, raised, raised_by, highest_numbers}
 use Rattle.dump_rules.proofs.reading.RangeLemmas.{position_split, position_whole, cut_first}
 use Rattle.dump_rules.proofs.reading.RangeListLemmas.{Reads, all_agree}
@@ -18,7 +18,8 @@ record Climb (highest : HighestNumbers) (parts : List (List ℕ)) : Type 0 where
   consistent : IsConsistent ranges
   over : AreAbove highest ranges
 
--- a range that raises the highest numbers begins above the other kind's, and its own kind's reaches its end
+-- a range that raises the highest numbers begins above the highest of the other kind, and the highest of its own kind
+-- is at least its end
 record Raised (highest : HighestNumbers) (r : Range) (next : HighestNumbers) : Type 0 where
   above : highest_of highest (not r.inheritable) < r.from
   reaches : r.to ≤ highest_of next r.inheritable
@@ -84,21 +85,21 @@ climbs highest (part ∷ parts) last is =
     go None e next up later = let bad : Path (Option HighestNumbers) None (Some next) = up in cc
     go (Some r) e next up later = climb-cons highest part parts r next e up later
 
--- one part more
+-- one more part
 
--- a list with a comma can't be highest_numbers where its first part is no range or begins too low
+-- a list with a comma has no highest numbers if its first part is no range or begins too low
 pub climb_none : (highest : HighestNumbers) (list : List ℕ) (k : ℕ) → position (λ b. b == 44) list ≡ Some k
     → raised_by highest (range_of (take k list)) ≡ None → highest_numbers highest (range_parts list) ≡ None
 climb_none highest list k here none = ap (highest_numbers highest) (position_split 44 k list here) ∙ rw none refl
 
--- a list is highest_numbers as the parts behind its first comma are, from where its first part leads
+-- a list has the highest numbers that the parts after its first comma have, if they begin with those of its first part
 pub climb_some : (highest : HighestNumbers) (list : List ℕ) (k : ℕ) (next : HighestNumbers) → position (λ b. b == 44) list ≡ Some k
     → raised_by highest (range_of (take k list)) ≡ Some next
     → highest_numbers highest (range_parts list) ≡ highest_numbers next (range_parts (take (length list - (k + 1)) (drop (k + 1) list)))
 climb_some highest list k next here some =
     ap (highest_numbers highest) (cut_first k list here) ∙ rw some refl
 
--- a list without a comma is highest_numbers where its one part is
+-- a list without a comma has highest numbers if its only part does
 pub climb_last : (highest : HighestNumbers) (list : List ℕ) → position (λ b. b == 44) list ≡ None
     → highest_numbers highest (range_parts list) ≡ raised_by highest (range_of list)
 climb_last highest list none = ap (highest_numbers highest) (position_whole 44 list none) ∙ last (raised_by highest (range_of list))
@@ -107,7 +108,7 @@ climb_last highest list none = ap (highest_numbers highest) (position_whole 44 l
     last None = refl
     last (Some next) = refl
 
--- parts that can be highest_numbers are ranges, and none of them contradicts another
+-- parts that have highest numbers are ranges, and none of them contradicts another
 pub some_agrees : (highest : HighestNumbers) (parts : List (List ℕ)) → is_some (highest_numbers highest parts) ≡ true
     → list_all (λ part. part_agrees parts (range_of part)) parts ≡ true
 some_agrees highest parts some = go (highest_numbers highest parts) refl some

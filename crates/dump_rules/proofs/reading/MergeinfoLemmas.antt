@@ -1,11 +1,11 @@
--- A value is read as mergeinfo where it is some lines.
+-- A value is read as mergeinfo if it is lines of mergeinfo.
 use Rattle.dump_rules.proofs.Prelude.{◌≡◌, ◌⊎◌, ◌↔◌, ℕ, ◌+◌, ◌-◌, ◌<◌, ◌≤◌, Bool, true, false, not, ◌==◌, List, [], ◌∷◌, ◌++◌, take, drop, length, reverse, get_or, nat_lt, refl, sym, ap, ◌∙◌, inl, inr, arith, append_assoc, length-append, codes, bytes_eq, IsTrue, list_all, slice_split, join_with_byte, AllZip, suffix_len, nat_tests, and_from, and_parts, cases_Bool, ltb-true, none_all, eqb-true, not-false, take-append-drop, drop_more, get_or-append-add, get_or-reverse, drop_at, length-reverse, length-take-le, drop-append-add, get_or-append_seam, join_with_byte-slice_split, suffix_len_is, suffix_len-le-length, prefix_len_stops, has_byte, has_byte-append, front_lacks, MergeLine, IsMergeLine, HasMergeLines, list_reads, colon_end, line_reads, without_lf, lines_read, value_reads}
 use Rattle.dump_rules.proofs.reading.RangeLemmas.{no_end, ends_so, front_is, ends_parts}
 use Rattle.dump_rules.proofs.reading.RangeListLemmas.{AllLack, split_joined, parts_lack, list_lacks, list_is_read, read_is_list}
 
 -- colons
 
--- the last colon of a line is the one behind its path, where the list behind it has none
+-- the last colon of a line is the one after its path, where the list after it has none
 pub colon_end_is : (path list : List ℕ) → has_byte 58 list ≡ false
     → colon_end ((path ++ 58 ∷ []) ++ list) ≡ length path + 1
 colon_end_is path list none =
@@ -63,7 +63,7 @@ record ReadLine (text : List ℕ) : Type 0 where
   one_line : has_byte 10 text ≡ false
   some : 0 < length text
 
--- a line of mergeinfo is cut at the colon behind its path
+-- a line of mergeinfo is cut at the colon after its path
 pub line_cut : (text : List ℕ) (line : MergeLine) (is : IsMergeLine text line)
     → (colon_end text ≡ length line.path + 1) × (drop (colon_end text) text ≡ is.spelled.0)
 line_cut text line is =
@@ -175,7 +175,7 @@ read_are_lines (b ∷ text) reads =
     let found = lines_from_reads (slice_split (λ c. c == 10) (b ∷ text)) reads (parts_lack 10 (b ∷ text)) in
     (slice_split (λ c. c == 10) (b ∷ text), found.0, found.1, sym (join_with_byte-slice_split 10 (b ∷ text)))
 
--- the value without its LF is what the lines joined are
+-- the value without its LF is the joined lines
 pub bare : (texts : List (List ℕ)) (lines : List MergeLine) → AllZip IsMergeLine texts lines → (value : List ℕ)
     → (value ≡ join_with_byte 10 texts) ⊎ (value ≡ join_with_byte 10 texts ++ 10 ∷ [])
     → without_lf value ≡ join_with_byte 10 texts
@@ -193,7 +193,7 @@ value_parts value = elim (cases_Bool (ends_in_lf value)) [
   | inr e ↦ inl (rw e refl)
 ]
 
--- exactly the values that are some lines are read
+-- exactly the values that are lines of mergeinfo are read
 pub reads_exactly : (value : List ℕ) → IsTrue (value_reads value) ↔ HasMergeLines value
 reads_exactly value = (there, λ has. back has.0 has.1.0 has.1.1 has.1.2)
   where

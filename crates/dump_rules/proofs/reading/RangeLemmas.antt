@@ -21,7 +21,7 @@ number_parts text n is = elim (cases_Bool (is_number text)) [
   | inr e ↦ let bad : None ≡ Some n = rw e at is in cc
 ]
 
--- a text that is read as a number lacks each byte that is no digit
+-- a text that is read as a number has no byte except digits
 pub number_lacks : (b : ℕ) (text : List ℕ) (n : ℕ) → is_ascii_digit b ≡ false → number_of text ≡ Some n
     → has_byte b text ≡ false
 number_lacks b text n other is =
@@ -34,7 +34,7 @@ ends_is b body =
     let size = length-append body (b ∷ []) in
     drop_at body (b ∷ []) (length (body ++ b ∷ []) - 1) (omega arith)
 
--- a text without the byte at its end is what stands before that byte
+-- a text without the byte at its end is what is before that byte
 pub front_is : (b : ℕ) (body : List ℕ) → take (length (body ++ b ∷ []) - 1) (body ++ b ∷ []) ≡ body
 front_is b body =
     let size = length-append body (b ∷ []) in
@@ -49,11 +49,11 @@ no_end b text none = false_from_ne_true _ (λ e.
     let same = (bytes_eq-Decides (drop (length text - 1) text) (b ∷ [])).0 e in
     both_ways _ (drop_lacks b (length text - 1) text none) (ap (has_byte b) same ∙ has_at b [] []))
 
--- a text with the byte behind it does
+-- a text followed by the byte ends in it
 pub ends_so : (b : ℕ) (body : List ℕ) → bytes_eq (drop (length (body ++ b ∷ []) - 1) (body ++ b ∷ [])) (b ∷ []) ≡ true
 ends_so b body = (bytes_eq-Decides (drop (length (body ++ b ∷ []) - 1) (body ++ b ∷ [])) (b ∷ [])).1 (ends_is b body)
 
--- a text that ends in the byte is the rest with it behind
+-- a text that ends in the byte is the rest of it, followed by the byte
 pub ends_parts : (b : ℕ) (text : List ℕ) → bytes_eq (drop (length text - 1) text) (b ∷ []) ≡ true
     → text ≡ take (length text - 1) text ++ b ∷ []
 ends_parts b text e =
@@ -96,12 +96,12 @@ position_split b k text is =
     ap (slice_split (λ c. c == b)) at.cut
     ∙ slice_split_at (λ c. c == b) (take k text) b (drop (k + 1) text) (none_all b (take k text) at.before) (same b)
 
--- and is whole where there is none
+-- and isn't cut if it has no such byte
 pub position_whole : (b : ℕ) (text : List ℕ) → position (λ c. c == b) text ≡ None
     → slice_split (λ c. c == b) text ≡ text ∷ []
 position_whole b text is = slice_split_none (λ c. c == b) text (none_all b text (no_place b text (sym is)))
 
--- the parts of a list are the text before its first comma, and then the parts behind it
+-- the parts of a list are the text before its first comma, and then the parts after it
 pub cut_first : (k : ℕ) (list : List ℕ) → position (λ b. b == 44) list ≡ Some k
     → range_parts list ≡ take k list ∷ range_parts (take (length list - (k + 1)) (drop (k + 1) list))
 cut_first k list is =

@@ -1,16 +1,16 @@
--- A range list is read where it is one, and no number stands in it as both kinds.
+-- A range list is read if it is one, and no number is in ranges of both kinds.
 use Rattle.dump_rules.proofs.Prelude.{◌≡◌, ℕ, ◌≤◌, max, Bool, true, false, not, ◌==◌, List, [], ◌∷◌, ◌++◌, nat_le, refl, sym, ap, subst, ◌∙◌, inl, inr, arith, Some, None, Option, list_all, list_any, slice_split, onto_first, join_with_byte, AllZip, is_ascii_digit, and_from, and_parts, or_cases, or_left, or_right, not_from_false, false_from_ne_true, cases_Bool, le-leb, leb-true, none_all, slice_split_at, slice_split_none, join_with_byte-slice_split, first_false, second_false, has_byte, has_byte-append, Range, HasNumber, IsConsistent, star, IsRangeText, IsRangeList, range_of, range_parts, is_other, contradicts, part_contradicts, part_agrees, list_reads}
 use Rattle.dump_text.proofs.BoolLemmas.{equals_itself as same}
 use Rattle.dump_rules.proofs.reading.RangeLemmas.{number_lacks, range_of_text, text_of_range}
 
--- parts that lack the byte, joined by it, are cut into themselves
+-- cutting text at the byte that joins parts without it gives these parts
 
--- each part lacks the byte
+-- no part has the byte
 abbrev pub AllLack : ℕ → List (List ℕ) → Type 0
 AllLack b [] = Unit {0}
 AllLack b (part ∷ parts) = (has_byte b part ≡ false) × AllLack b parts
 
--- cutting at the byte gives back the parts that it joins, where they lack it
+-- cutting a joined text at the byte gives back the parts that it joins, if none of them has the byte
 pub split_joined : (b : ℕ) (part : List ℕ) (parts : List (List ℕ)) → AllLack b (part ∷ parts)
     → slice_split (λ c. c == b) (join_with_byte b (part ∷ parts)) ≡ part ∷ parts
 split_joined b part [] lack = slice_split_none (λ c. c == b) part (none_all b part lack.0)
@@ -22,7 +22,7 @@ onto_lack : (b c : ℕ) (parts : List (List ℕ)) → (c == b) ≡ false → All
 onto_lack b c [] other lack = (rw other refl, tt)
 onto_lack b c (part ∷ parts) other lack = (rw other lack.0, lack.1)
 
--- the parts that a text is cut into lack the byte
+-- the parts into which a text is cut don't have the byte
 pub parts_lack : (b : ℕ) (text : List ℕ) → AllLack b (slice_split (λ c. c == b) text)
 parts_lack b [] = (refl, tt)
 parts_lack b (c ∷ text) = elim (cases_Bool (c == b)) [
@@ -36,14 +36,14 @@ parts_lack b (c ∷ text) = elim (cases_Bool (c == b)) [
 abbrev pub Reads : List ℕ → Range → Type 0
 Reads part r = range_of part ≡ Some r
 
--- what is zipped so is zipped in a weaker way
+-- a list that is zipped by a relation is zipped by a weaker one
 pub zip_map : {A B : Type 0} (P Q : A → B → Type 0) → ((x : A) (y : B) → P x y → Q x y) → (xs : List A) (ys : List B)
     → AllZip P xs ys → AllZip Q xs ys
 zip_map P Q each [] [] all = tt
 zip_map P Q each (x ∷ xs) (y ∷ ys) all = (each x y all.0, zip_map P Q each xs ys all.1)
 zip_map P Q each xs ys all = absurd all
 
--- a number that stands in the ranges is in one of the parts
+-- a number that is in the ranges is in one of the parts
 number_in_part : (parts : List (List ℕ)) (ranges : List Range) → AllZip Reads parts ranges → (kind : Bool) (n : ℕ)
     → HasNumber ranges kind n
     → (test : Option Range → Bool) → ((r : Range) → r.inheritable ≡ kind → r.from ≤ n → n ≤ r.to → test (Some r) ≡ true)
@@ -55,7 +55,7 @@ number_in_part (part ∷ parts) (r ∷ ranges) all kind n (inr later) test passe
     or_right _ _ (number_in_part parts ranges all.1 kind n later test passes)
 number_in_part parts ranges all kind n has test passes = absurd all
 
--- a range of the list that passes
+-- a range of the list passes the test
 abbrev Passing : List Range → (Range → Bool) → Type 0
 Passing ranges test = (s : Range) × (test s ≡ true) × (s.from ≤ s.to)
     × ((n : ℕ) → s.from ≤ n → n ≤ s.to → HasNumber ranges s.inheritable n)
@@ -113,7 +113,7 @@ consistent_from_agree parts ranges all agree n plain starred =
         (λ s other s_low s_high. overlap r s n (rw (kind, other) refl) low high s_low s_high) in
         rw some refl
 
--- no part contradicts a list without contradictions, where the list has each of the part's numbers
+-- no part contradicts a list without contradictions, if the list has each of the part's numbers
 pub all_agree : (parts : List (List ℕ)) (ranges : List Range) → AllZip Reads parts ranges → IsConsistent ranges
     → (some : List (List ℕ)) (found : List Range) → AllZip Reads some found
     → ((kind : Bool) (n : ℕ) → HasNumber found kind n → HasNumber ranges kind n)
@@ -155,7 +155,7 @@ read_all parts (part ∷ some) agree =
 abbrev pub HasFirst : List ℕ → Type 0
 HasFirst text = (b : ℕ) × (rest : List ℕ) × (text ≡ b ∷ rest)
 
--- texts that are joined begin with a byte where the first of them does
+-- a joined text begins with a byte if the first of its parts does
 pub joined_some : (byte : ℕ) (first : List ℕ) (texts : List (List ℕ)) → HasFirst first
     → HasFirst (join_with_byte byte (first ∷ texts))
 joined_some byte first [] some = some
@@ -187,7 +187,7 @@ part_lacks b part r other marks is = elim is.spelled [
     no_dash : has_byte b (45 ∷ []) ≡ false
     no_dash = second_false (42 == b) (has_byte b (45 ∷ [])) marks
 
--- the texts of ranges lack each byte that is no digit, star or dash
+-- the texts of ranges have no byte except digits, stars and dashes
 pub all_lack : (b : ℕ) (parts : List (List ℕ)) (ranges : List Range) → is_ascii_digit b ≡ false
     → has_byte b (42 ∷ 45 ∷ []) ≡ false
     → AllZip IsRangeText parts ranges → AllLack b parts

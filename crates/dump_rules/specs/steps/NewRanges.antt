@@ -5,7 +5,7 @@ use Rattle.dump_rules.specs.steps.ReadRanges.{range_of, range_parts}
 use Rattle.dump_rules.specs.Renumbering.{KeptRevisions}
 use Rattle.dump_rules.specs.steps.Runs.{with_range}
 
--- the new numbers of the kept revisions of a range, if there are some
+-- the new numbers of the kept revisions in a range, if there are any
 abbrev pub new_range : KeptRevisions → Range → Option Range
 new_range kept r =
     if nat_lt (count_by (λ k. nat_lt k r.from) kept.numbers) (count_by (λ k. nat_le k r.to) kept.numbers)
@@ -16,7 +16,7 @@ new_range kept r =
     })
     else None
 
--- what becomes of a range, with renumbering or without
+-- the new range of a range, with renumbering or without
 abbrev pub kept_range : Bool → KeptRevisions → Range → Option Range
 kept_range renumber kept r = if renumber then new_range kept r else Some r
 
@@ -30,7 +30,7 @@ abbrev pub part_range : Bool → KeptRevisions → Option Range → Option Range
 part_range renumber kept None = None
 part_range renumber kept (Some r) = kept_range renumber kept r
 
--- the same of the parts
+-- the same of a list of parts
 abbrev pub parts_ranges : Bool → KeptRevisions → List (List ℕ) → List Range
 parts_ranges renumber kept [] = []
 parts_ranges renumber kept (part ∷ parts) =

@@ -6,7 +6,7 @@ use Rattle.dump_rules.specs.declared.ranges.Span.{Span}
 use Rattle.dump_rules.specs.declared.ranges.HighestNumbers.{HighestNumbers}
 use Rattle.dump_rules.specs.RangeList.{Range}
 
--- the range that is kept as two ends and a kind
+-- a span as a range
 abbrev pub span_range : Span → Range
 span_range s = record { from = s.from; to = s.to; inheritable = s.inheritable }
 
@@ -24,12 +24,12 @@ both None to = None
 both (Some from) None = None
 both (Some from) (Some to) = Some (from, to)
 
--- the two ends, where a dash stands at this place, or nowhere
+-- the two ends of a range with a dash at this place, or of a number without a dash
 abbrev pub ends_at : Option ℕ → List ℕ → Option (ℕ × ℕ)
 ends_at None text = both (number_of text) (number_of text)
 ends_at (Some k) text = both (number_of (take k text)) (number_of (drop (k + 1) text))
 
--- the two ends of a range without its star
+-- the two ends of a range, which is given without its star
 abbrev pub ends_of : List ℕ → Option (ℕ × ℕ)
 ends_of text = ends_at (position (λ b. b == 45) text) text
 
@@ -41,7 +41,7 @@ range_between (Some ends) kind =
     then Some (record { from = ends.0; to = ends.1; inheritable = kind })
     else None
 
--- the range that the text is, if it is one
+-- the range with this text, if it is one
 abbrev pub range_of : List ℕ → Option Range
 range_of text = range_between (ends_of (without_star text)) (not (ends_in_star text))
 
@@ -49,12 +49,12 @@ range_of text = range_between (ends_of (without_star text)) (not (ends_in_star t
 abbrev pub range_parts : List ℕ → List (List ℕ)
 range_parts list = slice_split (λ b. b == 44) list
 
--- whether the two kinds are unlike
+-- whether the two kinds are different
 abbrev pub is_other : Bool → Bool → Bool
 is_other true kind = not kind
 is_other false kind = kind
 
--- whether the ranges have a number in common, and are of unlike kinds
+-- whether the ranges have a number in common and are of different kinds
 abbrev pub contradicts : Range → Range → Bool
 contradicts r s = is_other r.inheritable s.inheritable && nat_le r.from s.to && nat_le s.from r.to
 

@@ -22,24 +22,24 @@ abbrev pub text_lines : List ℕ → List (List ℕ)
 text_lines [] = []
 text_lines (b ∷ text) = slice_split (λ c. c == 10) (b ∷ text)
 
--- an LF behind what is there, if something is
+-- the output with an LF, unless it is empty
 abbrev pub with_break : List ℕ → List ℕ
 with_break [] = []
 with_break (b ∷ out) = (b ∷ out) ++ codes "\n"
 
--- a line of these runs behind what is there, if there are runs
+-- the output and a line of these runs, if there are any
 abbrev pub with_runs : List ℕ → List ℕ → List Range → List ℕ
 with_runs out path [] = out
 with_runs out path (r ∷ runs) = with_break out ++ path ++ codes ":" ++ runs_text (r ∷ runs)
 
--- what becomes of a line, behind what is there
+-- the output and what the filter makes of a line
 abbrev pub with_new_line : Settings → KeptRevisions → List ℕ → List ℕ → List ℕ
 with_new_line settings kept out line =
     if keeps_path settings (line_path line)
     then with_runs out (line_path line) (runs_of (list_new settings.renumber kept (line_list line)))
     else out
 
--- what becomes of the lines, behind what is there
+-- the output and what the filter makes of these lines
 abbrev pub with_new_lines : Settings → KeptRevisions → List ℕ → List (List ℕ) → List ℕ
 with_new_lines settings kept out [] = out
 with_new_lines settings kept out (line ∷ lines) =
@@ -49,11 +49,11 @@ with_new_lines settings kept out (line ∷ lines) =
 abbrev pub line_misses : Settings → List ℕ → Bool
 line_misses settings line = not (keeps_path settings (line_path line))
 
--- whether a line of the text has a path that isn't kept, and may not be left out
+-- whether missing sources aren't skipped, and a line of the text has a path that isn't kept
 abbrev pub text_misses : Settings → List ℕ → Bool
 text_misses settings text = not settings.skip_missing && list_any (line_misses settings) (text_lines text)
 
--- whether a range has a number above the present revision, or one below the first where those count
+-- whether a range has a number above the present revision, or one below the first and missing sources aren't skipped
 abbrev pub range_foreign : Settings → ℕ → ℕ → Range → Bool
 range_foreign settings first now r = nat_lt now r.to || (not settings.skip_missing && nat_lt r.from first)
 
@@ -68,20 +68,20 @@ list_foreign settings first now [] = false
 list_foreign settings first now (b ∷ list) =
     list_any (λ part. part_foreign settings first now (range_of part)) (range_parts (b ∷ list))
 
--- whether a line that stays has such a range
+-- whether the path of a line is kept, and the line has such a range
 abbrev pub line_foreign : Settings → ℕ → ℕ → List ℕ → Bool
 line_foreign settings first now line =
     keeps_path settings (line_path line) && list_foreign settings first now (line_list line)
 
--- whether, with renumbering, a line of the text that stays has such a range
+-- whether revisions are renumbered, and the path of a line of the text is kept that has such a range
 abbrev pub text_foreign : Settings → ℕ → ℕ → List ℕ → Bool
 text_foreign settings first now text =
     settings.renumber && list_any (line_foreign settings first now) (text_lines text)
 
--- whether the value has a line whose path isn't kept, and that may not be left out
+-- whether missing sources aren't skipped, and a line of the value has a path that isn't kept
 abbrev pub value_misses : Settings → List ℕ → Bool
 value_misses settings value = text_misses settings (without_lf value)
 
--- whether, with renumbering, the value has a line that stays and has such a range
+-- whether revisions are renumbered, and the path of a line of the value is kept that has such a range
 abbrev pub value_foreign : Settings → ℕ → ℕ → List ℕ → Bool
 value_foreign settings first now value = text_foreign settings first now (without_lf value)

@@ -1,4 +1,4 @@
-//! Ranges of both kinds in no order, more than are held at a time.
+//! Unsorted ranges of both kinds, more than fit a block.
 use super::{are_read_between, falling};
 use crate::merge_reads;
 use std::test::Fail;
@@ -25,8 +25,8 @@ fn ranges_reach_over_others_of_their_kind(rt: HostRuntime) {
     }
 }
 
-/// The even numbers fall from 20000 to 2, the odd ones with stars between them. The lists are of as
-/// many ranges of either kind, and of more of the one or the other.
+/// The even numbers fall from 20000 to 2, and between them are the odd numbers with stars. The lists have the same
+/// number of ranges of either kind, or more of one of them.
 #[test]
 fn twenty_thousand_ranges_of_both_kinds_in_falling_order(rt: HostRuntime) -> Result<(), Fail> {
     let rows = [

@@ -1,15 +1,15 @@
-//! Which paths prefixes keep, and options as they were handed in.
+//! Which paths prefixes keep, and options as the caller passed them.
 use super::options;
 use crate::{Empty, Memory, Options, Side, keeps};
 use std::alloc::Global;
 use std::test::Fail;
 
-/// Whether these prefixes on this side keep a path.
+/// Whether options with these prefixes and this side keep a path.
 fn is_kept(alloc: Global, side: Side, prefixes: &[&[u8]], path: &[u8]) -> Result<bool, Memory> {
     Ok(keeps(&options(alloc, side, prefixes)?, path))
 }
 
-/// Whether these prefixes match a path so: then it is kept on the one side, and else on the other.
+/// Whether these prefixes match a path, as `matched` says: one side then keeps the path, and the other one doesn't.
 fn is_matched(
     alloc: Global,
     prefixes: &[&[u8]],
@@ -56,12 +56,12 @@ fn no_prefix_matches_no_path(rt: HostRuntime) -> Result<(), Fail> {
     Ok(())
 }
 
-/// Whether options have these two prefixes and no other.
+/// Whether options have exactly these two prefixes.
 fn has_two_prefixes(given: &Options, first: &[u8], second: &[u8]) -> bool {
     given.prefix(0) == Some(first) && given.prefix(1) == Some(second) && given.prefix(2).is_none()
 }
 
-/// Whether options with these two prefixes are as they were handed in.
+/// Whether options with these two prefixes return what was passed.
 fn is_handed_in(
     alloc: Global,
     side: Side,
@@ -93,7 +93,7 @@ fn options_are_as_handed_in(rt: HostRuntime) -> Result<(), Fail> {
     Ok(())
 }
 
-/// Run with each allocation refused in turn: options are whole, or there are none.
+/// Run with each allocation failing in turn: `Options::new` returns complete options or an error.
 #[test]
 fn options_or_no_memory(rt: HostRuntime) {
     let answered = match options(rt.alloc(), Side::Include, &[b"trunk", b"tags"]) {
@@ -170,13 +170,13 @@ fn five_thousand(alloc: Global) -> Result<Options, Fail> {
     Ok(options(alloc, Side::Include, &prefixes)?)
 }
 
-/// Whether these options keep the path pN with this end.
+/// Whether these options keep the path that is `p`, this number and this end.
 fn keeps_numbered(alloc: Global, options: &Options, n: u64, end: &str) -> Result<bool, Fail> {
     let path = format!(in alloc; "p{n:04}{end}")?;
     Ok(keeps(options, path.as_bytes()))
 }
 
-/// Whether these options keep just what stands at or below the path pN.
+/// Whether these options keep `pN` and the paths below it, but no longer name.
 fn keeps_whole_name(alloc: Global, options: &Options, n: u64) -> Result<bool, Fail> {
     for (end, kept) in [("", true), ("/a/b", true), ("0", false), ("-a", false)] {
         if keeps_numbered(alloc, options, n, end)? != kept {
@@ -186,7 +186,7 @@ fn keeps_whole_name(alloc: Global, options: &Options, n: u64) -> Result<bool, Fa
     Ok(true)
 }
 
-/// Whether these options keep just the paths under them.
+/// Whether these options keep exactly the paths at or below their prefixes.
 fn keeps_five_thousand(alloc: Global, options: &Options) -> Result<bool, Fail> {
     for n in [0u64, 1, 2499, 4998, 4999] {
         if !keeps_whole_name(alloc, options, n)? {

@@ -1,4 +1,4 @@
-//! New values of mergeinfo, and what values say without one.
+//! New values of mergeinfo, and what a value says without being rewritten.
 ghost use Rattle.std.specs.Prelude.{◌≤◌, All};
 
 use crate::laws::each_map_has_one_spelling;
@@ -25,7 +25,7 @@ fn rules(
     )
 }
 
-/// Whether this value, which has to be mergeinfo, is written so, or refused with this fault.
+/// Whether this value, which has to be mergeinfo, is rewritten to this one, or fails with this fault.
 fn is_rewritten(
     alloc: Global,
     value: &[u8],
@@ -46,7 +46,7 @@ fn is_rewritten(
     }
 }
 
-/// Whether each of these values is written as the one beside it.
+/// Whether each of these values is rewritten to the one next to it.
 fn are_rewritten(
     alloc: Global,
     rows: &[(&[u8], &[u8])],
@@ -64,7 +64,7 @@ fn are_rewritten(
     true
 }
 
-/// Whether each of these values is refused with this fault.
+/// Whether each of these values fails with this fault.
 fn are_refused(
     alloc: Global,
     values: &[&[u8]],
@@ -192,7 +192,8 @@ fn said(value: &[u8], options: &Options) -> Option<Merged> {
     Merged::new().with(value, options)
 }
 
-/// Whether these values miss a source, and whether they name a number of no revision from the first to the present.
+/// Whether these values miss a source, and whether they have a number that the dump can't have at the revision
+/// `present`.
 fn faults_of(merged: &Merged, options: &Options, first: u64, present: u64) -> (bool, bool) {
     (
         merged.misses_source(),
@@ -200,7 +201,7 @@ fn faults_of(merged: &Merged, options: &Options, first: u64, present: u64) -> (b
     )
 }
 
-/// Whether each of these values has these faults where the first revision is 5 and the present one is 6.
+/// Whether each of these values has these faults if the first revision is 5 and the present one is 6.
 fn have_faults(options: &Options, rows: &[(&[u8], (bool, bool))]) -> bool {
     for (value, faults) in rows {
         match said(value, options) {
@@ -239,7 +240,7 @@ fn faults_are_fewer_where_less_is_asked(rt: HostRuntime) -> Result<(), Fail> {
     Ok(())
 }
 
-/// Whether what two values say is told together.
+/// Whether two values together have the faults of both.
 fn are_told_together(options: &Options) -> bool {
     let Some(first) = said(b"/trunk:7", options) else {
         return false;
@@ -298,7 +299,7 @@ fn ten_thousand_ranges_in_any_order(rt: HostRuntime) -> Result<(), Fail> {
     Ok(())
 }
 
-/// Run with each allocation refused in turn: there is a new value, or no memory.
+/// Run with each allocation failing in turn: the call returns a new value, or the error for memory.
 #[test]
 fn new_value_or_no_memory(rt: HostRuntime) -> Result<(), Fail> {
     each_map_has_one_spelling();
