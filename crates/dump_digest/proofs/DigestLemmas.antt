@@ -1,8 +1,8 @@
--- A header tells another digest than the text's exactly where it stands there, and isn't it.
+-- A header gives another digest than the text's exactly if it is there and isn't that digest.
 use Rattle.dump_digest.proofs.Prelude.{◌≡◌, ◌↔◌, ℕ, Bool, true, false, ◌||◌, List, refl, sym, ap, ◌∙◌, Option, Some, None, is_some, Bor, IsFalse, if◌then◌else◌, same_Some, inl, inr, cases_Bool, not_so, md5_name, sha1_name, has_header, header_value, DumpRecord, has_value, some_copied, has_whole_text, TellsOther, HasOtherDigest, is_told_text}
 use Rattle.std.proofs.Common.{option_copied}
 
--- the text of a record, where it has one that isn't a delta
+-- the text of a record, if it has one that isn't a delta
 abbrev pub whole_part : DumpRecord → Option (List ℕ)
 whole_part r = if has_whole_text r then Some r.text else None
 
@@ -17,7 +17,7 @@ text_there r text is = elim (cases_Bool (has_whole_text r)) [
 pub no_text : (r : DumpRecord) → None ≡ whole_part r → has_whole_text r ≡ false
 no_text r is = not_so _ (λ e. let bad : None ≡ Some r.text = is ∙ rw e refl in cc)
 
--- a digest isn't ok exactly where the record tells another of its text
+-- a digest isn't ok exactly if the record has another one for its text
 pub digest_told : (name : List ℕ) (r : DumpRecord) (size : ℕ) (digest : List ℕ) (ok : Bool) (told : Option (List ℕ))
     → has_whole_text r ≡ true
     → told ≡ header_value name r.headers → (IsFalse ok ↔ TellsOther told size digest) → IsFalse ok
@@ -28,7 +28,7 @@ digest_told name r size digest ok told text is means =
       λ other. means.1 (there ∙ other.1.0, λ digits h. other.1.1 digits (sym is ∙ h)),
     )
 
--- a text is checked exactly where the record tells a digest of it
+-- a text is checked exactly if the record has a digest of it
 pub text_told : (r : DumpRecord) (checked : Bool) (md5 sha1 : Option (Bor (List ℕ))) → has_whole_text r ≡ true
     → option_copied md5 ≡ header_value md5_name r.headers
     → option_copied sha1 ≡ header_value sha1_name r.headers → checked ≡ (is_some md5 || is_some sha1)

@@ -1,9 +1,9 @@
--- Mergeinfo is bad where a property of its name has a value that isn't mergeinfo.
+-- Mergeinfo is bad if a property of its name has a value that isn't mergeinfo.
 use Rattle.dump_digest.proofs.Prelude.{◌≡◌, ◌↔◌, ℕ, zero, suc, Bool, true, false, List, [], ◌∷◌, refl, sym, ap, subst, ◌∙◌, arith, Contains, IsTrue, IsFalse, inl, inr, absurd_bool, not_so, cases_Bool, same_from_decides, Bool-set, ∥∥₁_elim, and_parts, Property, property_block_once, DumpRecord, Settings, HasMergeLines, value_reads, reads_exactly, is_kept_node, is_mergeinfo, value_of, HasPropertyList, HasPropertyBlock, HasBadMergeinfo, property_reads, properties_read}
 
 -- one property
 
--- a value was read exactly where it is some lines
+-- a value was read exactly if it is lines of mergeinfo
 pub read_is : (value : List ℕ) (reads : Bool) → (IsTrue reads ↔ HasMergeLines value) → reads ≡ value_reads value
 read_is value reads means =
     same_from_decides {P = HasMergeLines value} reads (value_reads value) means (reads_exactly value)
@@ -53,7 +53,7 @@ read_none (q ∷ ps) p read (suc i, within, is) =
 
 -- a kept node
 
--- mergeinfo of a kept node can't be read exactly where it is bad
+-- mergeinfo of a kept node can't be read exactly if it is bad
 pub merge_means : (settings : Settings) (r : DumpRecord) (ok : Bool) (ps : List Property)
     → IsTrue (is_kept_node settings r) → HasPropertyList r ps
     → ok ≡ properties_read ps → IsFalse ok ↔ ∥ HasBadMergeinfo settings r ∥₁

@@ -1,4 +1,4 @@
--- A record's properties can be read or can't, and which list they are.
+-- Whether a record's properties can be read, and that they are only one list.
 use Rattle.dump_digest.proofs.Prelude.{◌≡◌, ◌⊎◌, Bool, true, false, List, refl, sym, ap, ◌∙◌, inl, inr, Property, IsPropertyBlock, has_deletes, absurd_bool, property_block_once, changes_or_not, DumpRecord, takes_deletes, HasPropertyList, HasPropertyBlock}
 
 -- a record's properties are one list
@@ -21,7 +21,7 @@ block_or_not r = elim (changes_or_not r.props) [
         absurd_bool (takes_deletes r) (list.1 (sym (ap has_deletes same) ∙ deletes)) takes)
     by_deletes ps block false kept c takes = inl (ps, (block, λ e. absurd (absurd_bool (has_deletes ps) e kept)))
 
--- those that can't be no property block are one
+-- if it is false that there is no property block, there is one
 pub block_stable : (r : DumpRecord) → ¬ ¬ HasPropertyBlock r → HasPropertyBlock r
 block_stable r possible = elim (block_or_not r) [
   | inl has ↦ has

@@ -3,7 +3,7 @@ use Rattle.dump_digest.proofs.Prelude.{◌≡◌, ◌↔◌, ◌<◌, ◌^◌, �
 use Rattle.dump_digest.proofs.MergeLemmas.{read_is, merge_means, merge_unread}
 use Rattle.dump_digest.proofs.PropertyBlocks.{block_stable}
 
--- what is said of the properties that were read, where the others are left
+-- what the properties say that were read; the others are still to be read
 pub record IsSaidUpTo (s : Settings) (ps qs : List Property) (found : Bool) (said : Merged) : Type 0 where
   pub read : properties_read ps ≡ properties_read qs
   pub found_is : list_any is_mergeinfo ps ≡ (found || list_any is_mergeinfo qs)
@@ -66,7 +66,7 @@ pub not_said : (s : Settings) (ps qs others : List Property) (p : Property) (fou
     → properties_read ps ≡ false
 not_said s ps qs others p found said is named bad up = up.read ∙ ap properties_read is ∙ rw (named, bad) refl
 
--- behind the last property all is said
+-- after the last property all properties were read
 pub said_at_last : (s : Settings) (ps : List Property) (found : Bool) (said : Merged) → IsSaidUpTo s ps [] found said
     → IsSaidBy s ps (record { found = found; said = said })
 said_at_last s ps found said up = record {
@@ -84,7 +84,7 @@ entry_value e = by_gone e.gone refl
     by_gone true gone = sym (e.empty gone)
     by_gone false set = refl
 
--- what the reader of a value answers
+-- the result of reading a value
 pub unread_value : (value : List ℕ) (o : Option Merged) → (IsSome o ↔ HasMergeLines value) → o ≡ None
     → value_reads value ≡ false
 unread_value value o means is = sym (read_is value (is_some o) means) ∙ ap is_some is
@@ -100,14 +100,14 @@ abbrev pub AreSaid : Settings → Option Props → Option Mergeinfo → Type 0
 AreSaid s found o = (ps : List Property) (p : Props) → found ≡ Some p → IsPropertyBlock (props_bytes p) ps
     → MatchOption o (properties_read ps ≡ false) (λ m. IsSaidBy s ps m)
 
--- values can be read where mergeinfo was
+-- values can be read if mergeinfo was read
 said_ok : (s : Settings) (ps : List Property) (o : Option Mergeinfo) → MatchOption o (properties_read ps ≡ false)
     (λ m. IsSaidBy s ps m)
     → is_some o ≡ properties_read ps
 said_ok s ps None bad = sym bad
 said_ok s ps (Some m) said = sym said.read
 
--- a kept node's mergeinfo can be read exactly where it isn't bad
+-- a kept node's mergeinfo can be read exactly if it isn't bad
 pub merge_told : (s : Settings) (r : DumpRecord) (found : Option Props) (o : Option Mergeinfo)
     → IsTrue (is_kept_node s r)
     → (IsSome found ↔ HasPropertyBlock r) → IfSome found (λ p. props_bytes p ≡ r.props)
@@ -133,27 +133,27 @@ values_told s r (Some p) o means is said ps list =
     by_option None bad = λ m e. absurd (let no : None ≡ Some m = e in cc)
     by_option (Some m) told = λ n e. subst (IsSaidBy s ps) (let one : m ≡ n = cc in one) told
 
--- a kept node's properties are asked
+-- a kept node's properties are needed
 pub asked_kept : (s : Settings) (r : DumpRecord) (found : Option PropsReading) (ok : Bool) → IsTrue (is_kept_node s r)
     → ok ≡ is_some found
     → is_some found ≡ (is_asked s r && ok)
 asked_kept s r found ok kept is = sym is ∙ ap (λ b. b && ok)
     (sym (or_right (is_revision_record r) (is_kept_node s r) kept))
 
--- what was read of the values is said, where each can be read
+-- what was read is what the values say, if each can be read
 pub said_read : (s : Settings) (ps : List Property) (o : Option Mergeinfo) (none m : Mergeinfo)
     → ForSome o (λ m. IsSaidBy s ps m)
     → is_some o ≡ true → m ≡ unwrap_or o none → IsSaidBy s ps m
 said_read s ps None none m said ok is = absurd (false≢true ok)
 said_read s ps (Some n) none m said ok is = subst (IsSaidBy s ps) (sym is) (said n refl)
 
--- mergeinfo whose parts are told apart
+-- mergeinfo, from its parts
 pub same_mergeinfo : (m : Mergeinfo) (missed : Bool) (numbers : Bounds) → missed ≡ m.said.misses
     → numbers ≡ m.said.numbers
     → record { found = m.found; said = record { misses = missed; numbers = numbers } } ≡ m
 same_mergeinfo m missed numbers is same = rw (is, same) refl
 
--- of another record no mergeinfo is read, and no copy source
+-- for another record no mergeinfo is read, and no copy source
 pub content_of_other : (s : Settings) (r : DumpRecord) (v : Verdict) (found : Option PropsReading)
     → IsFalse (is_kept_node s r) → IsVerdict s r v
     → is_some found ≡ (is_asked s r && v.props_ok)
@@ -181,7 +181,7 @@ pub bytes_told : (bytes : List ℕ) (found : Props) → props_bytes found ≡ by
     → ForSome (Some found) (λ props. props_bytes props ≡ bytes)
 bytes_told bytes found is = λ props e. ap props_bytes (let one : props ≡ found = cc in one) ∙ is
 
--- what was read of a record that is asked for its properties is them
+-- the properties that were read of a record are its properties, if they are needed
 pub properties_of : (s : Settings) (r : DumpRecord) (c : Content) (found : Option Props) → IsContent s r c
     → is_some found ≡ is_some c.props → ForSome found (λ props. props_bytes props ≡ r.props)
     → IsTrue (is_asked s r)

@@ -7,7 +7,7 @@ use Rattle.sha1.specs.Sha1.{sha1}
 use Rattle.hex.specs.Hex.{decode_sized}
 use Rattle.hex.specs.declared.error.FromHexError.{FromHexError}
 
--- where a kept node has bad mergeinfo, it can be found
+-- if a kept node has bad mergeinfo, it can be found
 pub bad_choice : (settings : Settings) (r : DumpRecord) → IsTrue (is_kept_node settings r) → (ps : List Property)
     → HasPropertyList r ps
     → HasBadMergeinfo settings r ⊎ (¬ HasBadMergeinfo settings r)
@@ -19,7 +19,7 @@ bad_choice settings r keep ps block = elim (cases_Bool (properties_read ps)) [
       inl (value_of p, (keep, ps, block, p, within, entry.named, refl), entry.none)
 ]
 
--- what holds or doesn't is told by a truth value
+-- whether something holds, as a truth value
 abbrev IsTold : Type 0 → Type 0
 IsTold Fault = (ok : Bool) × (IsFalse ok ↔ Fault)
 

@@ -7,17 +7,17 @@ use Rattle.sha1.specs.Sha1.{sha1}
 unread : (r : DumpRecord) (ok : Bool) → (IsTrue ok ↔ HasPropertyBlock r) → IsFalse ok ↔ (¬ HasPropertyBlock r)
 unread r ok means = (λ none has. absurd_bool _ (means.1 has) none, λ none. not_so ok (λ e. none (means.0 e)))
 
--- properties that aren't asked
+-- properties that aren't needed
 pub not_asked : (r : DumpRecord) → IsFalse (is_revision_record r) → IsFalse true
     ↔ (IsTrue (is_revision_record r) × ¬ HasPropertyBlock r)
 not_asked r none = (λ e. cc, λ bad. absurd (absurd_bool _ bad.0 none))
 
--- properties that are, of a node
+-- properties of a node that are needed
 pub found_properties : {T : Type 0} (r : DumpRecord) (found : Option T) (ok : Bool) → ok ≡ is_some found
     → (IsSome found ↔ HasPropertyBlock r) → IsFalse ok ↔ (¬ HasPropertyBlock r)
 found_properties r found ok is means = unread r ok (λ e. means.0 (sym is ∙ e), λ has. is ∙ means.1 has)
 
--- and of a revision
+-- and those of a revision
 pub asked : {T : Type 0} (r : DumpRecord) (ok : Bool) (found : Option T) → IsTrue (is_revision_record r)
     → ok ≡ is_some found
     → (IsSome found ↔ HasPropertyBlock r) → IsFalse ok ↔ (IsTrue (is_revision_record r) × ¬ HasPropertyBlock r)

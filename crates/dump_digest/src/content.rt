@@ -1,4 +1,5 @@
-//! What a check reads of a record: its verdict, and what the filter asks of its properties and its copy source.
+//! What a check reads from a record: its verdict, and what the filter needs to know of its properties and its copy
+//! source.
 ghost use Rattle.std.specs.Prelude.{◌≡◌, ◌↔◌, ℕ, false, List, is_some, Some, MatchOption, IsFalse, IsTrue, IsNone, IsSome, IfSome};
 ghost use Rattle.std.specs.Option.{ForSome};
 ghost use Rattle.dump_text.specs.declared.props.Props.{Props};
@@ -18,8 +19,8 @@ use dump_records::Record;
 use dump_rules::{Bounds, Options, keeps};
 use dump_text::{Props, PropsReading};
 
-/// What was read of a record. What a kept node's mergeinfo says stands side by side with the rest, so that it is small;
-/// it counts where the verdict says that each value of it can be read.
+/// What was read from a record. The fields of a kept node's mergeinfo are next to the others, so that the type is
+/// small. They have a meaning only if the verdict says that each value of it can be read.
 #[derive(Clone, Copy)]
 pub(crate) struct Content {
     pub(crate) verdict: Verdict,
@@ -27,18 +28,18 @@ pub(crate) struct Content {
     pub(crate) kept: bool,
     /// Whether it is a kept node that is copied from a path that isn't kept.
     pub(crate) lost_source: bool,
-    /// What was found in the properties of a revision or of a kept node, where they are a property block.
+    /// What was found in the properties of a revision or of a kept node, if they are a property block.
     pub(crate) props: Option<PropsReading>,
     /// Whether a kept node has mergeinfo.
     pub(crate) has_mergeinfo: bool,
-    /// Whether a kept node's mergeinfo misses a source.
+    /// Whether a line of a kept node's mergeinfo has a path that isn't kept, and missing sources aren't skipped.
     pub(crate) misses_source: bool,
     /// The bounds of the numbers in a kept node's mergeinfo.
     pub(crate) numbers: Bounds,
 }
 
 impl Content {
-    /// What is read of a record that is neither a revision nor a kept node.
+    /// The result for a record that is neither a revision nor a kept node.
     const NOTHING: Content = Content {
         verdict: Verdict::UNASKED,
         kept: false,
@@ -71,8 +72,8 @@ fn has_lost_source(item: &Record<'_>, options: &Options) -> bool
     }
 }
 
-/// The mergeinfo among the properties of a kept node, where each value of it can be read. Properties that can't be read
-/// have none.
+/// The mergeinfo in the properties of a kept node; `None` if a value of it can't be read. If the properties can't be
+/// read, there is no mergeinfo.
 fn mergeinfo_of(props: &Option<Props<'_>>, options: &Options) -> Option<Mergeinfo>
     ensures some { (ps : List Property) (p : Props) → props.now ≡ Some p → IsPropertyBlock (props_bytes p) ps
         → MatchOption result (properties_read ps ≡ false) (λ m. IsSaidBy options.now ps m) }
@@ -84,7 +85,7 @@ fn mergeinfo_of(props: &Option<Props<'_>>, options: &Options) -> Option<Mergeinf
     }
 }
 
-/// The properties of the record, where they are a property block.
+/// The properties of the record, if they are a property block.
 pub fn properties_of<'a>(item: &Record<'a>) -> Option<Props<'a>>
     ensures found { IsSome result ↔ HasPropertyBlock (record_item item.now) }
     ensures bytes { IfSome result (λ props. props_bytes props ≡ (record_item item.now).props) }
@@ -97,7 +98,7 @@ pub fn properties_of<'a>(item: &Record<'a>) -> Option<Props<'a>>
     }
 }
 
-/// What was found in the properties, where they are a property block.
+/// What was found in the properties, if they are a property block.
 fn reading_of(props: &Option<Props<'_>>) -> Option<PropsReading>
     ensures found { is_some result ≡ is_some props.now }
     ensures reading { (bytes : List ℕ) → IfSome props.now (λ p. props_bytes p ≡ bytes)
@@ -109,7 +110,7 @@ fn reading_of(props: &Option<Props<'_>>) -> Option<PropsReading>
     }
 }
 
-/// What is read of a node that is kept.
+/// Reads a node that is kept.
 fn read_kept(item: &Record<'_>, options: &Options) -> Content
     requires { IsTrue (is_kept_node options.now (record_item item.now)) }
     ensures { IsContent options.now (record_item item.now) result }
@@ -135,7 +136,7 @@ fn read_kept(item: &Record<'_>, options: &Options) -> Content
     }
 }
 
-/// What is read of a revision.
+/// Reads a revision.
 fn read_revision(item: &Record<'_>) -> Content
     requires { IsTrue (is_revision_record (record_item item.now)) }
     ensures { (settings : Settings) → IsFalse (is_kept_node settings (record_item item.now))
@@ -152,7 +153,7 @@ fn read_revision(item: &Record<'_>) -> Content
     }
 }
 
-/// What is read of a record that is neither a revision nor a kept node.
+/// The result for a record that is neither a revision nor a kept node.
 fn read_nothing() -> Content
     ensures { (settings : Settings) (r : DumpRecord) → IsFalse (is_revision_record r) → IsFalse (is_kept_node settings r)
         → IsContent settings r result }
@@ -160,7 +161,7 @@ fn read_nothing() -> Content
     Content::NOTHING
 }
 
-/// What is read of a record under these options, each thing once.
+/// Reads a record under these options; each part is read once.
 pub(crate) fn read_content(item: &Record<'_>, options: &Options) -> Content
     ensures { IsContent options.now (record_item item.now) result }
 {

@@ -13,16 +13,17 @@ use hex::{FromHex, encode_to_slice};
 use md5::{Digest, Md5};
 use sha1::Sha1;
 
-/// What the digest headers of a record tell of its text.
+/// What the digest headers of a record say about its text.
 #[derive(Clone, Copy)]
 pub(crate) struct TextCheck {
     pub(crate) md5_ok: bool,
     pub(crate) sha1_ok: bool,
-    /// Whether there is a text that is no delta, and a digest of it.
+    /// Whether there is a text that is no delta, and a header with a digest of it.
     pub(crate) checked: bool,
 }
 
-/// Whether the digits are those of the digest in lower case, as they mostly are: these are written faster than read.
+/// Whether the digits are those of the digest in lower case, as in most dumps. Comparing digits is faster than
+/// decoding them. False doesn't say that the digests differ.
 fn is_lower(digits: &[u8], digest: &[u8], room: &mut [u8]) -> bool
     ensures { IsTrue result → decode_sized digits.now (length digest.now) ≡ Ok digest.now }
 {
@@ -57,7 +58,7 @@ fn is_sha1(digits: &[u8], text: &[u8]) -> bool
     }
 }
 
-/// Whether no digits are told, or they are the MD5 digest of the text.
+/// Whether there is no header with an MD5 digest, or it is that of the text.
 fn md5_ok(told: Option<&[u8]>, text: &[u8]) -> bool
     ensures { IsFalse result ↔ TellsOther (option_copied told.entry) 16 (md5 text.now) }
 {
@@ -67,7 +68,7 @@ fn md5_ok(told: Option<&[u8]>, text: &[u8]) -> bool
     }
 }
 
-/// Whether no digits are told, or they are the SHA-1 digest of the text.
+/// Whether there is no header with a SHA-1 digest, or it is that of the text.
 fn sha1_ok(told: Option<&[u8]>, text: &[u8]) -> bool
     ensures { IsFalse result ↔ TellsOther (option_copied told.entry) 20 (sha1 text.now) }
 {
@@ -77,14 +78,14 @@ fn sha1_ok(told: Option<&[u8]>, text: &[u8]) -> bool
     }
 }
 
-/// Whether some digits are told.
+/// Whether there is a header with a digest.
 fn is_told(md5: Option<&[u8]>, sha1: Option<&[u8]>) -> bool
     ensures { result ≡ (is_some md5.entry || is_some sha1.entry) }
 {
     md5.is_some() || sha1.is_some()
 }
 
-/// The text of the record's file, where it has one that isn't a delta.
+/// The text of the record, if it has one that isn't a delta.
 fn whole_text<'a>(item: &Record<'a>) -> Option<&'a [u8]>
     ensures { let r = record_item item.now in
         option_copied result ≡ (if has_whole_text r then Some r.text else None) }
@@ -92,8 +93,8 @@ fn whole_text<'a>(item: &Record<'a>) -> Option<&'a [u8]>
     if item.text_delta() { None } else { item.text() }
 }
 
-/// What the digest headers of the record tell. The text is read where it lies, once for each
-/// digest; where there is no text length, or the text is a delta, no header is read.
+/// What the digest headers of the record say about its text. The text is read in place, once for each digest. If there
+/// is no text length, or the text is a delta, no header is read.
 pub(crate) fn text_check(item: &Record<'_>) -> TextCheck
     ensures md5 { let r = record_item item.now in
         IsFalse result.md5_ok ↔ HasOtherDigest md5_name r 16 (md5 r.text) }

@@ -9,8 +9,8 @@ use dump_rules::Options;
 use dump_text::{FaultKind, Props};
 use std::snapshot::Snapshot;
 
-/// A record with its verdict and what was read for it. Who filters it reads none of its properties to find out what the
-/// check knew. It keeps in its type alone which options it was judged under.
+/// A record with its verdict and with what the check read. The filter needn't read the properties again for what the
+/// check has found. The options under which it was checked are only in its type.
 #[derive(Drop)]
 pub struct Done<'a> {
     item: Record<'a>,
@@ -64,7 +64,7 @@ impl<'a> Done<'a> {
         self.content.kept
     }
 
-    /// The properties of a revision or of a kept node, where they are a property block.
+    /// The properties of a revision or of a kept node, if they are a property block.
     pub fn props(&self) -> Option<Props<'a>>
         ensures found { is_some result
             ≡ (is_asked (done_settings self.now) (record_item (done_record self.now)) && (done_verdict self.now).props_ok) }
@@ -87,8 +87,8 @@ impl<'a> Done<'a> {
         self.content.has_mergeinfo
     }
 
-    /// The fault of a kept node's mergeinfo, in a dump whose first revision has the number `first`, at the present
-    /// revision `present`. The options are those that it was judged under.
+    /// The fault of a kept node's mergeinfo. `first` is the number of the dump's first revision, and `present` that of
+    /// the present one. `options` are those under which the record was checked.
     pub fn merge_fault(&self, options: &Options, first: u64, present: u64) -> Option<FaultKind>
         requires { options.now ≡ done_settings self.now }
         ensures { let r = record_item (done_record self.now) in IsTrue (is_kept_node (done_settings self.now) r)

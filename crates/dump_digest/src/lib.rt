@@ -1,8 +1,9 @@
-//! The verdict on a record: what can be said of its content by itself, before the filter sees it.
+//! The verdict on a record: what a worker can say about its content before the filter sees it.
 //!
-//! [`check`] gives the [`Verdict`] on a record under some options. A [`Done`] is a record with its
-//! verdict and what was read for it. Only [`Done::of`] makes one, so the verdict is always that of
-//! its record. Records don't depend on one another here, so they may be checked in any order.
+//! [`check`] returns the [`Verdict`] on a record under some options. A [`Done`] is a record with its
+//! verdict and with what the check read. Only [`Done::of`] makes one, so the verdict is always that of
+//! its record. The verdict on a record doesn't depend on other records, so a caller may check them in
+//! any order.
 //!
 //! ```
 //! let (side, prefixes) = (Side::Include, [b"trunk".as_slice()]);
@@ -10,8 +11,8 @@
 //! let done = Done::of(kept, &options);
 //! ```
 //!
-//! `tests::a_done_tells_what_its_check_read` runs this on the record of a node `trunk`, which is
-//! copied from `tags` and has the mergeinfo `/trunk:2-4`. It asks this of `done`:
+//! `tests::a_done_tells_what_its_check_read` runs this on the record of a node `trunk`, which is copied
+//! from `tags` and has the mergeinfo `/trunk:2-4`. It compares these answers of `done`:
 //!
 //! ```
 //! let range = Some(FaultKind::MergeRange);
@@ -25,12 +26,13 @@
 //!
 //! `tests::is_read` runs this.
 //!
-//! Of a node that the options keep, the properties, the two digests of its text and its mergeinfo are
-//! checked. Of a revision, kept or dropped, its properties are; of other records nothing. What is not
-//! checked is ok. A text is checked if the record has a length for it and it is no delta. It is
-//! digested where it is: nothing is copied, no memory is taken, and nothing waits. A node under format
-//! version 3 may delete properties, and deleted mergeinfo is none. This crate does not look at what
-//! depends on other records: the order of revisions, copy sources and the numbers in mergeinfo.
+//! In a node that the options keep, [`check`] looks at the properties, the two digests of the text and
+//! the mergeinfo. In a revision, kept or dropped, it looks at the properties; in other records at
+//! nothing. What it doesn't check is ok. It checks a text if the record has a length for it and it is no
+//! delta. It reads the text in place: nothing is copied or allocated, and nothing waits. A node under
+//! format version 3 may delete properties, and deleted mergeinfo is no mergeinfo. This crate checks
+//! nothing that depends on other records: the order of revisions, copy sources and the numbers in
+//! mergeinfo.
 #![tactic(auto)]
 
 mod content;

@@ -9,17 +9,17 @@ ghost use Rattle.dump_digest.specs.RecordParts.{is_mergeinfo};
 use dump_rules::{Merged, Options};
 use dump_text::{Entry, Props};
 
-/// The name of the property that tells what was merged.
+/// The property that says what was merged.
 const MERGEINFO: &[u8] = b"svn:mergeinfo";
 
-/// Whether the property tells what was merged; one that is gone doesn't.
+/// Whether the property is mergeinfo; a deleted one isn't.
 pub fn is_mergeinfo(entry: &Entry<'_>) -> bool
     ensures { result ≡ is_mergeinfo (entry_property entry.now) }
 {
     !entry.gone && entry.name == MERGEINFO
 }
 
-/// The mergeinfo among some properties, where each value of it can be read.
+/// The mergeinfo in a list of properties, each value of which can be read.
 #[derive(Clone, Copy)]
 pub(crate) struct Mergeinfo {
     /// Whether there is any.
@@ -29,7 +29,7 @@ pub(crate) struct Mergeinfo {
 }
 
 impl Mergeinfo {
-    /// That of no property.
+    /// The mergeinfo of an empty list.
     pub(crate) fn none() -> Mergeinfo {
         Mergeinfo {
             found: false,
@@ -37,7 +37,8 @@ impl Mergeinfo {
         }
     }
 
-    /// That of a block's properties; `None` where a value can't be read. The name may stand more than once.
+    /// The mergeinfo in the properties of a block; `None` if a value can't be read. There may be several properties of
+    /// the name.
     pub(crate) fn of(props: &Props<'_>, options: &Options) -> Option<Mergeinfo>
         ensures { (ps : List Property) → IsPropertyBlock (props_bytes props.now) ps
             → MatchOption result (properties_read ps ≡ false) (λ m. IsSaidBy options.now ps m) }

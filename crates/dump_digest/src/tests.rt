@@ -1,4 +1,4 @@
-//! Each call once, worked digests of either kind, and whose parts a verdict tells of.
+//! One call of each function, worked digests of either kind, and which records a verdict checks.
 ghost use Rattle.std.specs.Prelude.{◌≡◌};
 ghost use Rattle.dump_digest.specs.steps.DoneViews.{done_settings};
 
@@ -91,7 +91,7 @@ fn include_trunk(alloc: Global) -> Result<Options, Fail> {
     Ok(options)
 }
 
-/// Whether a record of the dump above has this place, and this verdict.
+/// Whether the record with this number in the dump above has this place and this verdict.
 fn is_done(alloc: Global, number: u64, place: usize, verdict: Verdict) -> Result<bool, Fail> {
     let item = record(DUMP, number)?;
     let options = include_trunk(alloc)?;
@@ -106,7 +106,7 @@ fn a_done_keeps_its_record_and_verdict(rt: HostRuntime) -> Result<(), Fail> {
     Ok(())
 }
 
-/// The verdict on the record of a dump with this number.
+/// The verdict on the record with this number.
 fn verdict_in(alloc: Global, dump: &[u8], number: u64) -> Result<Verdict, Fail> {
     let item = record(dump, number)?;
     let options = include_trunk(alloc)?;
@@ -161,7 +161,7 @@ fn joined(alloc: Global, parts: &[&str]) -> Result<String, Fail> {
     Ok(text)
 }
 
-/// The verdict on the record that is alone in a dump of this version.
+/// The verdict on the only record in a dump of this version.
 fn verdict_under(alloc: Global, version: &str, text: &str) -> Result<Verdict, Fail> {
     let dump = joined(
         alloc,
@@ -170,7 +170,7 @@ fn verdict_under(alloc: Global, version: &str, text: &str) -> Result<Verdict, Fa
     verdict_in(alloc, dump.as_bytes(), 1)
 }
 
-/// The verdict on the record that is alone in a dump of version 2.
+/// The verdict on the only record in a dump of version 2.
 fn verdict_on(alloc: Global, text: &str) -> Result<Verdict, Fail> {
     verdict_under(alloc, "2", text)
 }
@@ -266,7 +266,7 @@ fn both_digests_are_told(rt: HostRuntime) -> Result<(), Fail> {
     Ok(())
 }
 
-/// The verdict on a file with the text `abc`, these digests and this line on deltas, under a version.
+/// The verdict on a file with the text `abc`, these digest lines and this line about deltas, under a version.
 fn verdict_on_delta(
     alloc: Global,
     version: &str,
@@ -298,7 +298,7 @@ fn deltas_are_not_digested(rt: HostRuntime) -> Result<(), Fail> {
     Ok(())
 }
 
-/// A delta with wrong digests, under version 2, then 3, then 2 again.
+/// Three deltas with wrong digests, under version 2, then 3, then 2 again.
 fn thrice(alloc: Global) -> Result<String, Fail> {
     let lines = joined(alloc, &["Text-delta: true\n", WRONG_DIGESTS])?;
     let file = abc_file(alloc, "trunk/f", lines.as_str())?;
@@ -332,7 +332,7 @@ Text-content-md5: 900150983cd24fb0d6963f7d28e17f72\nContent-length: 13\n\nPROPS-
     Ok(())
 }
 
-/// The verdict on a record with two properties of the same length and this end of the block.
+/// The verdict on a record with two property values of the same length and this end of the block.
 fn verdict_on_values(
     alloc: Global,
     header: &str,

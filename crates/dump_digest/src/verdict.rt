@@ -6,26 +6,25 @@ use crate::content::read_content;
 use dump_records::Record;
 use dump_rules::Options;
 
-/// What a check of one record found. What isn't to be checked is ok: of a record that is neither a
-/// revision nor a kept node nothing is, and of a revision only the properties are.
+/// The result of checking one record. What isn't checked is ok: in a record that is neither a revision nor a kept node
+/// nothing is checked, and in a revision only the properties are.
 #[derive(Clone, Copy, Debug, PartialEq, Eq)]
 pub struct Verdict {
-    /// Whether the properties are a property block, in which a node under version 3 may delete some.
+    /// Whether the properties are a property block. A node under version 3 may delete some.
     pub props_ok: bool,
-    /// Whether the MD5 header, if there is one, is the digest of the text, in 32 hexadecimal digits
-    /// of either case. Without a text length, or of a delta, there is no text to check.
+    /// Whether the MD5 header, if there is one, is the digest of the text, in 32 hexadecimal digits of either case.
+    /// True if there is no text length or the text is a delta.
     pub md5_ok: bool,
     /// The same of the SHA-1 header and its 40 digits.
     pub sha1_ok: bool,
-    /// Whether the value of each property named `svn:mergeinfo` is mergeinfo. Where the properties
-    /// can't be read, this is true.
+    /// Whether the value of each property named `svn:mergeinfo` is mergeinfo. True if the properties can't be read.
     pub merge_ok: bool,
-    /// Whether the text was compared with a digest, right or wrong.
+    /// Whether the text was compared with a digest, whatever the result.
     pub checked: bool,
 }
 
 impl Verdict {
-    /// The verdict on a record of which nothing is to be checked.
+    /// The verdict on a record in which nothing is checked.
     pub(crate) const UNASKED: Verdict = Verdict {
         props_ok: true,
         md5_ok: true,
@@ -35,8 +34,7 @@ impl Verdict {
     };
 }
 
-/// The verdict on a record under these options. Texts are digested where they lie, and no memory is
-/// taken.
+/// The verdict on a record under these options. Texts are read in place, and nothing is allocated.
 pub fn check(item: &Record<'_>, options: &Options) -> Verdict
     ensures { IsVerdict options.now (record_item item.now) result }
 {

@@ -1,4 +1,4 @@
--- What the checks tell, part by part.
+-- What the checks find, part by part.
 use Rattle.std.specs.Prelude.{◌≢◌, ℕ, Bool, ◌&&◌, ◌||◌, not, List, Option, is_some, IsTrue, Ok}
 use Rattle.std.specs.List.{list_all}
 use Rattle.std.specs.Option.{ForSome}
@@ -11,22 +11,22 @@ use Rattle.dump_digest.specs.RecordParts.{has_whole_text, is_mergeinfo, value_of
 use Rattle.dump_digest.specs.ContentFaults.{DiffersFromDigest}
 use Rattle.hex.specs.Hex.{decode_sized}
 
--- digits are told that aren't this digest
+-- there are digits, and they aren't those of this digest
 abbrev pub TellsOther : Option (List ℕ) → ℕ → List ℕ → Type 0
 TellsOther told size digest = IsTrue (is_some told) × ForSome told (λ digits. decode_sized digits size ≢ Ok digest)
 
--- the record has its file's text, and the header tells another digest of it
+-- the record has a text that is no delta, and the digest in its header is another one
 abbrev pub HasOtherDigest : List ℕ → DumpRecord → ℕ → List ℕ → Type 0
 HasOtherDigest name r size digest = IsTrue (has_whole_text r) × DiffersFromDigest name r size digest
 
--- whether the record has its file's text and a digest of it
+-- whether the record has a text that is no delta, and a header with a digest of it
 abbrev pub is_told_text : DumpRecord → Bool
 is_told_text r = has_whole_text r && (has_header md5_name r.headers || has_header sha1_name r.headers)
 
--- whether the property tells what was merged only in a value that is mergeinfo
+-- whether the property isn't named svn:mergeinfo, or its value is mergeinfo
 abbrev pub property_reads : Property → Bool
 property_reads p = not (is_mergeinfo p) || value_reads (value_of p)
 
--- whether each property does
+-- the same of each property
 abbrev pub properties_read : List Property → Bool
 properties_read ps = list_all property_reads ps

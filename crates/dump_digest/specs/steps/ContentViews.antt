@@ -1,4 +1,4 @@
--- What a check reads of a record beside its verdict.
+-- What a check reads from a record in addition to its verdict.
 use Rattle.std.specs.Prelude.{◌≡◌, ◌↔◌, ◌<◌, ◌^◌, ℕ, Bool, true, ◌&&◌, ◌||◌, List, Option, is_some, IsSome, IsTrue}
 use Rattle.std.specs.List.{list_any}
 use Rattle.std.specs.Option.{ForSome}
@@ -15,7 +15,7 @@ use Rattle.dump_digest.specs.steps.MergeFaults.{misses, is_foreign}
 use Rattle.dump_digest.specs.RecordParts.{is_revision_record, is_kept_node, HasPropertyList, HasPropertyBlock, is_mergeinfo, has_lost_source}
 use Rattle.dump_digest.specs.steps.VerdictMeaning.{IsVerdict}
 
--- this is the mergeinfo among the properties, each value of which can be read
+-- this is the mergeinfo in the properties, each value of which can be read
 pub record IsSaidBy (settings : Settings) (ps : List Property) (m : Mergeinfo) : Type 0 where
   pub read : properties_read ps ≡ true
   pub found : m.found ≡ list_any is_mergeinfo ps
@@ -27,12 +27,12 @@ pub record IsSaidBy (settings : Settings) (ps : List Property) (m : Mergeinfo) :
 abbrev pub is_asked : Settings → DumpRecord → Bool
 is_asked settings r = is_revision_record r || is_kept_node settings r
 
--- these are the record's properties, where they can be read
+-- these are the record's properties, if they can be read
 pub record ArePropertiesOf (r : DumpRecord) (found : Option Props) : Type 0 where
   pub bytes : ForSome found (λ props. props_bytes props ≡ r.props)
   pub there : IsSome found ↔ HasPropertyBlock r
 
--- the mergeinfo that was read, whose parts stand side by side
+-- the mergeinfo that was read, whose fields are next to the others
 abbrev pub mergeinfo_in : Content → Mergeinfo
 mergeinfo_in c = record { found = c.has_mergeinfo; said = record { misses = c.misses_source; numbers = c.numbers } }
 

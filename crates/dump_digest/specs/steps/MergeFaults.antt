@@ -1,4 +1,4 @@
--- The faults of the mergeinfo of a node, found over all its properties together.
+-- The faults of a node's mergeinfo, which are those of all its properties together.
 use Rattle.std.specs.Prelude.{ℕ, Bool, ◌&&◌, List, Contains, Option, Some, None, if◌then◌else◌, IsTrue}
 use Rattle.std.specs.List.{list_any}
 use Rattle.dump_text.specs.declared.fault.FaultKind.{FaultKind}
@@ -9,7 +9,7 @@ use Rattle.dump_rules.specs.Mergeinfo.{HasMergeLines}
 use Rattle.dump_rules.specs.steps.RewrittenLines.{value_misses, value_foreign}
 use Rattle.dump_digest.specs.RecordParts.{is_mergeinfo, value_of}
 
--- whether the property is mergeinfo that misses a source
+-- whether the property is mergeinfo with a line whose path isn't kept, and missing sources aren't skipped
 abbrev pub misses : Settings → Property → Bool
 misses settings p = is_mergeinfo p && value_misses settings (value_of p)
 
@@ -17,7 +17,7 @@ misses settings p = is_mergeinfo p && value_misses settings (value_of p)
 abbrev pub is_foreign : Settings → ℕ → ℕ → Property → Bool
 is_foreign settings first present p = is_mergeinfo p && value_foreign settings first present (value_of p)
 
--- the fault of the mergeinfo among the properties of a kept node; its values are ok or not
+-- the fault of the mergeinfo in the properties of a kept node, whose values can be read or not
 abbrev pub merge_fault : Settings → ℕ → ℕ → Bool → List Property → Option FaultKind
 merge_fault settings first present ok ps =
     if ok then
@@ -26,7 +26,7 @@ merge_fault settings first present ok ps =
     else None)
     else Some MergeInfo
 
--- each value of mergeinfo in the block is some lines
+-- each value of mergeinfo in the block is lines of mergeinfo
 abbrev pub HasGoodMergeinfo : List ℕ → Type 0
 HasGoodMergeinfo block = (ps : List Property) → IsPropertyBlock block ps → (p : Property) → Contains ps p
     → IsTrue (is_mergeinfo p)

@@ -1,4 +1,4 @@
-//! Properties that are deleted: where they may be, and what becomes of mergeinfo.
+//! Properties that are deleted: where this is allowed, and when mergeinfo remains.
 use super::{
     BAD_MERGEINFO, BAD_PROPERTIES, KEPT, OK, include_trunk, joined, record, verdict_under,
 };
@@ -57,7 +57,7 @@ fn nodes_under_version_three_may_delete_properties(rt: HostRuntime) -> Result<()
     Ok(())
 }
 
-/// Whether the first property is mergeinfo, and whether some property is.
+/// Whether the first property is mergeinfo, as `first` says, and the node has mergeinfo, as `some` says.
 fn has_mergeinfo(done: &Done<'_>, first: bool, some: bool) -> bool {
     let Some(props) = done.props() else {
         return false;
@@ -75,7 +75,7 @@ fn dump_with_entries(alloc: Global, first: &str, second: &str) -> Result<String,
     joined(alloc, &["SVN-fs-dump-format-version: 3\n\n", node.as_str()])
 }
 
-/// Whether the node of such a dump has this verdict, and mergeinfo so.
+/// Whether the node of such a dump has this verdict, and mergeinfo as `first` and `some` say.
 fn is_deleting(
     alloc: Global,
     dump: &[u8],

@@ -4,7 +4,7 @@ use Rattle.hex.proofs.HexLemmas.{decode_sized-encode_lower}
 use Rattle.hex.specs.Hex.{decode_sized}
 use Rattle.dump_digest.proofs.digests.is_lower.Goals as goal
 
--- what holds where there is a value, where there is one
+-- what is true of a value, if there is one
 where_ok : {T E P : Type 0} (r : Result T E) → is_ok r ≡ true → OnOk r P → P
 where_ok (Ok x) is p = p
 where_ok (Err e) is p = cc

@@ -26,7 +26,7 @@ returns-in_err-said c = λ ps is.
     (sym c.from_residual.ensures)
     (not_said c.args.options.now ps qs left.others p c.loop-entry.found c.loop-entry.said left.list named bad up)
 
--- what is said of the properties up to an entry goes on behind it
+-- the result for the properties up to an entry is extended by that entry
 said_behind : (s : Settings) (ps : List Property) (text entry rest : List ℕ) (p : Property) (found now : Bool)
     (said next : Merged)
     → text ≡ entry ++ rest → IsEntry entry p
