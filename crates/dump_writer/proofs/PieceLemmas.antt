@@ -19,7 +19,7 @@ take-inside done bytes rest n inside =
     (drop_at done (bytes ++ rest) (length done) refl)
     ∙ ap (λ back. done ++ back) (take-append-le n bytes rest inside)
 
--- a piece is the chunks before one, that one, and the chunks behind it
+-- a piece is the chunks before one, that one, and the chunks after it
 bytes_of_chunks-at : (chunks : List Chunk) (i : ℕ) (chunk : Chunk) → i < length chunks → chunk ≡ get_or chunks i chunk
     → bytes_of_chunks chunks ≡ bytes_of_chunks (take i chunks) ++
     (chunk_bytes chunk ++ bytes_of_chunks (drop (suc i) chunks))

@@ -68,7 +68,7 @@ takes_three (_, e, _) = omega arith
 fails_once : (down : SinkDown) → OutStep after_two (Err down) (record after_two { failures = 1 })
 fails_once down = (refl, refl, refl)
 
--- a sink over a writer that is lent, with one byte waiting behind two that the writer took
+-- a sink over a writer that is lent, with one byte waiting after two that the writer took
 abbrev pub lent : GName → LentState
 lent through = record { through = through; waiting = codes "c"; out = after_two }
 
@@ -78,7 +78,7 @@ with_what_waits through = refl
 held_at_first : (through : GName) → loan_of (lent through) ≡ record { writer = through; held = Some [] }
 held_at_first through = refl
 
--- two bytes a call at most, and trouble behind the third
+-- two bytes a call at most, and trouble after the third
 abbrev memory : List ℕ → Trouble → ℕ → MemoryState
 memory taken trouble failures = record { taken = taken; most = 2; trouble = trouble; failures = failures }
 

@@ -1,4 +1,4 @@
-//! Counted calls of a writer: how many bytes it took, and how often it failed.
+//! Calls of a writer that are counted: how many bytes it took, and how often it failed.
 ghost use Rattle.std.specs.Prelude.{◌≡◌, ◌+◌, ◌≤◌, ◌<◌, [], ℕ, List, Option, take, length, IfOk, OnErr, OnOk};
 ghost use Rattle.std.specs.Io.KnownBytes.{Appends, Keeps, GrowsBy};
 ghost use Rattle.dump_writer.specs.SinkWords.{capped};
@@ -7,7 +7,7 @@ ghost use Rattle.dump_writer.specs.steps.SinkCalls.{CountsFailure};
 use crate::sink::SinkDown;
 use std::io::Write;
 
-/// What a sink over a writer counts; both numbers stay at `u64::MAX`.
+/// What a sink over a writer counts; both numbers don't go above `u64::MAX`.
 #[derive(Clone, Copy)]
 pub(crate) struct Counts {
     pub(crate) written: u64,
@@ -15,7 +15,7 @@ pub(crate) struct Counts {
 }
 
 impl Counts {
-    /// Nothing was written, and nothing failed.
+    /// The counts before the first call.
     pub(crate) fn new() -> Counts
         ensures { result ≡ record { written = 0; failures = 0 } }
     {
@@ -25,7 +25,7 @@ impl Counts {
         }
     }
 
-    /// One more failure.
+    /// Counts one more failure.
     fn fail(&mut self) -> SinkDown
         ensures written { self.new.written ≡ self.old.written }
         ensures failures { CountsFailure self.old.failures self.new.failures }
@@ -35,8 +35,8 @@ impl Counts {
     }
 }
 
-/// One call of the writer, which takes the first of the bytes; an error, or none of them, is a
-/// failure. No bytes make no call.
+/// Calls the writer once. The writer takes the first of the bytes, at least one, or the call is a failure. If there
+/// are no bytes, the writer isn't called.
 pub(crate) fn write_counted<W: Write>(
     writer: &mut W,
     counts: &mut Counts,
@@ -54,7 +54,7 @@ pub(crate) fn write_counted<W: Write>(
     ensures unwritten { OnErr result (counts.new.written ≡ counts.old.written) }
     ensures counted { OnErr result (CountsFailure counts.old.failures counts.new.failures) }
 
-    // The count goes on from wherever it began.
+    // true whatever the writer held when the count began
     ensures grown { (start : Option (List ℕ)) → GrowsBy start (W.contents writer.old) counts.old.written
         → GrowsBy start (W.contents writer.new) counts.new.written }
 {
@@ -71,7 +71,7 @@ pub(crate) fn write_counted<W: Write>(
     }
 }
 
-/// Calls of the writer until it has taken all the bytes or fails; how many it took.
+/// Calls the writer until it has taken all the bytes or fails, and returns how many it took.
 pub(crate) fn write_all_counted<W: Write>(
     writer: &mut W,
     counts: &mut Counts,

@@ -1,9 +1,9 @@
-//! Sinks of bytes, and pieces of text that are written into them.
+//! Sinks of bytes, and pieces of text that are written to them.
 //!
-//! A [`Sink`] takes some of the bytes that it is given, or fails and takes none of them; it counts
-//! its failures. There are three: [`Out`] over a writer that it owns, [`OutMut`] over a writer that
-//! is lent, and [`MemorySink`], which keeps what it takes and fails where a test wants it to. A
-//! [`Piece`] is a text in chunks, lent or made:
+//! A [`Sink`] takes some of the bytes that a caller passes, or fails and takes none of them; it counts
+//! its failures. There are three sinks: [`Out`] over a writer that it owns, [`OutMut`] over a writer
+//! that it borrows, and [`MemorySink`], which keeps what it takes and fails where a test asks for it. A
+//! [`Piece`] is a text in chunks, each borrowed or owned:
 //!
 //! ```
 //! let mut piece = Piece::new(alloc);
@@ -12,7 +12,7 @@
 //! piece.push(Chunk::Own(Vec::from_slice(alloc, b"cde")?))?;
 //! ```
 //!
-//! `tests::five` runs this. [`write_piece`] writes a piece whole, or says how many of its first bytes
+//! `tests::five` runs this. [`write_piece`] writes a whole piece, or returns how many of its first bytes
 //! the sink took:
 //!
 //! ```
@@ -27,10 +27,10 @@
 //!
 //! `tests::write_through` runs this, for `tests::a_lent_writer_is_written_and_counted` and others.
 //!
-//! A failure is never tried again here: the holder of the sink may go on after the bytes that were
-//! taken. An [`Out`] buffers nothing, so each chunk makes one call of its writer or more. An
-//! [`OutMut`] keeps small texts in the buffer that it was given, and hands them on when that is full
-//! or [`OutMut::flush`] is called. Only `Piece::push`, and the growth of a `MemorySink`, take memory.
+//! This crate never repeats a call that failed: the caller may continue after the bytes that were taken.
+//! An [`Out`] has no buffer, so each chunk makes at least one call of its writer. An [`OutMut`] keeps
+//! small texts in the buffer that it was given; it passes them on when the buffer is full or the caller
+//! calls [`OutMut::flush`]. Only `Piece::push`, and a `MemorySink` that grows, allocate memory.
 #![tactic(auto)]
 
 mod counted;

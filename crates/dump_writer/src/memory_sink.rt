@@ -1,4 +1,4 @@
-//! A sink in memory, which fails where a test wants it to.
+//! A sink in memory, which fails where a test asks for it.
 ghost use Rattle.std.specs.Prelude.{◌≡◌, ◌≤◌, ◌<◌, [], take, length, IfOk, OnErr, Some, true, if◌then◌else◌};
 ghost use Rattle.std.specs.Io.KnownBytes.{Appends, Keeps};
 ghost use Rattle.dump_writer.specs.steps.SinkCalls.{CountsFailure};
@@ -8,19 +8,19 @@ use crate::sink::{Sink, SinkDown};
 use std::alloc::Global;
 use std::marker::Model;
 
-/// Where a sink in memory fails: nowhere, or where it has taken so many bytes, once or from then on.
+/// Where a sink in memory fails: nowhere, or after it has taken a number of bytes, once or at each call.
 #[derive(Clone, Copy, Debug, PartialEq, Eq)]
 pub enum Trouble {
     /// Nowhere.
     Never,
-    /// Once, where it has taken this many bytes.
+    /// Once, after it has taken this many bytes.
     Once(u64),
-    /// From where it has taken this many bytes on.
+    /// At each call after it has taken this many bytes.
     From(u64),
 }
 
 impl Trouble {
-    /// How many of so many bytes come before the trouble.
+    /// How many of the next `count` bytes a sink takes before it fails, if it has taken `taken` bytes.
     fn before(self, taken: usize, count: usize) -> usize
         ensures { result ≡ before_trouble self taken count }
     {
@@ -33,7 +33,7 @@ impl Trouble {
         }
     }
 
-    /// The trouble that is ahead, once it came.
+    /// The trouble that remains after it has occurred.
     fn after(self) -> Trouble
         ensures { result ≡ trouble_after self true }
     {
@@ -67,8 +67,7 @@ impl Model for MemorySink {
 }
 
 impl MemorySink {
-    /// An empty sink that takes at most so many bytes in a call, and fails at this trouble. It takes
-    /// no memory.
+    /// An empty sink that takes at most `most` bytes in a call, and fails as `trouble` says. It allocates nothing.
     pub fn new(alloc: Global, most: usize, trouble: Trouble) -> MemorySink
         requires { 1 ≤ most }
         ensures { result ≡ record { taken = []; most = most; trouble = trouble; failures = 0 } }

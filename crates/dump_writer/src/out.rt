@@ -10,7 +10,7 @@ use std::io::Write;
 use std::marker::Model;
 use std::snapshot::Snapshot;
 
-/// A sink over a writer.
+/// A sink over a writer that it owns.
 #[derive(Drop)]
 pub struct Out<W: Write> {
     writer: W,
@@ -36,7 +36,7 @@ impl<W: Write> Model for Out<W> {
 }
 
 impl<W: Write> Out<W> {
-    /// A sink over this writer, which has taken nothing so far. It takes no memory.
+    /// A sink over this writer, which has taken nothing so far. It allocates nothing.
     pub fn new(writer: W) -> Out<W>
         ensures { result ≡ new_out_state (W.contents writer) }
     {
@@ -47,7 +47,7 @@ impl<W: Write> Out<W> {
         }
     }
 
-    /// How many bytes it has taken; the count stays at `u64::MAX`.
+    /// How many bytes it has taken; the count doesn't go above `u64::MAX`.
     pub fn written(&self) -> u64
         ensures count { result ≡ self.now.written }
         ensures grown { GrowsBy self.now.start self.now.taken result }
@@ -66,7 +66,7 @@ impl<W: Write> Out<W> {
         flush_counted(&mut self.writer, &mut self.counts)
     }
 
-    /// The writer.
+    /// Returns the writer.
     pub fn into_inner(self) -> W
         ensures contents { W.contents result ≡ self.taken }
         ensures grown { GrowsBy self.start (W.contents result) self.written }

@@ -1,4 +1,4 @@
-//! A sink over a writer that is lent, with a buffer before it.
+//! A sink over a borrowed writer, with a buffer.
 ghost use Rattle.std.specs.Prelude.{◌≡◌, ◌≤◌, ◌<◌, ◌-◌, ◌++◌, [], Some, take, drop, length, vec_len, vec_capacity, IfOk, OnErr, OnOk};
 ghost use Rattle.std.specs.Io.KnownBytes.{Appends, Keeps, GrowsBy, append_known};
 ghost use Rattle.dump_writer.specs.steps.SinkCalls.{CountsFailure};
@@ -10,12 +10,12 @@ use std::io::Write;
 use std::marker::Model;
 use std::snapshot::Snapshot;
 
-/// A sink over a writer that is lent. Small texts wait in a buffer until there are enough for a call of the writer;
-/// [`flush`](OutMut::flush) hands them on.
+/// A sink over a borrowed writer. It keeps small texts in a buffer until there are enough for a call of the writer;
+/// [`flush`](OutMut::flush) writes them.
 ///
-/// An [`Out`](crate::Out) over a `&mut W` takes the same bytes, but who passes it to a function that
-/// is generic in the sink no longer knows that it holds this reference. An `OutMut` says so by
-/// [`Sink`]'s `through`, and [`into_inner`](OutMut::into_inner) gives the reference back.
+/// An [`Out`](crate::Out) over a `&mut W` takes the same bytes. But if a caller passes it to a function that is
+/// generic in the sink, no contract says afterwards that it still holds this reference. The contracts of an `OutMut`
+/// say so, by [`Sink`]'s `through`, and [`into_inner`](OutMut::into_inner) returns the reference.
 #[derive(Drop)]
 pub struct OutMut<'a, W: Write> {
     writer: &'a mut W,
@@ -45,7 +45,7 @@ impl<'a, W: Write> Model for OutMut<'a, W> {
         GrowsBy (W.contents o.start.value) (W.contents o.writer.now) o.counts.written };
 }
 
-/// Takes the first bytes away.
+/// Removes the first bytes.
 fn remove_front(bytes: &mut Vec<u8>, count: usize)
     requires { count ≤ vec_len bytes.old }
     ensures items { bytes.new.items ≡ drop count bytes.old.items }
@@ -56,14 +56,14 @@ fn remove_front(bytes: &mut Vec<u8>, count: usize)
     bytes.truncate(len - count);
 }
 
-/// How many bytes fit behind these.
+/// How many more bytes fit.
 fn room(bytes: &Vec<u8>) -> usize
     ensures { result ≡ vec_capacity bytes.now - vec_len bytes.now }
 {
     bytes.capacity() - bytes.len()
 }
 
-/// Adds bytes that fit.
+/// Appends bytes that fit.
 fn append(bytes: &mut Vec<u8>, more: &[u8])
     requires { length more.now ≤ vec_capacity bytes.old - vec_len bytes.old }
     ensures { bytes.new.items ≡ bytes.old.items ++ more.now }
@@ -74,8 +74,8 @@ fn append(bytes: &mut Vec<u8>, more: &[u8])
 }
 
 impl<'a, W: Write> OutMut<'a, W> {
-    /// A sink over this writer, which has taken nothing so far. What the buffer holds is let go; texts wait in its
-    /// capacity, and where it has none each is handed on at once. It takes no memory.
+    /// A sink over this writer, which has taken nothing so far. The bytes in the buffer are discarded, and its
+    /// capacity is used; without capacity, each text is written at once. It allocates nothing.
     pub fn new(writer: &'a mut W, buffer: Vec<u8>) -> OutMut<'a, W>
         ensures { result ≡ record {
           through = writer.entry.ghost_name;
@@ -93,7 +93,7 @@ impl<'a, W: Write> OutMut<'a, W> {
         }
     }
 
-    /// How many bytes the writer has taken; the count stays at `u64::MAX`.
+    /// How many bytes the writer has taken; the count doesn't go above `u64::MAX`.
     pub fn written(&self) -> u64
         ensures count { result ≡ self.now.out.written }
         ensures grown { GrowsBy self.now.out.start self.now.out.taken result }
@@ -101,7 +101,7 @@ impl<'a, W: Write> OutMut<'a, W> {
         self.counts.written
     }
 
-    /// Hands on what waits; what the writer doesn't take goes on waiting.
+    /// Writes the bytes in the buffer; those that the writer doesn't take stay in the buffer.
     fn hand_on(&mut self) -> Result<(), SinkDown>
         ensures start { self.new.out.start ≡ self.old.out.start }
         ensures taken { Keeps (lent_taken self.old) (lent_taken self.new) }
@@ -119,7 +119,7 @@ impl<'a, W: Write> OutMut<'a, W> {
         Ok(())
     }
 
-    /// Hands on what waits, and flushes the writer, once. An error counts as one more failure.
+    /// Writes the bytes in the buffer, and flushes the writer, once. An error counts as one more failure.
     pub fn flush(&mut self) -> Result<(), SinkDown>
         ensures start { self.new.out.start ≡ self.old.out.start }
         ensures taken { Keeps (lent_taken self.old) (lent_taken self.new) }
@@ -132,9 +132,8 @@ impl<'a, W: Write> OutMut<'a, W> {
         flush_counted(&mut *self.writer, &mut self.counts)
     }
 
-    /// The reference that was lent. What waits is let go: flush before. A caller that wants to know what its writer
-    /// holds calls this at the end, and may let the reference go at once; of a sink that is only dropped it knows
-    /// nothing.
+    /// Returns the borrowed writer. Bytes in the buffer are discarded, so flush before. A caller whose contract says
+    /// what its writer holds has to call this at the end; if it only drops the sink, no contract says this.
     pub fn into_inner(self) -> &'a mut W
         ensures through { result.ghost_name ≡ self.entry.through }
         ensures contents { W.contents result.now ≡ self.entry.out.taken }

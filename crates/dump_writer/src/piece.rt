@@ -1,4 +1,4 @@
-//! Pieces of what is written, in chunks, and how a piece goes into a sink.
+//! Pieces of the output, in chunks, and how to write a piece to a sink.
 ghost use Rattle.std.specs.Prelude.{◌≡◌, ◌<◌, ◌≤◌, ◌++◌, [], length, take, OnOk, OnErr, IfErr};
 ghost use Rattle.std.specs.Io.KnownBytes.{Appends};
 ghost use Rattle.dump_writer.specs.steps.ChunkBytes.{chunk_bytes, bytes_of_chunks};
@@ -13,9 +13,9 @@ use std::marker::Model;
 /// A part of a piece: bytes of the dump, or new ones.
 #[derive(Drop)]
 pub enum Chunk<'a> {
-    /// Bytes of the dump, as they stand there.
+    /// Bytes of the dump, unchanged.
     Lent(&'a [u8]),
-    /// Bytes that were made.
+    /// Bytes that the filter made.
     Own(Vec<u8>),
 }
 
@@ -32,17 +32,17 @@ impl<'a> Chunk<'a> {
 }
 
 impl<'a> Default for Chunk<'a> {
-    /// No bytes: what stands in the places of a piece that hold no chunk.
+    /// An empty chunk, for the places of a piece that hold no chunk.
     fn default() -> Chunk<'a> {
         Chunk::Lent(b"")
     }
 }
 
-/// How many chunks a piece holds without memory of its own: a record that is written as it stands has one, or two
-/// where its last line feeds aren't those of the dump.
+/// How many chunks a piece holds without an allocation. A record that is written unchanged has one chunk, or two if
+/// the line feeds after it aren't those of the dump.
 const NEAR: usize = 2;
 
-/// Memory ran out.
+/// An allocation failed.
 #[derive(Clone, Copy, Debug, PartialEq, Eq)]
 pub struct Memory;
 
@@ -58,7 +58,7 @@ impl<T: Drop> From<AllocFailed<T>> for Memory {
     }
 }
 
-/// What is written at once: chunks, in order.
+/// A part of the output: chunks in order.
 #[derive(Drop)]
 pub struct Piece<'a> {
     chunks: SmallVec<Chunk<'a>, NEAR>,
@@ -74,7 +74,7 @@ impl<'a> Model for Piece<'a> {
 }
 
 impl<'a> Piece<'a> {
-    /// A piece of no chunks. It takes no memory.
+    /// A piece without chunks. It allocates nothing.
     pub fn new(alloc: Global) -> Piece<'a>
         ensures { result ≡ [] }
     {
@@ -83,7 +83,7 @@ impl<'a> Piece<'a> {
         }
     }
 
-    /// Adds a chunk at the end. Where there is no memory for it, the chunk is dropped.
+    /// Adds a chunk at the end. If the allocation fails, the chunk is dropped and the piece is unchanged.
     pub fn push(&mut self, chunk: Chunk<'a>) -> Result<(), Memory>
         ensures ok { OnOk result (self.new ≡ self.old ++ chunk_bytes chunk.entry) }
         ensures err { OnErr result (self.new ≡ self.old) }
@@ -124,7 +124,7 @@ pub fn write_piece<S: Sink>(sink: &mut S, piece: &Piece<'_>) -> Result<(), SinkF
     Ok(())
 }
 
-/// Writes all the bytes, in as many calls as the sink wants; none where there are no bytes.
+/// Writes all the bytes, in as many calls as the sink needs; no call if there are no bytes.
 fn write_bytes<S: Sink>(sink: &mut S, bytes: &[u8]) -> Result<(), SinkFault>
     ensures whole { OnOk result (Appends (S.taken sink.old) (S.taken sink.new) bytes.now) }
     ensures short { IfErr result (λ e. e.written < length bytes.now) }

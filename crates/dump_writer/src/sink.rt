@@ -1,31 +1,31 @@
-//! What takes bytes, and how it may fail.
+//! Types that take bytes, and how they may fail.
 ghost use Rattle.std.specs.Prelude.{◌≡◌, ◌≤◌, ◌<◌, [], ℕ, List, take, length, Option, None, IfOk, OnErr};
 ghost use Rattle.std.specs.Io.KnownBytes.{Appends, Keeps};
 ghost use Rattle.dump_writer.specs.steps.SinkCalls.{CountsFailure, Loan};
 
-/// A sink took none of the bytes.
+/// The sink failed, and took none of the bytes.
 #[derive(Clone, Copy, Debug, PartialEq, Eq)]
 pub struct SinkDown;
 
-/// A piece wasn't written whole.
+/// A piece wasn't written completely.
 #[derive(Clone, Copy, Debug, PartialEq, Eq)]
 pub struct SinkFault {
-    /// How many of its first bytes the sink took; it stays at `u64::MAX`.
+    /// How many of its first bytes the sink took; the count doesn't go above `u64::MAX`.
     pub written: u64,
 }
 
-/// Something that takes bytes.
+/// A type that takes bytes.
 pub trait Sink {
-    /// The bytes that it has taken, where the type tells them; a pipe doesn't.
+    /// The bytes that it has taken, if the type knows them; a pipe doesn't.
     ghost taken: { Self → Option (List ℕ) };
 
-    /// How often it has failed; the count stays at `u64::MAX`.
+    /// How often it has failed; the count doesn't go above `u64::MAX`.
     ghost failure_count: { Self → ℕ };
 
-    /// The lent writer that it writes to, and what that held at first, where it has one: they stay the same.
+    /// The borrowed writer to which it writes, and what this held at first, if there is one. Neither changes.
     ghost through: { Self → Option Loan } = { λ _. None };
 
-    /// Takes the first of the bytes, one or more where there are any.
+    /// Takes the first of the bytes, at least one if there are any.
     fn accept(&mut self, bytes: &[u8]) -> Result<usize, SinkDown>
         ensures most { IfOk result (λ n. n ≤ length bytes.now) }
         ensures some { IfOk result (λ n. 0 < length bytes.now → 0 < n) }

@@ -1,5 +1,5 @@
-//! What no clause says: worked examples, writers that fail in mid-stream, and each call once where
-//! memory suffices.
+//! What no contract says: worked examples, writers that fail in mid-stream, and one call of each function with enough
+//! memory.
 ghost use Rattle.std.specs.Prelude.{◌≡◌, OnOk, OnErr, IfOk, IfErr, Some, []};
 ghost use Rattle.std.specs.Io.KnownBytes.{Appends};
 ghost use Rattle.dump_writer.specs.SinkWords.{greatest};
@@ -13,14 +13,14 @@ use std::io::{self, ErrorKind, Write};
 use std::process::Abort;
 use std::test::Fail;
 
-/// What a broken writer answers once it has no room left.
+/// What a broken writer returns once it has no room left.
 #[derive(Clone, Copy)]
 enum Ending {
     Error,
     Nothing,
 }
 
-/// A writer that has room for so many bytes, and whose flush fails where it has none.
+/// A writer that has room for `room` bytes, and whose flush fails if no room is left.
 #[derive(Drop)]
 struct Broken {
     held: Vec<u8>,
@@ -52,7 +52,7 @@ impl Write for Broken {
     }
 }
 
-/// A sink that has failed so often that its count stays.
+/// A sink whose count of failures has reached its maximum.
 #[derive(Drop)]
 struct WornOut {
     calls: u32,
@@ -76,7 +76,7 @@ impl Sink for WornOut {
     }
 }
 
-/// The piece `abcde`, of a lent chunk and one of its own.
+/// The piece `abcde`, of two borrowed chunks, one of them empty, and an owned one.
 fn five(alloc: Global) -> Result<Piece<'static>, Fail> {
     let mut piece = Piece::new(alloc);
     piece.push(Chunk::Lent(b"ab"))?;
@@ -85,8 +85,8 @@ fn five(alloc: Global) -> Result<Piece<'static>, Fail> {
     Ok(piece)
 }
 
-/// A caller that is generic in the writer, and knows at its end what the writer holds. The error says how many bytes
-/// the writer took.
+/// A function that is generic in the writer, and whose contract says what the writer holds at the end. The error is
+/// how many bytes the writer took.
 fn write_through<W: Write>(piece: &Piece<'_>, writer: &mut W, buffer: Vec<u8>) -> Result<(), u64>
     ensures { OnOk result (Appends (W.contents writer.old) (W.contents writer.new) piece.now) }
 {
@@ -120,7 +120,7 @@ fn a_piece_is_its_chunks_in_order(rt: HostRuntime) -> Result<(), Fail> {
     Ok(())
 }
 
-/// Whether a sink gives this answer to the piece, takes these bytes, and counts a failure where it is one.
+/// Whether a sink returns this answer for the piece, takes these bytes, and counts a failure if the answer is one.
 fn is_written_up_to(
     sink: &mut MemorySink,
     piece: &Piece<'_>,
@@ -153,7 +153,7 @@ fn pieces_are_written_up_to_the_trouble(rt: HostRuntime) -> Result<(), Fail> {
     Ok(())
 }
 
-/// Hands the sink these bytes in turn; whether each answer is right.
+/// Passes these bytes to the sink one after another, and returns whether each answer is the expected one.
 fn accepts<S: Sink>(sink: &mut S, calls: &[(&[u8], Result<usize, SinkDown>)]) -> bool {
     for (bytes, answer) in calls {
         if sink.accept(bytes) != *answer {
@@ -163,7 +163,7 @@ fn accepts<S: Sink>(sink: &mut S, calls: &[(&[u8], Result<usize, SinkDown>)]) ->
     true
 }
 
-/// Whether a sink took these bytes, and failed so often.
+/// Whether a sink took these bytes, and failed this often.
 fn holds(sink: &MemorySink, taken: &[u8], failures: u64) -> bool {
     sink.taken() == taken && sink.failures() == failures
 }
@@ -180,7 +180,7 @@ fn trouble_comes_once(rt: HostRuntime) {
     assert!(rt; accepts(&mut sink, &calls) && holds(&sink, b"abcde", 1));
 }
 
-/// Whether a sink fails at each further call.
+/// Whether each further call of a sink fails.
 fn fails_for_good(sink: &mut MemorySink) -> bool {
     for failures in 1..4 {
         if !accepts(sink, &[(b"de", Err(SinkDown))]) || !holds(sink, b"abc", failures) {
@@ -196,12 +196,12 @@ fn trouble_comes_for_good(rt: HostRuntime) {
     assert!(rt; accepts(&mut sink, &[(b"abcde", Ok(3))]) && fails_for_good(&mut sink));
 }
 
-/// Whether an `Out` wrote so many bytes, and failed so often.
+/// Whether an `Out` wrote this many bytes, and failed this often.
 fn counts<W: Write>(out: &Out<W>, written: u64, failures: u64) -> bool {
     out.written() == written && out.failures() == failures
 }
 
-/// Whether an `Out` takes a piece and two bytes more, and counts them.
+/// Whether an `Out` takes a piece and two more bytes, and counts them.
 fn takes_seven<W: Write>(out: &mut Out<W>, piece: &Piece<'_>) -> bool {
     let taken = write_piece(out, piece) == Ok(())
         && accepts(out, &[(b"", Ok(0)), (b"fg", Ok(2))])
@@ -218,7 +218,7 @@ fn a_writer_is_written_counted_and_given_back(rt: HostRuntime) -> Result<(), Fai
     Ok(())
 }
 
-/// Whether a writer is lent with so much room to wait in, and has the piece then.
+/// Whether a borrowed writer has the whole piece after `write_through`, with a buffer of this capacity.
 fn is_lent(alloc: Global, piece: &Piece<'_>, room: usize) -> Result<bool, Fail> {
     let mut text = Vec::from_slice(alloc, b"> ")?;
     let buffer = Vec::with_capacity(alloc, room)?;
@@ -235,7 +235,8 @@ fn a_lent_writer_is_written_and_counted(rt: HostRuntime) -> Result<(), Fail> {
     Ok(())
 }
 
-/// Hands on these bytes in turn; whether all are taken, and so many have reached the writer behind each.
+/// Passes these bytes to the sink one after another. Returns whether it takes all of them, and whether this many have
+/// reached the writer after each.
 fn hands_on<W: Write>(sink: &mut OutMut<'_, W>, calls: &[(&[u8], u64)]) -> bool {
     for (bytes, written) in calls {
         if sink.accept(bytes) != Ok(bytes.len()) || sink.written() != *written {
@@ -263,7 +264,7 @@ fn small_texts_wait_for_the_writer(rt: HostRuntime) -> Result<(), Fail> {
     Ok(())
 }
 
-/// A writer that breaks behind four bytes.
+/// A writer that breaks after four bytes.
 fn breaking(alloc: Global, ending: Ending) -> Broken {
     Broken {
         held: Vec::new(alloc),
@@ -273,13 +274,13 @@ fn breaking(alloc: Global, ending: Ending) -> Broken {
     }
 }
 
-/// Whether a writer without room fails to take a byte and to flush, and counts that.
+/// Whether a writer without room fails to take a byte and to flush, and the `Out` counts this.
 fn is_down(out: &mut Out<Broken>) -> bool {
     let down = accepts(out, &[(b"e", Err(SinkDown)), (b"", Ok(0))]) && out.flush() == Err(SinkDown);
     down && counts(out, 0, 2)
 }
 
-/// Whether a writer that breaks has the first bytes, and fails then.
+/// Whether a writer that breaks has the first bytes and fails then.
 fn is_broken_off(alloc: Global, piece: &Piece<'_>, mut writer: Broken) -> bool {
     let answer = write_through(piece, &mut writer, Vec::new(alloc));
     let first = answer == Err(4) && writer.held.as_slice() == b"abcd".as_slice();
@@ -328,7 +329,7 @@ fn no_call_is_made_for_no_bytes(rt: HostRuntime) -> Result<(), Fail> {
     Ok(())
 }
 
-/// Whether two chunks take no memory, and a third is there or refused.
+/// Whether two chunks need no allocation, and a third is added or dropped.
 fn grows<'a>(piece: &mut Piece<'a>) -> bool {
     let two = piece.push(Chunk::Lent(b"a")) == Ok(()) && piece.push(Chunk::Lent(b"b")) == Ok(());
     let count = if piece.push(Chunk::Lent(b"c")) == Ok(()) {
@@ -339,21 +340,22 @@ fn grows<'a>(piece: &mut Piece<'a>) -> bool {
     two && piece.chunks().len() == count
 }
 
-/// Run with each allocation refused in turn: what fails leaves the chunks.
+/// Run with each allocation failing in turn: a failed call leaves the chunks unchanged.
 #[test]
 fn a_refused_growth_leaves_the_piece(rt: HostRuntime) {
     let mut piece = Piece::new(rt.alloc());
     assert!(rt; grows(&mut piece));
 }
 
-/// Whether a sink that breaks behind two bytes takes them, at once or behind a growth that was refused.
+/// Whether a sink that breaks after two bytes takes them in the first call, or in the second if an allocation failed
+/// in the first.
 fn takes_two(sink: &mut MemorySink) -> bool {
     let refused = sink.accept(b"abc").is_err();
     let left = !refused || (holds(sink, b"", 1) && accepts(sink, &[(b"abc", Ok(2))]));
     left && sink.taken() == b"ab".as_slice() && accepts(sink, &[(b"c", Err(SinkDown))])
 }
 
-/// Run with each allocation refused in turn: what fails leaves the bytes, and the next call goes on.
+/// Run with each allocation failing in turn: a failed call leaves the bytes unchanged, and the next call succeeds.
 #[test]
 fn a_refused_growth_leaves_the_sink(rt: HostRuntime) {
     let mut sink = MemorySink::new(rt.alloc(), 8, Trouble::From(2));
