@@ -177,7 +177,7 @@ kept_file = file_copy (codes "trunk/e") []
 whole : map is_whole_file (lost_file ∷ kept_file ∷ []) ≡ true ∷ false ∷ []
 whole = refl
 
--- deltas can't stand without their copy source, and under version 2 there are none
+-- deltas need their copy source, and under version 2 there are none
 abbrev delta : List ℕ → ℕ → List ℕ → DumpRecord
 delta name version value = record lost_file { version = version; headers = header name value ∷ lost_file.headers }
 

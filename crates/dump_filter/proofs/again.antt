@@ -1,4 +1,4 @@
--- What was written of a clean dump is a clean dump, and stays as it stands.
+-- What was written for a dump without a fault is such a dump, and is left unchanged.
 pub mod ReadAgain
 pub mod LineChanges
 pub mod Headers

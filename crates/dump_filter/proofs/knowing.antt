@@ -1,4 +1,4 @@
--- Each fate keeps what the filter knows, what is written only grows, and the rest of any dump has an answer.
+-- Each fate preserves what the filter knows. What is written only grows. And there is an answer for any dump.
 pub mod StandsNext
 pub mod OnceLemmas
 pub mod AdvanceLemmas

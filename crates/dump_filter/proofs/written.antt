@@ -1,4 +1,4 @@
--- What is made of a record is its output.
+-- What the code makes of a record is what the definitions say is written for it.
 pub mod HeaderLemmas
 pub mod LineLemmas
 pub mod PropertyOutput

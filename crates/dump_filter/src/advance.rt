@@ -1,4 +1,5 @@
-//! Carries out the fate of a record: what is written of it, what is held behind it, and what is counted.
+//! Carries out the fate of a record: returns what the filter writes for it, and updates what the filter stores and
+//! counts.
 ghost use Rattle.std.specs.Prelude.{◌≡◌, ◌<◌, ◌+◌, ◌^◌, [], Some, IfOk, IsTrue, OnOk, OnErr};
 ghost use Rattle.dump_records.specs.steps.RecordViews.{record_item};
 ghost use Rattle.dump_records.specs.RecordText.{DumpRecord};
@@ -24,7 +25,7 @@ use std::alloc::Global;
 use std::mem;
 
 impl<'a> State<'a> {
-    /// Writes a pending revision, padded or not, and keeps it.
+    /// Writes a pending revision, padded or not, and adds it to the kept ones.
     fn write_pending(
         &mut self,
         alloc: Global,
@@ -51,7 +52,7 @@ impl<'a> State<'a> {
         Ok(piece)
     }
 
-    /// Writes the present group's revision for its first kept node, if it is pending.
+    /// Writes the present group's revision before its first kept node, if the revision is pending.
     fn open_group(&mut self, alloc: Global, options: &Options) -> Result<Piece<'a>, Memory>
         requires kept { AreKept self.old.revisions (view_group self.old.group) }
         requires room { revision_count (view_state self.old) < 2 ^ 64 }
@@ -66,7 +67,7 @@ impl<'a> State<'a> {
         }
     }
 
-    /// Writes the present group's revision where the group ends, if it is pending and the options keep it.
+    /// Ends the present group: writes its revision, if this is pending and the options keep it.
     pub(crate) fn end_group(
         &mut self,
         alloc: Global,
@@ -92,7 +93,8 @@ impl<'a> State<'a> {
         }
     }
 
-    /// Writes a kept node. The present revision is kept before, since the node's mergeinfo may name it.
+    /// Writes a kept node. It first adds the present revision to the kept ones, since the node's mergeinfo may name
+    /// it.
     fn keep_node(
         &mut self,
         alloc: Global,
@@ -116,7 +118,7 @@ impl<'a> State<'a> {
         Ok(piece)
     }
 
-    /// Leaves a node out, of which nothing is written.
+    /// Drops a node: writes nothing, and counts it.
     fn drop_node(&mut self, alloc: Global) -> Piece<'a>
         requires { CanCountMore (view_state self.old) }
         ensures piece { result ≡ [] }
@@ -129,7 +131,7 @@ impl<'a> State<'a> {
         Piece::new(alloc)
     }
 
-    /// Ends the present group, and holds the revision that begins the next.
+    /// Ends the present group, and holds back the revision that begins the next one.
     fn hold_revision(
         &mut self,
         alloc: Global,
@@ -155,7 +157,7 @@ impl<'a> State<'a> {
         Ok(piece)
     }
 
-    /// Ends the present group, and writes a version or UUID record as it stands.
+    /// Ends the present group, and writes a version or UUID record unchanged.
     fn pass_lines(
         &mut self,
         alloc: Global,
@@ -175,7 +177,7 @@ impl<'a> State<'a> {
         Ok(piece)
     }
 
-    /// The count of checked texts with one more, if it was checked.
+    /// The count of checked texts, with one more if `checked` is true.
     fn text_count(&self, checked: bool) -> u64
         requires { CanCountMore (view_state self.now) }
         ensures { result ≡ text_count checked self.now.report }
@@ -187,7 +189,7 @@ impl<'a> State<'a> {
         }
     }
 
-    /// Carries out the fate of the record that comes next, and gives what is written.
+    /// Carries out the fate of the next record, and returns what the filter writes for it.
     pub(crate) fn advance(
         &mut self,
         alloc: Global,

@@ -1,4 +1,4 @@
-//! What becomes of the copy source of a kept node.
+//! What the filter does with the copy source of a kept node.
 ghost use Rattle.std.specs.Prelude.{◌≡◌, IsTrue};
 ghost use Rattle.dump_records.specs.steps.RecordViews.{record_item};
 ghost use Rattle.dump_filter.specs.NewHeaders.{is_whole_file};
@@ -16,14 +16,15 @@ use dump_records::Record;
 use dump_rules::Options;
 use dump_text::FaultKind;
 
-/// Whether the record is a file with its text and its properties, so that it can stand without its copy source.
+/// Whether the record is a file with its text and its properties, so that it needs no copy source.
 fn is_whole_file(item: &Record<'_>) -> bool
     ensures { result ≡ is_whole_file (record_item item.now) }
 {
     item.is_file() && item.has_text() && !item.text_delta() && !item.prop_delta()
 }
 
-/// What becomes of the source of a kept node that stays a copy of this revision, if it is one.
+/// What the filter does with the source of a kept node that remains a copy; `source` is the copy's revision, if the
+/// node is a copy.
 fn source_change(
     options: &Options,
     state: &State<'_>,
@@ -49,7 +50,7 @@ fn source_change(
     }
 }
 
-/// What becomes of the copy source of a kept node, or its fault.
+/// What the filter does with the copy source of a kept node, or the fault of this source.
 pub(crate) fn copy_change(
     options: &Options,
     state: &State<'_>,

@@ -1,4 +1,4 @@
-//! Decides the fate of the record that comes next, or finds its fault.
+//! Decides the fate of the next record, or finds its fault.
 ghost use Rattle.std.specs.Prelude.{◌≡◌, List, IsTrue};
 ghost use Rattle.dump_text.specs.PropertyList.{Property};
 ghost use Rattle.dump_records.specs.steps.RecordViews.{record_item};
@@ -17,7 +17,7 @@ use dump_records::{Record, RecordKind};
 use dump_rules::Options;
 use dump_text::FaultKind;
 
-/// Whether the record may come next.
+/// Whether the record may come next in the dump.
 fn is_in_order(state: &State<'_>, item: &Record<'_>) -> bool
     ensures { result ≡ is_in_order (view_state state.now) (record_item item.now) }
 {
@@ -45,7 +45,7 @@ fn node_fate(options: &Options, state: &State<'_>, done: &Done<'_>) -> Result<Fa
     }
 }
 
-/// The fate of a record in order that can be read, or its fault.
+/// The fate of a record that may come next and whose properties can be read, or its fault.
 fn fate_of(options: &Options, state: &State<'_>, done: &Done<'_>) -> Result<Fate, FaultKind>
     requires kept { AreKept state.now.revisions (view_group state.now.group) }
     requires taken { IsTrue (is_kept_node options.now (record_item (done_record done.now)))
@@ -68,7 +68,7 @@ fn fate_of(options: &Options, state: &State<'_>, done: &Done<'_>) -> Result<Fate
     }
 }
 
-/// The fate of the record that comes next, or its fault.
+/// The fate of the next record, or its fault.
 pub(crate) fn decide(
     options: &Options,
     state: &State<'_>,

@@ -1,25 +1,25 @@
 //! What the filter does with a record.
 
-/// What becomes of the copy source of a kept node.
+/// What the filter does with the copy source of a kept node.
 #[derive(Clone, Copy)]
 pub(crate) enum CopyChange {
-    /// There is none.
+    /// The node has no copy source.
     Same,
-    /// It is of a revision with this new number.
+    /// The copy is of the revision with this number, which is the old one if revisions aren't renumbered.
     Renumbered(u64),
-    /// The node goes on without it.
+    /// The filter removes the copy source; the node is no longer a copy.
     Dropped,
 }
 
 /// What the filter does with a record.
 #[derive(Clone, Copy)]
 pub(crate) enum Fate {
-    /// The node is written, with this copy source.
+    /// It writes the node, with this copy source.
     Keep(CopyChange),
-    /// The node isn't written.
+    /// It drops the node.
     Drop,
-    /// The revision is held back until a node of it is kept or its group ends.
+    /// It holds back the revision until a node of it is kept or its group ends.
     Hold,
-    /// The version or UUID record is written as it stands.
+    /// It writes the version or UUID record unchanged.
     Pass,
 }

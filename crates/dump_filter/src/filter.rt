@@ -1,4 +1,4 @@
-//! The filter: it takes the records of a dump one after another, and gives what is written of each.
+//! The filter takes the records of a dump one after another, and returns what is written for each.
 use crate::decide::decide;
 use crate::report::Report;
 use crate::state::State;
@@ -9,18 +9,18 @@ use dump_writer::Piece;
 use std::alloc::Global;
 use std::marker::Model;
 
-/// Why a step gives no piece.
+/// Why a step returns no piece.
 #[derive(Clone, Copy, Debug, PartialEq, Eq)]
 pub enum StepFault {
     /// The record has this fault.
     Rule(FaultKind),
-    /// Memory ran out.
+    /// An allocation failed.
     Memory,
-    /// An earlier step gave no piece.
+    /// An earlier step failed.
     Closed,
 }
 
-/// Filters the records of a dump, one after another. It holds a revision back until a node of it is kept or its group
+/// Filters the records of a dump, one after another. It holds back a revision until a node of it is kept or its group
 /// ends.
 #[derive(Drop)]
 pub struct Filter<'o, 'a> {
@@ -56,7 +56,7 @@ impl<'o, 'a> Filter<'o, 'a> {
     ghost use Rattle.dump_filter.specs.steps.FilterState.{first_state, count_up_to, IsOfSameDump, AreAccepted, Accepts, Refuses, Finishes};
     ghost use Rattle.dump_filter.specs.Counts.{report_of};
 
-    /// A filter that has accepted no record. It takes no memory.
+    /// A filter that has accepted no record. It allocates nothing.
     pub fn new(alloc: Global, options: &'o Options) -> Filter<'o, 'a>
         ensures { result ≡ first_state options.now }
     {
@@ -67,7 +67,7 @@ impl<'o, 'a> Filter<'o, 'a> {
         }
     }
 
-    /// The number of the record that comes next.
+    /// The number that the next record must have.
     pub fn expected(&self) -> u64
         ensures { result ≡ count_up_to self.now.last }
     {
@@ -77,8 +77,8 @@ impl<'o, 'a> Filter<'o, 'a> {
         }
     }
 
-    /// What is written where this record comes next. A fault comes before a lack of memory; after either, each call
-    /// answers `Closed`.
+    /// Takes the next record, and returns what is written for it. If the record has a fault, this is reported even if
+    /// memory runs out too. After a failure each call returns `Closed`.
     pub fn step(&mut self, alloc: Global, done: Done<'a>) -> Result<Piece<'a>, StepFault>
         requires options { done_settings done ≡ self.old.settings }
         requires dump { IsOfSameDump self.old (record_dump (done_record done)) }
@@ -112,7 +112,7 @@ impl<'o, 'a> Filter<'o, 'a> {
         Ok(piece)
     }
 
-    /// What is written where the dump ends, and the counts.
+    /// Ends the dump: returns the last piece that is written, and the counts.
     pub fn finish(self, alloc: Global) -> Result<(Piece<'a>, Report), StepFault>
         ensures piece { IfOk result (λ end. Finishes self.entry end.0) }
         ensures report { IfOk result (λ end. (records : List DumpRecord) → AreAccepted self.entry records

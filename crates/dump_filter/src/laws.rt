@@ -1,13 +1,14 @@
-//! Laws of what the filter writes, each the contract of a function that does nothing.
+//! Laws of what the filter writes. Each law is the contract of a function that does nothing.
 ghost use Rattle.dump_filter.specs.FilterLaws.{KeepsItsOwnText, WrittenOnlyGrows};
 
-/// What is written of the first records of a dump, where none of them has a fault, begins what is written of more.
+/// If the first records of a dump have no fault, what is written for them is the beginning of what is written for more
+/// records.
 pub fn written_only_grows()
     ensures { WrittenOnlyGrows }
 {}
 
-/// What is written of a clean dump is a clean dump again, and where everything is kept it stays as it
-/// stands, if no length in it reaches 10^18.
+/// What is written for a dump without a fault is such a dump again, and the filter leaves that one unchanged if it
+/// keeps everything. This holds if no length in the dump reaches 10^18.
 pub fn keeps_its_own_text()
     ensures { KeepsItsOwnText }
 {}

@@ -1,9 +1,10 @@
-//! The filter: what it writes of each record, which records it rejects, and its counts.
+//! The filter: what it writes for each record, which records it rejects, and its counts.
 //!
-//! A [`Filter`] takes the records of a dump one after another, each [`Done`](dump_digest::Done) under
-//! the filter's options. For each it gives the piece to write: nothing, or the record, or the revision
-//! that waited for it and the record. [`Filter::finish`] gives what is left, and the [`Report`]. A step
-//! that finds a fault, or runs out of memory, closes the filter.
+//! A [`Filter`] takes the records of a dump one after another, each as a [`Done`](dump_digest::Done)
+//! with the filter's options. For each record it returns the piece to write: nothing, the record, or a
+//! revision that it held back and then the record. [`Filter::finish`] returns the last piece and the
+//! [`Report`]. After a step that finds a fault or runs out of memory, the filter is closed: each further
+//! call fails.
 //!
 //! ```
 //! let Cut::Item(record) = cutter.next() else {
@@ -23,8 +24,8 @@
 //! }
 //! ```
 //!
-//! `tests::pass` runs this for each record of the example dumps, and keeps the bytes of each piece. A
-//! run begins and ends so:
+//! `tests::pass` runs this for each record of the example dumps, and collects the bytes of each piece. A
+//! run begins and ends with these calls:
 //!
 //! ```
 //! let mut filter = Filter::new(alloc, options);
@@ -34,7 +35,7 @@
 //!
 //! `tests::run` runs this.
 //!
-//! A piece lends the bytes of the dump that stay unchanged; only what is new is made.
+//! A piece borrows the bytes of the dump that are unchanged, and owns only the new ones.
 #![tactic(auto)]
 
 mod advance;

@@ -1,4 +1,4 @@
-//! The header lines of a record that is written: the old ones with new numbers, and lengths that were missing.
+//! The header lines that the filter writes for a record: the old ones with new numbers, and lengths that were missing.
 ghost use Rattle.std.specs.Prelude.{◌≡◌, ◌++◌, ◌∷◌, [], List, ℕ, Some, OnOk, IfOk, IsTrue};
 ghost use Rattle.dump_text.specs.Names.{revision_name};
 ghost use Rattle.dump_text.specs.steps.KnownValues.{name_text};
@@ -16,7 +16,7 @@ use dump_text::{HeaderName, Line, push_header};
 use dump_writer::Memory;
 use std::alloc::Global;
 
-/// What changes in the lines of a record: its revision number, its copy source, and its lengths.
+/// What changes in the header lines of a record: its revision number, its copy source, and its lengths.
 #[derive(Clone, Copy)]
 pub(crate) struct Changes {
     pub(crate) revision: Option<u64>,
@@ -26,7 +26,7 @@ pub(crate) struct Changes {
     pub(crate) content: u64,
 }
 
-/// The number that the line of a copy revision gets.
+/// The new value of `Node-copyfrom-rev`, if it gets one.
 fn copy_number(copy: CopyChange) -> Option<u64>
     ensures { result ≡ copy_number copy }
 {
@@ -36,7 +36,7 @@ fn copy_number(copy: CopyChange) -> Option<u64>
     }
 }
 
-/// Whether the line of this name tells of a copy source.
+/// Whether a line of this name is part of a copy source.
 fn is_copy_line(name: &[u8]) -> bool
     ensures { result ≡ is_copy_line name.now }
 {
@@ -46,7 +46,7 @@ fn is_copy_line(name: &[u8]) -> bool
         || name == HeaderName::TextCopySourceSha1.bytes()
 }
 
-/// Whether the line of this name goes.
+/// Whether the line of this name is removed.
 fn is_dropped(changes: &Changes, name: &[u8]) -> bool
     ensures { result ≡ is_dropped changes.now.copy name.now }
 {
@@ -56,7 +56,7 @@ fn is_dropped(changes: &Changes, name: &[u8]) -> bool
     }
 }
 
-/// The number that the line of this name gets.
+/// The new number for the line of this name, if it gets one.
 fn number_for(changes: &Changes, name: &[u8]) -> Option<u64>
     ensures { result ≡ number_for changes.now name.now }
 {
@@ -75,7 +75,7 @@ fn number_for(changes: &Changes, name: &[u8]) -> Option<u64>
     }
 }
 
-/// Adds a line, with a new number if it gets one.
+/// Appends a line, with a new number if it gets one.
 fn push_line(out: &mut Vec<u8>, line: &Line<'_>, number: Option<u64>) -> Result<(), Memory>
     ensures { OnOk result (out.new.items ≡ out.old.items ++ (header_text (with_number (line_header line.now) number) ++ 10 ∷ [])) }
 {
@@ -88,7 +88,7 @@ fn push_line(out: &mut Vec<u8>, line: &Line<'_>, number: Option<u64>) -> Result<
     }
 }
 
-/// Adds a length that isn't 0 where no line for it is there.
+/// Appends the line of a length that isn't 0 and had no line.
 fn push_missing(out: &mut Vec<u8>, is_there: bool, name: HeaderName, n: u64) -> Result<(), Memory>
     ensures { (headers : List Header) → is_there ≡ has_header (name_text name) headers
         → OnOk result (out.new.items ≡ out.old.items ++ lines_bytes (added (name_text name) n headers)) }
@@ -99,14 +99,14 @@ fn push_missing(out: &mut Vec<u8>, is_there: bool, name: HeaderName, n: u64) -> 
     Ok(push_header(out, name.bytes(), n)?)
 }
 
-/// Whether a record that gets this number, if any, keeps its own.
+/// Whether the record already has this revision number, or gets none.
 fn revision_stays(item: &Record<'_>, revision: Option<u64>) -> bool
     ensures { IsTrue result → (n : ℕ) → revision ≡ Some n → header_number revision_name (record_item item.now).headers ≡ Some n }
 {
     revision.is_none() || item.revision() == revision
 }
 
-/// Whether a record keeps its copy source as it stands.
+/// Whether the copy source of a record is unchanged.
 fn copy_stays(item: &Record<'_>, copy: CopyChange) -> bool
     ensures { IsTrue result → StaysCopied copy (record_item item.now).headers }
 {
@@ -117,7 +117,7 @@ fn copy_stays(item: &Record<'_>, copy: CopyChange) -> bool
     }
 }
 
-/// Whether the lengths stay those of the record.
+/// Whether the lengths of the record are those of the changes.
 fn lengths_stay(item: &Record<'_>, changes: &Changes) -> bool
     ensures { let r = record_item item.now in IsTrue result → AreLengths r.props r.text changes.now }
 {
@@ -126,7 +126,7 @@ fn lengths_stay(item: &Record<'_>, changes: &Changes) -> bool
     changes.props == props && changes.text == text && changes.content == props + text
 }
 
-/// Whether the record's block is written as it stands.
+/// Whether the record's block is written unchanged.
 fn block_stays(item: &Record<'_>, changes: &Changes) -> bool
     ensures { let r = record_item item.now in IsTrue result → new_headers changes.now r.headers ≡ r.headers }
 {
@@ -136,7 +136,7 @@ fn block_stays(item: &Record<'_>, changes: &Changes) -> bool
         && copy_stays(item, changes.copy)
 }
 
-/// The block of a record as it is written; none where it stays as it stands.
+/// The block that is written for a record, or `None` if the record's own block is written unchanged.
 pub(crate) fn new_lines(
     alloc: Global,
     item: &Record<'_>,
@@ -152,7 +152,7 @@ pub(crate) fn new_lines(
     Ok(Some(bytes))
 }
 
-/// The lines of a record, written anew.
+/// The block of a record with these changes.
 fn write_block(alloc: Global, item: &Record<'_>, changes: &Changes) -> Result<Vec<u8>, Memory>
     ensures { let headers = (record_item item.now).headers in
         IfOk result (λ bytes. bytes.items ≡ block_text (new_headers changes.now headers)) }

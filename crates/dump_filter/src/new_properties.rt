@@ -1,4 +1,4 @@
-//! The property block of a record that is written: made anew, or none where it is written as it stands.
+//! The property block that the filter writes for a record, or none if the record's own block is written unchanged.
 ghost use Rattle.std.specs.Prelude.{◌≡◌, ◌++◌, List, false, IsTrue, OnOk, IfOk, option_copied};
 ghost use Rattle.dump_text.specs.PropertyList.{Property, IsPropertyBlock, entry_text, property_block_text};
 ghost use Rattle.dump_text.specs.steps.PropertyViews.{props_bytes, entry_property};
@@ -19,13 +19,13 @@ use dump_text::{Entry, Props, push_block_end, push_deletion, push_property};
 use dump_writer::Memory;
 use std::alloc::{AllocError, Global};
 
-/// The property that has the date of a revision.
+/// The property that holds the date of a revision.
 const DATE: &[u8] = b"svn:date";
 
-/// The log of an empty revision.
+/// The log message of a padded revision.
 const PADDING_LOG: &[u8] = b"This is an empty revision for padding.";
 
-/// Adds an entry as it stands.
+/// Appends an entry, whose lengths are written without leading zeros.
 fn push_entry(out: &mut Vec<u8>, entry: &Entry<'_>) -> Result<(), AllocError>
     ensures { OnOk result (out.new.items ≡ out.old.items ++ entry_text (entry_property entry.now)) }
 {
@@ -36,7 +36,7 @@ fn push_entry(out: &mut Vec<u8>, entry: &Entry<'_>) -> Result<(), AllocError>
     }
 }
 
-/// The properties of a block, written anew.
+/// The property block that the filter writes for these properties.
 fn write_entries(alloc: Global, props: &Props<'_>) -> Result<Vec<u8>, Memory>
     ensures { IfOk result (λ out. (ps : List Property) → IsPropertyBlock (props_bytes props.now) ps
         → out.items ≡ property_block_text ps) }
@@ -50,7 +50,7 @@ fn write_entries(alloc: Global, props: &Props<'_>) -> Result<Vec<u8>, Memory>
     Ok(out)
 }
 
-/// The block as it is written; none where it stays.
+/// The property block that the filter writes for these properties, or `None` if it is the same as the old one.
 fn respelled(alloc: Global, props: &Props<'_>) -> Result<Option<Vec<u8>>, Memory>
     ensures { IfOk result (λ made. (ps : List Property) → IsPropertyBlock (props_bytes props.now) ps
         → made_or made (props_bytes props.now) ≡ property_block_text ps) }
@@ -62,7 +62,7 @@ fn respelled(alloc: Global, props: &Props<'_>) -> Result<Option<Vec<u8>>, Memory
     Ok(Some(bytes))
 }
 
-/// The properties of an empty revision of this date, if it has one.
+/// The properties of a padded revision, with this date if there is one.
 fn write_padding(alloc: Global, date: Option<&[u8]>) -> Result<Vec<u8>, Memory>
     ensures { IfOk result (λ out. out.items ≡ property_block_text (dated_padding (option_copied date.entry))) }
 {
@@ -75,7 +75,7 @@ fn write_padding(alloc: Global, date: Option<&[u8]>) -> Result<Vec<u8>, Memory>
     Ok(out)
 }
 
-/// The properties of a revision or of a kept node, which its check found to be a property block.
+/// The properties of a revision or of a kept node, whose check found a property block.
 pub(crate) fn read_props<'a>(done: &Done<'a>) -> Props<'a>
     requires asked { IsTrue (is_asked (done_settings done.now) (record_item (done_record done.now))) }
     requires read { IsTrue (done_verdict done.now).props_ok }
@@ -87,7 +87,7 @@ pub(crate) fn read_props<'a>(done: &Done<'a>) -> Props<'a>
     props
 }
 
-/// The property block of a record with these properties as it is written, if it has a length for one.
+/// The new property block of a record with these properties, or `None` if the record's own is written.
 fn respelled_block(
     alloc: Global,
     item: &Record<'_>,
@@ -104,7 +104,8 @@ fn respelled_block(
     }
 }
 
-/// The property block of a revision with these properties as it is written, padded or not.
+/// The new property block of a revision with these properties, padded or not, or `None` if the revision's own is
+/// written.
 pub(crate) fn revision_properties(
     alloc: Global,
     item: &Record<'_>,
@@ -123,7 +124,7 @@ pub(crate) fn revision_properties(
     respelled_block(alloc, item, props)
 }
 
-/// Adds a property of a kept node, with its new value where it is mergeinfo.
+/// Appends a property of a kept node, with its new value if it is mergeinfo.
 fn push_rewritten(
     out: &mut Vec<u8>,
     alloc: Global,
@@ -144,7 +145,7 @@ fn push_rewritten(
     }
 }
 
-/// The properties of a kept node, written anew with new values of mergeinfo.
+/// The property block that the filter writes for a kept node, with new values of mergeinfo.
 fn write_rewritten(
     alloc: Global,
     options: &Options,
@@ -164,7 +165,7 @@ fn write_rewritten(
     Ok(out)
 }
 
-/// The property block of a kept node with mergeinfo as it is written, with new values, if it has a length for one.
+/// The new property block of a kept node with mergeinfo, if the node has a length for one.
 fn rewritten_block(
     alloc: Global,
     options: &Options,
@@ -185,7 +186,7 @@ fn rewritten_block(
     }
 }
 
-/// The property block of a kept node as it is written, with new values of mergeinfo.
+/// The new property block of a kept node, with new values of mergeinfo, or `None` if the node's own is written.
 pub(crate) fn node_properties(
     alloc: Global,
     options: &Options,

@@ -1,4 +1,4 @@
-//! What is written of a record, as chunks of a piece.
+//! Adds what the filter writes for a record to a piece.
 ghost use Rattle.std.specs.Prelude.{◌≡◌, ℕ, ◌++◌, List, IsTrue, OnOk};
 ghost use Rattle.dump_text.specs.HeaderBlock.{block_text};
 ghost use Rattle.dump_text.specs.PropertyList.{Property};
@@ -22,7 +22,7 @@ use dump_rules::{Options, Reach};
 use dump_writer::{Chunk, Memory, Piece};
 use std::alloc::Global;
 
-/// The bytes that were made, or else these.
+/// The new bytes, if there are any, or else the own ones.
 fn made_or<'b>(made: &'b Option<Vec<u8>>, own: &'b [u8]) -> &'b [u8]
     ensures { result.now ≡ made_or made.now own.now }
 {
@@ -32,7 +32,7 @@ fn made_or<'b>(made: &'b Option<Vec<u8>>, own: &'b [u8]) -> &'b [u8]
     }
 }
 
-/// What changes in the lines of a record of these properties and this text.
+/// What changes in the lines of a record that has these properties and this text.
 fn changes_of(props: &[u8], text: &[u8], revision: Option<u64>, copy: CopyChange) -> Changes
     ensures lengths { AreLengths props.now text.now result }
     ensures revision { result.revision ≡ revision }
@@ -49,7 +49,8 @@ fn changes_of(props: &[u8], text: &[u8], revision: Option<u64>, copy: CopyChange
     }
 }
 
-/// Adds a record's bytes from a part on, and these behind them: as one chunk where they stand so in the dump.
+/// Adds the bytes of a record from a part on, and then the bytes of `end`. If the dump has them all in a row, they are
+/// one chunk.
 fn push_rest<'a>(
     piece: &mut Piece<'a>,
     item: &Record<'a>,
@@ -65,7 +66,7 @@ fn push_rest<'a>(
     piece.push(Chunk::Lent(end))
 }
 
-/// Adds a record's properties, its own or those that were made, its text and what stands behind it.
+/// Adds the properties of a record, which are its own or new ones, then its text and the bytes of `end`.
 fn push_content<'a>(
     piece: &mut Piece<'a>,
     item: &Record<'a>,
@@ -84,7 +85,7 @@ fn push_content<'a>(
     }
 }
 
-/// Adds a record with these changes, with its own properties or those that were made, and what stands behind it.
+/// Adds a record with these changes, with its own properties or new ones, and then the bytes of `end`.
 fn push_record<'a>(
     piece: &mut Piece<'a>,
     alloc: Global,
@@ -104,7 +105,7 @@ fn push_record<'a>(
     push_content(piece, item, props, end)
 }
 
-/// Adds a revision under a new number, with its properties or with those of an empty revision.
+/// Adds a revision with a new number, with its own properties or those of a padded one.
 pub(crate) fn push_revision<'a>(
     piece: &mut Piece<'a>,
     alloc: Global,
@@ -124,7 +125,7 @@ pub(crate) fn push_revision<'a>(
     push_record(piece, alloc, &item, &changes, props, b"\n")
 }
 
-/// Adds a node with its new copy source and new values of mergeinfo, where these revisions are kept.
+/// Adds a node with its new copy source and new values of mergeinfo; `kept` are the kept revisions.
 pub(crate) fn push_node<'a>(
     piece: &mut Piece<'a>,
     alloc: Global,
@@ -144,7 +145,7 @@ pub(crate) fn push_node<'a>(
     push_record(piece, alloc, &item, &changes, props, b"\n\n")
 }
 
-/// Adds the lines of a version or UUID record, as they stand.
+/// Adds the lines of a version or UUID record, unchanged.
 pub(crate) fn push_lines<'a>(piece: &mut Piece<'a>, item: &Record<'a>) -> Result<(), Memory>
     ensures { OnOk result (piece.new ≡ piece.old ++ block_text (record_item item.now).headers) }
 {

@@ -1,4 +1,4 @@
-//! A revision that is held back.
+//! A revision that the filter holds back.
 ghost use Rattle.std.specs.Prelude.{IsTrue};
 ghost use Rattle.dump_records.specs.steps.RecordViews.{record_item};
 ghost use Rattle.dump_digest.specs.steps.DoneViews.{done_record, done_verdict};
@@ -10,7 +10,7 @@ use dump_digest::Done;
 #[derive(Drop)]
 pub(crate) struct Pending<'a> {
     pub(crate) revision: Done<'a>,
-    /// Whether the group has no node at all.
+    /// Whether the group has had no node so far.
     pub(crate) bare: bool,
     pub ghost is_read: { IsTrue (done_verdict revision).props_ok },
     pub ghost is_revision: { IsTrue (is_revision_record (record_item (done_record revision))) },

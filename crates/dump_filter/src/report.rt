@@ -1,4 +1,4 @@
-//! What a clean run tells.
+//! What a run without a fault reports.
 
 /// What a run kept, dropped and checked.
 #[derive(Clone, Copy, Debug, PartialEq, Eq)]
@@ -7,6 +7,6 @@ pub struct Report {
     pub revisions_dropped: u64,
     pub nodes_kept: u64,
     pub nodes_dropped: u64,
-    /// Kept texts that were compared with a digest.
+    /// The number of kept texts that were compared with a digest.
     pub texts_checked: u64,
 }

@@ -1,4 +1,4 @@
-//! The kept revisions, with the present one.
+//! The kept revisions and the present one.
 ghost use Rattle.std.specs.Prelude.{◌≡◌, ◌<◌, ◌+◌, ◌^◌, OnOk, IsSome, Some, length, IsTrue};
 ghost use Rattle.dump_records.specs.steps.RecordViews.{record_item};
 ghost use Rattle.dump_digest.specs.steps.DoneViews.{done_record};
@@ -18,7 +18,7 @@ use dump_rules::{Options, Reach};
 use dump_writer::Memory;
 use std::alloc::Global;
 
-/// The kept revisions, and the number of the present one, which is the last that came.
+/// The kept revisions, and the number of the present one, which is the last revision that was taken.
 #[derive(Drop)]
 pub(crate) struct Revisions {
     pub(crate) kept: Reach,
@@ -37,7 +37,7 @@ pub(crate) fn revision_number(item: &Record<'_>) -> u64
 }
 
 impl Revisions {
-    /// No revision so far. It takes no memory.
+    /// No revisions. It allocates nothing.
     pub(crate) fn new(alloc: Global) -> Revisions
         ensures { result ≡ no_revisions }
     {
@@ -47,7 +47,7 @@ impl Revisions {
         }
     }
 
-    /// The number of the revision that a node belongs to which comes next.
+    /// The number of the revision to which the next node belongs.
     pub(crate) fn node_revision(&self) -> u64
         requires { IsSome self.now.present }
         ensures { result ≡ node_revision self.now }
@@ -68,7 +68,7 @@ impl Revisions {
         }
     }
 
-    /// The number that the next kept revision gets with renumbering.
+    /// The number that renumbering gives to the next kept revision.
     fn next_new_number(&self) -> u64
         requires { self.now.kept.first + length self.now.kept.numbers < 2 ^ 64 }
         ensures { result ≡ self.now.kept.first + length self.now.kept.numbers }
@@ -89,7 +89,7 @@ impl Revisions {
         }
     }
 
-    /// The new number of a copy's revision, where a pending revision counts as kept already.
+    /// The image of a copy's revision; a pending revision already counts as kept.
     pub(crate) fn image(&self, group: &PresentGroup<'_>, number: u64) -> Option<u64>
         requires { AreKept self.now (view_group group.now) }
         ensures { result ≡ image (front_kept self.now.kept (view_group group.now)) number }
@@ -106,7 +106,7 @@ impl Revisions {
         }
     }
 
-    /// Keeps a pending revision.
+    /// Adds a pending revision to the kept ones.
     pub(crate) fn keep(&mut self, pending: &Pending<'_>) -> Result<(), Memory>
         requires { AreKept self.old (IsPending (view_pending pending.now)) }
         ensures { OnOk result (self.new ≡ record self.old {
@@ -119,7 +119,8 @@ impl Revisions {
         }
     }
 
-    /// Makes a revision the present one. New numbers count from the dump's first revision, so they begin anew at that.
+    /// Makes a revision the present one. If it is the dump's first revision, the table of new numbers begins with its
+    /// number.
     pub(crate) fn begin(&mut self, alloc: Global, item: &Record<'_>)
         requires { IsTrue (is_revision_record (record_item item.now)) }
         ensures { self.new ≡ record {

@@ -1,4 +1,4 @@
-//! What the filter holds of the records so far.
+//! What the filter stores about the records that it has taken.
 ghost use Rattle.std.specs.Prelude.{◌≡◌, None};
 ghost use Rattle.dump_filter.specs.Groups.{is_pad, keeps_empty};
 ghost use Rattle.dump_filter.specs.steps.State.{view_pending, view_group, view_state, new_state};
@@ -12,10 +12,10 @@ use dump_records::Record;
 use dump_rules::{Empty, Options};
 use std::alloc::Global;
 
-/// The group of a node that comes next.
+/// The group to which the next node belongs.
 #[derive(Drop)]
 pub(crate) enum PresentGroup<'a> {
-    /// There is none: no node may come next.
+    /// There is none: the next record may not be a node.
     None,
     /// Its revision isn't written yet.
     Pending(Pending<'a>),
@@ -23,7 +23,7 @@ pub(crate) enum PresentGroup<'a> {
     Written,
 }
 
-/// What the filter holds of the records so far.
+/// What the filter stores about the records that it has taken.
 #[derive(Drop)]
 pub(crate) struct State<'a> {
     /// The last record.
@@ -33,14 +33,14 @@ pub(crate) struct State<'a> {
     pub(crate) report: Report,
 }
 
-/// Whether a revision that lost its nodes is padded.
+/// Whether emptied revisions are padded.
 fn is_pad(empty: Empty) -> bool
     ensures { result ≡ is_pad empty }
 {
     matches!(empty, Empty::Pad)
 }
 
-/// Whether the options keep a revision whose group ends so.
+/// Whether the options keep a revision that has no kept node; `bare` says whether it had no nodes.
 fn keeps_empty(empty: Empty, bare: bool) -> bool
     ensures { result ≡ keeps_empty empty bare }
 {
@@ -59,7 +59,7 @@ impl<'a> Pending<'a> {
         revision_number(&self.revision.item()) == 0 || keeps_empty(options.empty(), self.bare)
     }
 
-    /// Whether the revision is written as an empty one if its group ends now.
+    /// Whether the revision is padded if its group ends now.
     pub(crate) fn pads(&self, options: &Options) -> bool
         ensures { result ≡ pads options.now (view_pending self.now) }
     {
@@ -68,7 +68,7 @@ impl<'a> Pending<'a> {
 }
 
 impl<'a> PresentGroup<'a> {
-    /// Whether a node may come next.
+    /// Whether the next record may be a node.
     pub(crate) fn takes_node(&self) -> bool
         ensures { result ≡ takes_node (view_group self.now) }
     {
@@ -78,7 +78,7 @@ impl<'a> PresentGroup<'a> {
         }
     }
 
-    /// Notes that a node of it was dropped.
+    /// Stores that a node of this group was dropped.
     pub(crate) fn empty(&mut self)
         ensures { view_group self.new ≡ emptied (view_group self.old) }
     {
@@ -90,7 +90,7 @@ impl<'a> PresentGroup<'a> {
 }
 
 impl<'a> State<'a> {
-    /// The state before the first record. It takes no memory.
+    /// The state before the first record. It allocates nothing.
     pub(crate) fn new(alloc: Global) -> State<'a>
         ensures state { view_state result ≡ new_state }
         ensures last { result.last ≡ None }

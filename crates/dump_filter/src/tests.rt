@@ -1,5 +1,5 @@
-//! What no clause says: worked dumps, a filter that stays closed behind a fault, and memory that is refused. Here is
-//! what the tests share.
+//! What no contract says: worked dumps, a filter that stays closed after a fault, and allocations that fail. This file
+//! has what the tests share.
 ghost use Rattle.std.specs.Prelude.{◌≡◌, OnOk};
 ghost use Rattle.dump_filter.specs.steps.FilterState.{first_state, count_up_to, IsOfSameDump};
 
@@ -17,7 +17,7 @@ use dump_text::FaultKind;
 use dump_writer::{Chunk, Piece};
 use std::alloc::{AllocError, Global};
 
-/// What is asked of the filter.
+/// The options of the filter.
 #[derive(Clone, Copy)]
 struct Asked<'a> {
     side: Side,
@@ -27,8 +27,8 @@ struct Asked<'a> {
     preserve: bool,
 }
 
-/// A dump of which the filter refuses a record, for this fault, and what is written before: how long it is behind each
-/// record, and all of it.
+/// A dump with a record that the filter rejects because of this fault, and what the filter writes before: its length
+/// after each record, and all of it.
 #[derive(Clone, Copy)]
 struct Refused<'a> {
     asked: Asked<'a>,
@@ -38,14 +38,14 @@ struct Refused<'a> {
     written: &'a [&'a [u8]],
 }
 
-/// What was written, how long it was behind each piece, and how many chunks were made and not lent. Its room is
-/// reserved, so that behind it only the filter's memory is refused.
+/// What was written, its length after each piece, and how many chunks were owned and not borrowed. Memory for all this
+/// is reserved at the start, so that later only an allocation of the filter can fail.
 #[derive(Drop)]
 struct Written {
     text: Vec<u8>,
     lengths: Vec<usize>,
     made: u64,
-    // Whether the filter expected each record, and stayed closed behind a fault.
+    // Whether the filter expected each record, and stayed closed after a fault.
     sound: bool,
 }
 
@@ -78,7 +78,7 @@ impl Written {
         }
     }
 
-    /// Whether these parts were written, and nothing else.
+    /// Whether exactly these parts were written.
     fn is_of(&self, parts: &[&[u8]]) -> bool {
         let mut text = self.text.as_slice();
         for part in parts {
@@ -90,7 +90,7 @@ impl Written {
         text.is_empty()
     }
 
-    /// Whether what was written is a front of these parts.
+    /// Whether these parts begin with what was written.
     fn begins(&self, parts: &[&[u8]]) -> bool {
         let mut text = self.text.as_slice();
         for part in parts {
@@ -111,7 +111,7 @@ fn joined(alloc: Global, parts: &[&[u8]]) -> Result<Vec<u8>, AllocError> {
     Ok(whole)
 }
 
-/// The nodes under a prefix, and nothing else.
+/// Options that keep the nodes under a prefix, and nothing else.
 fn include(prefix: &[u8]) -> Asked<'_> {
     Asked {
         side: Side::Include,
@@ -122,7 +122,7 @@ fn include(prefix: &[u8]) -> Asked<'_> {
     }
 }
 
-/// The same, where an empty revision keeps its properties.
+/// The same, but emptied revisions keep their properties.
 fn preserve(prefix: &[u8]) -> Asked<'_> {
     Asked {
         preserve: true,
@@ -130,7 +130,7 @@ fn preserve(prefix: &[u8]) -> Asked<'_> {
     }
 }
 
-/// The same, where emptied revisions go and the others get new numbers.
+/// The same, but emptied revisions are dropped and the others get new numbers.
 fn renumber(prefix: &[u8]) -> Asked<'_> {
     Asked {
         empty: Empty::DropEmptied,
@@ -162,8 +162,8 @@ fn report(counts: (u64, u64, u64, u64)) -> Report {
     }
 }
 
-/// Takes the next record through the filter, and writes its piece. The error is `None` where no record is left, and else
-/// the fault behind which the filter is closed.
+/// Passes the next record through the filter, and writes its piece. The error is `None` if no record is left, and
+/// otherwise the fault that closed the filter.
 fn pass<'a>(
     alloc: Global,
     cutter: &mut Cutter<'a>,
@@ -198,7 +198,7 @@ fn pass<'a>(
     }
 }
 
-/// Takes the first records through the filter, at most eleven.
+/// Passes the first records through the filter, at most eleven.
 fn pass_all<'a>(
     alloc: Global,
     dump: &'a [u8],
@@ -215,7 +215,7 @@ fn pass_all<'a>(
     Ok(())
 }
 
-/// Takes a dump through a filter, to its end or its first fault.
+/// Passes a dump through a filter, up to its end or its first fault.
 fn run<'a>(
     alloc: Global,
     dump: &'a [u8],
@@ -234,7 +234,7 @@ fn run<'a>(
     Ok(report)
 }
 
-/// What the filter answers to a dump, and what it writes of it; none where memory is refused before it begins.
+/// What the filter returns for a dump, and what it writes; `None` if an allocation fails before it begins.
 fn outcome(
     alloc: Global,
     asked: &Asked<'_>,
@@ -247,7 +247,7 @@ fn outcome(
     Some((answer, out))
 }
 
-/// Whether the filter refuses a record of a dump so.
+/// Whether the filter rejects a record of this dump as described.
 fn is_refused(alloc: Global, refused: &Refused<'_>) -> bool {
     match outcome(alloc, &refused.asked, refused.dump) {
         Some((answer, out)) => {

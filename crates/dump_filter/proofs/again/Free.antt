@@ -1,4 +1,4 @@
--- What is written of records without a fault has none where everything is kept.
+-- What is written for records without a fault has no fault if everything is kept.
 use Rattle.dump_filter.proofs.Prelude.{◌≡◌, ℕ, zero, suc, ◌<◌, Bool, true, false, not, ◌&&◌, ◌||◌, List, [], ◌∷◌, ◌++◌, take_while, refl, sym, ap, ◌∙◌, subst, arith, Option, Some, None, MatchOption, Contains, if◌then◌else◌, or_right, or_left, ⊤, list_any, prefix_len, FaultKind, tail-eq, DumpRecord, Settings, KeptRevisions, new_number, is_revision_record, is_node, is_kept_node, keep_all, group_of, keeps_group, revision_number, kept_revisions, written_number, is_whole_file, is_copy, HoldsOfRecord, AreFaultFree, kept_numbers, is_written, absurd_bool, both_true, first_true}
 use Rattle.dump_filter.proofs.knowing.FilterLemmas.{none_within}
 use Rattle.dump_text.specs.declared.fault.FaultKind.TheVariants as faults
@@ -25,7 +25,7 @@ written_node settings r rest other node written =
     let same : is_written settings true r rest ≡ is_kept_node settings r = rw (other, node) refl in
     sym same ∙ written
 
--- whether a kept node stands in the group that goes on
+-- whether the present group has a kept node
 abbrev AnyKept : Settings → List DumpRecord → Type 0
 AnyKept settings rest = list_any (is_kept_node settings) (take_while is_node rest) ≡ true
 
@@ -45,7 +45,7 @@ dropped_group settings r rest rev dropped any =
     (rw rev (both_true (keeps_group settings (group_of r rest)) true
     (passed_keeps settings r (take_while is_node rest) any) refl)) dropped
 
--- the kept numbers of the rest
+-- the kept numbers of the other records
 
 abbrev AreAmong : KeptRevisions → Settings → List DumpRecord → Type 0
 AreAmong kept settings records = (n : ℕ) → Contains (kept_numbers settings records) n → Contains kept.numbers n
@@ -84,18 +84,18 @@ written_rises settings kept a b has low = cases settings.renumber
     cases true = new_number_rises kept a b has low
     cases false = low
 
--- the order of what is written
+-- the order of the written records
 
 rises_through : (p : Option ℕ) (k n : ℕ) → RisesFrom p k → k < n → RisesFrom p n
 rises_through None k n first second = tt
 rises_through (Some q) k n first second = omega arith
 
 module _ (settings : Settings) (kept : KeptRevisions) where
-  -- the present number of what is written is below those of the revisions that may follow
+  -- the present number of the written records is below those of the revisions that may follow
   abbrev IsBelow : Option ℕ → Option ℕ → Type 0
   IsBelow old new = MatchOption new ⊤ (λ m. (n : ℕ) → RisesFrom old n → m < written_number settings kept n)
 
-  -- a kept node may follow where one does
+  -- a kept node may follow if a node may follow
   abbrev MayFollow : Bool → Bool → List DumpRecord → Type 0
   MayFollow old new rest = old ≡ true → AnyKept settings rest → new ≡ true
 
@@ -203,7 +203,7 @@ module _ (settings : Settings) (kept : KeptRevisions) where
           later again reads (is_revision_record r || is_node r) h (present_behind p r) q are.2
           (below_dropped r p q are.1 below) (follow_dropped r rest g h dropped are.0 follows)
 
--- the content of what is written
+-- the content of the written records
 
 clean_each : (settings : Settings) (kept : KeptRevisions) (records : List DumpRecord) (text : List ℕ)
     (again : List DumpRecord) → AreReadAgain settings kept records text again
@@ -254,7 +254,7 @@ no_fault before s order clean faults.MergeInfo h = clean.merge h
 no_fault before s order clean faults.MergeSource (value, of, missing) = let bad : true ≡ false = missing.5 in cc
 no_fault before s order clean faults.MergeRange (value, of, foreign) = let bad : false ≡ true = foreign.0 in cc
 
--- the records that are read again have no fault, where everything is kept
+-- the records that are read again have no fault if everything is kept
 pub free_again : (settings : Settings) (records : List DumpRecord) (text : List ℕ) (again : List DumpRecord)
     → AllLawful records → AreFaultFree settings records
     → AreReadAgain settings (kept_revisions settings records) records text again → AreFaultFree keep_all again

@@ -1,8 +1,8 @@
--- The header lines that are written of a record, as lines that are read again.
+-- The header lines that are written for a record, when they are read again.
 use Rattle.dump_filter.proofs.Prelude.{◌≡◌, ℕ, ◌+◌, ◌<◌, ◌^◌, ◌==◌, nat_le, Bool, true, false, not, ◌&&◌, ◌||◌, List, [], ◌∷◌, length, refl, sym, ap, ◌∙◌, arith, bytes_eq, is_none, list_all, list_any, eqb-true, bytes_eq-Decides, spelled_number, version_name, uuid_name, revision_name, path_name, copy_revision_name, copy_path_name, property_length_name, text_length_name, content_length_name, known_names, Header, has_header, count_named, with_header_value, is_block, spelled_spells, header_number, header_length, property_length, text_length, is_one_alone, has_bad_kind, has_bad_version, has_bad_number, has_bad_lengths, is_lawful, deciding, keeps, with_length, with_lengths, equals_itself, first_true, second_true, first_false, second_false, not_so, absurd_bool}
 use Rattle.dump_filter.proofs.again.LineChanges.{IsChange, same_has, both_changes, put_has, put_change, length_change, block_names, IsTold, told_later, told_put, told_length, told_reads, told_put_again, told_length_again}
 
--- a known name stands at most once in a block
+-- a known name occurs at most once in a block
 pub known_once : (name : List ℕ) → list_any (bytes_eq name) known_names ≡ true → (headers : List Header)
     → is_block headers ≡ true → nat_le (count_named name headers) 1 ≡ true
 known_once name known headers block = among known_names known (block_names headers block)
@@ -26,7 +26,7 @@ abbrev pub is_length_name : List ℕ → Bool
 is_length_name name =
     (bytes_eq property_length_name name || bytes_eq text_length_name name) || bytes_eq content_length_name name
 
--- the lengths of this content are told
+-- the lines have the lengths of this content
 pub record AreTold (props text : List ℕ) (headers : List Header) : Type 0 where
   pub props_told : IsTold property_length_name (length props) headers
   pub text_told : IsTold text_length_name (length text) headers
@@ -53,7 +53,7 @@ module _ (props text : List ℕ) (headers : List Header) (small : length props +
   unfolding one two
   content_change = length_change content_length_name (length props + length text) two small (λ no_lf. rw no_lf refl)
 
-  -- new lengths change no line but those of lengths
+  -- new lengths change only lines of lengths
   pub lengths_change : IsChange is_length_name headers (with_lengths props text headers)
   lengths_change =
       both_changes (λ name. bytes_eq property_length_name name || bytes_eq text_length_name name) headers two
@@ -65,7 +65,7 @@ module _ (props text : List ℕ) (headers : List Header) (small : length props +
   text_there : has_header text_length_name one ≡ has_header text_length_name headers
   text_there = same_has (λ name. bytes_eq property_length_name name) headers one props_change text_length_name refl
 
-  -- a text length is neither added nor taken away
+  -- a text length is neither added nor removed
   pub text_stays : has_header text_length_name (with_lengths props text headers) ≡ has_header text_length_name headers
   unfolding two
   text_stays =
@@ -73,7 +73,7 @@ module _ (props text : List ℕ) (headers : List Header) (small : length props +
       (with_lengths props text headers) content_change text_length_name refl
       ∙ put_has text_length_name text_length_name (spelled_number (length text)) one ∙ text_there
 
-  -- no line is added for properties that aren't there
+  -- no line is added for properties if there are none
   pub props_stay : length props ≡ 0 → has_header property_length_name headers ≡ false → has_header property_length_name
       (with_lengths props text headers) ≡ false
   unfolding one two
@@ -83,7 +83,7 @@ module _ (props text : List ℕ) (headers : List Header) (small : length props +
       ∙ same_has (λ name. bytes_eq text_length_name name) one two text_change property_length_name refl
       ∙ rw (none, empty) none
 
-  -- where no text stands without a text length, the new lengths tell the content
+  -- if there is no text without a text length, the new lengths give the content
   pub lengths_told : (has_header text_length_name headers ≡ false → length text ≡ 0)
       → AreTold props text (with_lengths props text headers)
   unfolding one two
@@ -99,7 +99,7 @@ module _ (props text : List ℕ) (headers : List Header) (small : length props +
     content_told = told_length content_length_name (length props + length text) two;
   }
 
--- lengths that are told are those of the content
+-- the lengths that the lines have are those of the content
 pub told_lengths : (props text : List ℕ) (headers : List Header) → length props + length text < 10 ^ 18
     → AreTold props text headers
     → (length props ≡ property_length headers) × (length text ≡ text_length headers)
@@ -108,7 +108,7 @@ told_lengths props text headers small told =
     let t = told_reads text_length_name (length text) headers (omega (arith, small)) told.text_told in
     (sym p.0, sym t.0)
 
--- and are told again as they stand
+-- and they are written unchanged
 pub lengths_again : (props text : List ℕ) (headers : List Header) → is_block headers ≡ true → AreTold props text headers
     → with_lengths props text headers ≡ headers
 lengths_again props text headers block told =
@@ -122,7 +122,7 @@ lengths_again props text headers block told =
     ∙ told_length_again content_length_name (length props + length text) headers
     (known_once content_length_name refl headers block) told.content_told
 
--- a revision or node is no version or UUID record
+-- a revision or node isn't a version or UUID record
 pub no_others : (headers : List Header) → has_bad_kind headers ≡ false
     → (has_header revision_name headers || has_header path_name headers) ≡ true
     → (has_header version_name headers ≡ false) × (has_header uuid_name headers ≡ false)
@@ -136,7 +136,7 @@ no_others headers good either = cases (has_header revision_name headers) refl
         let one = (deciding headers good).node node in
         (one.0, one.1)
 
--- what new lines keep of old ones, so that they break no rule either
+-- what new lines have in common with old ones, so that they break no rule either
 pub record StaysLawful (old new : List Header) : Type 0 where
   pub version : has_header version_name new ≡ has_header version_name old
   pub uuid : has_header uuid_name new ≡ has_header uuid_name old
@@ -148,7 +148,7 @@ pub record StaysLawful (old new : List Header) : Type 0 where
   pub revision_number : (has_header revision_name new && is_none (header_number revision_name new)) ≡ false
   pub copy_number : (has_header copy_revision_name new && is_none (header_number copy_revision_name new)) ≡ false
 
--- a revision or node under new lines
+-- a revision or node with new lines
 module _ (number : ℕ) (old new : List Header) (lawful : is_lawful number old ≡ true)
     (either : (has_header revision_name old || has_header path_name old) ≡ true) (stays : StaysLawful old new) where
   good_kind : has_bad_kind old ≡ false
@@ -208,6 +208,6 @@ module _ (number : ℕ) (old new : List Header) (lawful : is_lawful number old �
         sum true n is = rw (is, equals_itself n) refl
         sum false n is = rw is refl
 
-    -- new lines that tell their lengths break no rule in any place, but that a version record stands first
+    -- new lines that have their lengths break no rule in any place, except that a version record has to be first
     pub lawful_again : (m : ℕ) → (m ≡ 0 → has_header version_name old ≡ true) → is_lawful m new ≡ true
     lawful_again m first = rw (new_kind, new_version m first, new_number, new_lengths) refl

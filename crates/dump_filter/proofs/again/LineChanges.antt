@@ -1,13 +1,13 @@
--- Header lines that change, join or go, seen name by name.
+-- Header lines that are changed, added or removed, seen name by name.
 use Rattle.dump_filter.proofs.Prelude.{◌≡◌, ℕ, ◌+◌, ◌<◌, ◌≤◌, ◌^◌, ◌==◌, nat_lt, nat_le, Bool, true, false, not, ◌&&◌, ◌||◌, filter, find, count_by, Option, None, option_map, List, [], ◌∷◌, ◌++◌, length, refl, sym, ap, ◌∙◌, subst, arith, bytes_eq, Some, is_some, is_none, option_and_then, unwrap_or, if◌then◌else◌, MatchBool, or-false, list_all, option_or, eqb-true, nat_tests, All-filter, sum_by-filter_both, fold-map, find-append, list_all-map, list_any-append, sum_by_push, AllPass-from_list_all, list_all-from_AllPass, any-filter_same, bytes_eq-Decides, number_of, spelled_number, known_names, Header, is_header, has_byte, is_named, has_header, count_named, header_value, with_header_value, is_block, count_cons, has_value, all_more, lawful, lawful_lines, number_of-spelled, spelled_spells, header_number, header_length, with_length, without_copy_headers, is_copy_line, no_number, second_true, first_false, second_false, both_true, absurd_bool, not_so}
 
--- the lines changed only under names that are touched; no line and no name came that a block refuses
+-- the lines changed only at names that are touched; no line or name was added that a block can't have
 pub record IsChange (touches : List ℕ → Bool) (old new : List Header) : Type 0 where
   pub lines : list_all is_header old ≡ true → list_all is_header new ≡ true
   pub once : (name : List ℕ) → nat_le (count_named name old) 1 ≡ true → nat_le (count_named name new) 1 ≡ true
   pub same : (name : List ℕ) → touches name ≡ false → header_value name new ≡ header_value name old
 
--- a name that isn't touched stands there where it stood
+-- a name that isn't touched has a line exactly if it had one
 pub same_has : (touches : List ℕ → Bool) (old new : List Header) → IsChange touches old new → (name : List ℕ)
     → touches name ≡ false
     → has_header name new ≡ has_header name old
@@ -18,20 +18,20 @@ some_lines : (name : List ℕ) (headers : List Header) → has_header name heade
 some_lines name [] has = cc
 some_lines name (h ∷ headers) has = grind arith
 
--- where each element that passes a test passes another one, a list that passes the one passes the other
+-- if each element that passes one test passes another, a list that passes the one passes the other
 pub all_implied : {X : Type 0} (p q : X → Bool) → ((x : X) → p x ≡ true → q x ≡ true) → (xs : List X)
     → list_all p xs ≡ true → list_all q xs ≡ true
 all_implied p q implied xs all =
     list_all-from_AllPass q xs (λ k d within. implied _ (AllPass-from_list_all p xs all k d within))
 
--- each known name stands at most once in a block
+-- each known name occurs at most once in a block
 pub block_names : (headers : List Header) → is_block headers ≡ true
     → list_all (λ name. nat_le (count_named name headers) 1) known_names ≡ true
 block_names headers block =
     second_true (nat_lt 0 (length headers) && list_all is_header headers)
     (list_all (λ name. nat_le (count_named name headers) 1) known_names) block
 
--- a block stays one, if a line is left
+-- a block is still one, if a line remains
 pub block_stays : (touches : List ℕ → Bool) (old new : List Header) → IsChange touches old new → (name : List ℕ)
     → has_header name new ≡ true
     → is_block old ≡ true → is_block new ≡ true
@@ -54,11 +54,11 @@ both_changes touches old mid new others first second = record {
       ∙ first.same name (first_false (touches name) (others name) free);
 }
 
--- lines that stay as they are have changed under no name
+-- lines that are unchanged have changed at no name
 pub no_change : (touches : List ℕ → Bool) (headers : List Header) → IsChange touches headers headers
 no_change touches headers = record { lines = λ all. all; once = λ name few. few; same = λ name free. refl }
 
--- what holds of a line with this name, and of a line with another, holds of each
+-- what is true of a line with this name, and of a line with another one, is true of each line
 pub of_name : (name : List ℕ) (h : Header) (P : Header → Type 0)
     → (is_named name h ≡ true → P (record { name = name; value = h.value })) → (is_named name h ≡ false → P h) → P h
 of_name name h P here other = cases (is_named name h) refl
@@ -68,7 +68,7 @@ of_name name h P here other = cases (is_named name h) refl
         (sym ((bytes_eq-Decides h.name name).0 is)) (here is)
     cases false is = other is
 
--- what holds of lines that get a length in their line, get none, or get a line for it, holds of the lines with it
+-- what is true of lines that get a length in their line, get none, or get a line for it, is true of the lines with it
 pub of_length : (name : List ℕ) (n : ℕ) (headers : List Header) (P : List Header → Type 0)
     → (has_header name headers ≡ true → P (with_header_value name (spelled_number n) headers))
     → (has_header name headers ≡ false → (n == 0) ≡ true → P headers)
@@ -94,7 +94,7 @@ changed_name : (name value : List ℕ) (h : Header) → (changed name value h).n
 changed_name name value h = of_name name h (λ h. (changed name value h).name ≡ h.name)
     (λ is. rw (same_bytes name) refl) (λ is. rw is refl)
 
--- a new value in a line adds no name and takes none away
+-- a new value in a line adds no name and removes none
 pub put_has : (other name value : List ℕ) (headers : List Header)
     → has_header other (with_header_value name value headers) ≡ has_header other headers
 put_has other name value [] = refl
@@ -161,7 +161,7 @@ put_own name value (h ∷ headers) has = by_name (put_own name value headers) (i
     by_name more true is = rw (is, same_bytes name) refl
     by_name more false is = rw (is, is) (more (sym (ap (λ b. b || has_header name headers) is) ∙ has))
 
--- a value that stands there already, under a name that stands at most once, changes nothing
+-- a value that is there already, under a name that occurs at most once, changes nothing
 
 pub put_absent : (name value : List ℕ) (headers : List Header) → has_header name headers ≡ false
     → with_header_value name value headers ≡ headers
@@ -209,7 +209,7 @@ put_same name value (h ∷ headers) few is = by_name (put_same name value header
         let later : header_value name headers ≡ Some value = sym (rw named refl) ∙ is in
         rw named (ap (λ (l : List Header). h ∷ l) (more few_later later))
 
--- lines that join at the end
+-- lines that are added at the end
 
 join_has : (name : List ℕ) (h : Header) (headers : List Header) → has_header name (headers ++ h ∷ []) ≡
     (has_header name headers || is_named name h)
@@ -260,13 +260,13 @@ join_change name value headers none good = record {
         let same = size other ∙ ap (λ b. count_named other headers + (if b then 1 else 0)) is in
         grind (arith, nat_tests)
 
--- lines that go
+-- lines that are removed
 
--- whether the line tells of no copy source
+-- whether the line is no part of a copy source
 abbrev is_other_line : Header → Bool
 is_other_line h = not (is_copy_line h.name)
 
--- what a line of this name is
+-- a line with this name
 copy_like : (name : List ℕ) (b : Bool) → is_copy_line name ≡ b → (h : Header) → is_named name h ≡ true
     → is_other_line h ≡ not b
 copy_like name b is h named = ap not (ap is_copy_line ((bytes_eq-Decides h.name name).0 named) ∙ is)
@@ -299,7 +299,7 @@ go_value name other (h ∷ headers) = by_test (go_value name other headers) (is_
     by_test more true is = rw (is, unlike is) more
     by_test more false is = rw is (ap (λ (o : Option Header). if is_named name h then Some h else o) more)
 
--- to leave out a node's copy lines touches only those
+-- removing a node's copy lines touches only these
 pub go_change : (headers : List Header) → IsChange is_copy_line headers (without_copy_headers headers)
 go_change headers = record {
   lines = go_lines headers;
@@ -307,25 +307,25 @@ go_change headers = record {
   same = λ name other. ap (option_map (λ (h : Header). h.value)) (go_value name other headers);
 }
 
--- where the copy source is left out, no copy line is left
+-- after the copy source is removed, no copy line is left
 pub gone : (name : List ℕ) → is_copy_line name ≡ true → (headers : List Header)
     → has_header name (without_copy_headers headers) ≡ false
 gone name copy headers = any-filter_same (is_named name) is_other_line false (copy_like name true copy) headers
 
 -- lengths
 
--- the line of this name tells the number, or there is none and the number is 0
+-- the line of this name has this number, or there is no line and the number is 0
 abbrev pub IsTold : List ℕ → ℕ → List Header → Type 0
 IsTold name n headers = MatchBool (has_header name headers) (header_value name headers ≡ Some (spelled_number n))
     (n ≡ 0)
 
--- what a line tells it tells still, where only other names were touched
+-- a line still has its number if only other names were touched
 pub told_later : (name : List ℕ) (n : ℕ) (touches : List ℕ → Bool) (old new : List Header) → IsChange touches old new
     → touches name ≡ false → IsTold name n old → IsTold name n new
 told_later name n touches old new change free told =
     rw (same_has touches old new change name free, change.same name free) told
 
--- a number put into its line is told, where without a line it is 0
+-- a number put into its line is the line's number; without a line the number is 0
 pub told_put : (name : List ℕ) (n : ℕ) (headers : List Header) → (has_header name headers ≡ false → n ≡ 0)
     → IsTold name n (with_header_value name (spelled_number n) headers)
 told_put name n headers missing = by_case (has_header name headers) refl
@@ -336,7 +336,7 @@ told_put name n headers missing = by_case (has_header name headers) refl
         (put_own name (spelled_number n) headers is)
     by_case false is = rw (put_has name name (spelled_number n) headers ∙ is) (missing is)
 
--- a length put into its line, or added where there is none, is told
+-- a length put into its line, or added if there is no line, is the line's number
 pub told_length : (name : List ℕ) (n : ℕ) (headers : List Header) → IsTold name n (with_length name n headers)
 told_length name n headers = of_length name n headers (IsTold name n)
     (λ is. told_put name n headers (λ none. absurd (absurd_bool (has_header name headers) is none)))
@@ -357,9 +357,9 @@ length_change name n headers small good = of_length name n headers (IsChange (λ
     (λ none zero. no_change (λ other. bytes_eq name other) headers)
     (λ none some. join_change name (spelled_number n) headers none (good (spelled_line n small)))
 
--- a told number is read, and told again it changes nothing
+-- a number in a line is read, and writing it again changes nothing
 
--- what holds where a line tells the number, and where there is none and the number is 0, holds where it is told
+-- what is true if a line has the number, and if there is no line and the number is 0, is true if the lines have it
 of_told : (name : List ℕ) (n : ℕ) (headers : List Header) (P : Type 0) → IsTold name n headers
     → (has_header name headers ≡ true → header_value name headers ≡ Some (spelled_number n) → P)
     → (has_header name headers ≡ false → n ≡ 0 → P) → P
@@ -370,7 +370,7 @@ of_told name n headers P told there zero = cases (has_header name headers) refl 
     cases true is t = there is t
     cases false is t = zero is t
 
--- a told number is read as that length, and none of its name is unreadable
+-- a number in a line is read as this length, and no line of this name is unreadable
 pub told_reads : (name : List ℕ) (n : ℕ) (headers : List Header) → n < 10 ^ 18 → IsTold name n headers
     → (header_length name headers ≡ n) × ((has_header name headers && is_none (header_number name headers)) ≡ false)
 told_reads name n headers small told = of_told name n headers _ told
@@ -380,14 +380,14 @@ told_reads name n headers small told = of_told name n headers _ told
     (ap (λ o. unwrap_or o 0) number, rw (is, number) refl))
     (λ is t. (ap (λ o. unwrap_or o 0) (sym (no_number name headers is)) ∙ sym t, rw is refl))
 
--- a told number, put into its line again, changes nothing
+-- putting the number of a line into it again changes nothing
 pub told_put_again : (name : List ℕ) (n : ℕ) (headers : List Header) → nat_le (count_named name headers) 1 ≡ true
     → IsTold name n headers
     → with_header_value name (spelled_number n) headers ≡ headers
 told_put_again name n headers few told = of_told name n headers _ told
     (λ is t. put_same name (spelled_number n) headers few t) (λ is t. put_absent name (spelled_number n) headers is)
 
--- a told length, put into its line again, changes nothing
+-- putting the length of a line into it again changes nothing
 pub told_length_again : (name : List ℕ) (n : ℕ) (headers : List Header) → nat_le (count_named name headers) 1 ≡ true
     → IsTold name n headers
     → with_length name n headers ≡ headers

@@ -3,9 +3,9 @@ use Rattle.dump_filter.proofs.Prelude.{◌≡◌, ℕ, zero, suc, ◌+◌, ◌<�
 use Rattle.dump_filter.proofs.again.Order.{RisesFrom, present_behind, AreInOrder, in_order}
 use Rattle.dump_filter.proofs.again.ReadAgain.{AtEach}
 
--- the kept numbers of a list that a record begins
+-- the kept numbers of a list, by its first record
 
--- a kept revision's number stands before the kept numbers of the records behind it
+-- if the first record is a kept revision, its number comes before the kept numbers of the records after it
 pub kept_revision : (settings : Settings) (r : DumpRecord) (rest : List DumpRecord) → is_revision_record r ≡ true
     → keeps_group settings (group_of r rest) ≡ true
     → kept_numbers settings (r ∷ rest) ≡ revision_number r ∷ kept_numbers settings rest
@@ -38,7 +38,7 @@ rise_next settings low r rest rev within up = cases (keeps_group settings (group
     cases false drop = rw (dropped_revision settings r rest rev drop)
         (rise_lower low (revision_number r + 1) (kept_numbers settings rest) (omega arith) up)
 
--- the numbers of records that stand behind the present revision begin here
+-- the numbers of records after the present revision begin here
 abbrev floor : Option ℕ → List DumpRecord → ℕ
 floor None records = first_number (revision_numbers records)
 floor (Some present) records = present + 1
@@ -70,7 +70,7 @@ rise_from settings g p (r ∷ rest) are = cases (is_revision_record r) refl
     cases false other later order =
         rw (floor_later p r rest other, no_revision settings r rest other) (later _ p (rw other at order))
 
--- where no record has a fault, the kept numbers rise from the first revision's on
+-- if no record has a fault, the kept numbers rise from the number of the first revision on
 pub kept_rise : (settings : Settings) (records : List DumpRecord) → AreFaultFree settings records
     → RiseFrom (kept_revisions settings records).first (kept_revisions settings records).numbers
 kept_rise settings records free = rise_from settings false None records (in_order settings records free)
@@ -98,12 +98,12 @@ below_over a b (n ∷ numbers) (suc i, within, is) low =
     let step = below_step a b n (omega arith) in
     omega arith
 
--- of a kept revision and any later one
+-- the new numbers of a kept revision and of any later one
 pub new_number_rises : (kept : KeptRevisions) (a b : ℕ) → Contains kept.numbers a → a < b
     → new_number kept a < new_number kept b
 new_number_rises kept a b has low = let under = below_over a b kept.numbers has low in omega arith
 
--- the revision 0 is always kept, so that each other one has one below it
+-- revision 0 is always kept, so that each other kept one has one below it
 zero_kept : (settings : Settings) (records : List DumpRecord) → first_number (revision_numbers records) ≡ 0 → (k : ℕ)
     → Contains (kept_numbers settings records) k → 1 ≤ k
     → 1 ≤ below k (kept_numbers settings records)
@@ -128,7 +128,7 @@ zero_kept settings (r ∷ rest) first k has some = cases (is_revision_record r) 
         let in_rest = rw (no_revision settings r rest other) at has in
         rw (no_revision settings r rest other) (later is in_rest)
 
--- a kept revision above 0 is given a new number above 0
+-- a kept revision above 0 gets a new number above 0
 pub positive : (settings : Settings) (records : List DumpRecord) (k : ℕ)
     → Contains (kept_revisions settings records).numbers k → 1 ≤ k
     → 1 ≤ new_number (kept_revisions settings records) k
@@ -163,7 +163,7 @@ above_each first before g p (r ∷ rest) low are = (
     cases false other later order =
         later _ p (subst (λ n. first ≤ n) (floor_later p r rest other) low) (rw other at order)
 
--- where no record has a fault, no revision's number is below the first one
+-- if no record has a fault, no revision's number is below that of the first one
 pub revisions_above : (settings : Settings) (records : List DumpRecord) → AreFaultFree settings records
     → AtEach (λ before r after. is_revision_record r ≡ true
     → (kept_revisions settings records).first ≤ revision_number r) [] records

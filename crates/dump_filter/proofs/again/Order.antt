@@ -8,11 +8,11 @@ use Rattle.dump_filter.proofs.groups.NumberLemmas.{numbers_more}
 abbrev pub RisesFrom : Option ℕ → ℕ → Type 0
 RisesFrom present number = MatchOption present ⊤ (λ q. q < number)
 
--- the present revision behind a record
+-- the present revision after a record
 abbrev pub present_behind : Option ℕ → DumpRecord → Option ℕ
 present_behind present r = if is_revision_record r then Some (revision_number r) else present
 
--- the records are in order, where a node may follow or not, behind the present revision
+-- the records are in order; a node may come first or not, and numbers rise from the present revision on
 abbrev pub AreInOrder : Bool → Option ℕ → List DumpRecord → Type 0
 AreInOrder open_group present [] = Unit {0}
 AreInOrder open_group present (r ∷ rest) = (is_node r ≡ true → open_group ≡ true)
@@ -34,7 +34,7 @@ ends_more : (before : List DumpRecord) (r : DumpRecord) → ends_in_group (last_
     (is_revision_record r || is_node r)
 ends_more before r = ap ends_in_group (last_or_pushed None before r)
 
--- records behind others are in order
+-- records after others are in order
 abbrev AreInOrderBehind : List DumpRecord → List DumpRecord → Type 0
 AreInOrderBehind before rest = AreInOrder (ends_in_group (last_or None before)) (present_revision before) rest
 
@@ -81,7 +81,7 @@ pub in_order : (settings : Settings) (records : List DumpRecord) → AreFaultFre
     → AreInOrder false None records
 in_order settings records free = order_behind settings [] records free
 
--- and back
+-- and the other way around
 
 fits_order : (before : List DumpRecord) (r : DumpRecord)
     → (is_node r ≡ true → ends_in_group (last_or None before) ≡ true)
@@ -106,7 +106,7 @@ order_split before (x ∷ mid) after r are =
     subst (λ (l : List DumpRecord). ¬ IsOutOfOrder l r) (append_assoc before (x ∷ []) mid)
     (order_split (before ++ x ∷ []) mid after r (transport (sym (order_moves before x (mid ++ r ∷ after))) are.2))
 
--- no record of a list in order is out of order behind those before it
+-- no record of a list in order is out of order after those before it
 pub order_fits : (records : List DumpRecord) → AreInOrder false None records → (before after : List DumpRecord)
     (r : DumpRecord)
     → records ≡ before ++ r ∷ after → ¬ IsOutOfOrder before r

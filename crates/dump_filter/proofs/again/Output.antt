@@ -1,4 +1,4 @@
--- What is written of a record is read again as a record, of which the same is written.
+-- What is written for a record is read again as a record, for which the same is written.
 use Rattle.dump_filter.proofs.Prelude.{◌≡◌, ℕ, ◌+◌, ◌<◌, ◌≤◌, ◌^◌, Bool, true, false, ◌&&◌, ◌||◌, List, [], ◌∷◌, ◌++◌, length, refl, sym, ap, ◌∙◌, subst, arith, inl, codes, bytes_eq, Option, Some, None, is_some, is_none, option_and_then, All, Contains, MatchBool, take_while, unwrap_or, if◌then◌else◌, append_assoc, nil_from_length, take_while-cons, All-nil, All-cons, All-contains, number_of, spelled_number, version_name, revision_name, copy_revision_name, copy_path_name, property_length_name, md5_name, sha1_name, text_delta_name, Header, has_header, header_value, with_header_value, is_block, block_text, line_feeds, Property, has_deletes, has_value, number_of-spelled, header_number, property_length, text_length, has_bad_kind, has_bad_lengths, DumpRecord, record_text, is_lawful, BeginsWithRecord, Keeps, keeps, Settings, HasMergeLines, KeptRevisions, image, RiseFrom, IsNewMergeinfo, image_fits, number_small, is_revision_record, is_node, is_kept_node, is_mergeinfo, mergeinfo_name, value_of, has_whole_text, has_lost_source, HasPropertyList, is_copy, HasBadMd5, HasBadSha1, HasBadMergeinfo, DiffersFromDigest, property_list_once, keep_all, group_of, is_padded, revision_number, IsNewProperty, AreNewProperties, is_date, padding_properties, revision_properties, new_block, written_number, is_whole_file, becomes_plain, without_copy_headers, IsWrittenCopyNumber, IsNewCopy, is_copy_line, whole_text, revision_text, IsRevisionOutput, IsNodeOutput, IsWrittenBlock, first_true, second_true, first_false, second_false, not_so, absurd_bool, false_true, no_number}
 use Rattle.std.proofs.Common.{append-nil}
 use Rattle.dump_filter.proofs.written.CopyLemmas.{AreCopyLines}
@@ -9,7 +9,7 @@ use Rattle.dump_filter.proofs.again.Headers.{is_length_name, known_once, StaysLa
 use Rattle.dump_filter.proofs.again.Record.{any_number, no_content, stays_same, stays_plain, AreNewLines, numbered_lines, IsRewritten, again, others, lengths_fit, new_stays, new_is_block, new_lawful, new_version_line, reads_list, same_text}
 use Rattle.dump_filter.proofs.again.ReadAgain.{BeginsAgain, StandsAgain}
 
--- where everything is kept
+-- if everything is kept
 
 never_padded : (s : DumpRecord) (after : List DumpRecord) → is_padded keep_all (group_of s after) ≡ false
 never_padded s [] = refl
@@ -31,7 +31,7 @@ never_padded s (a ∷ after) = by_node (is_node a) refl
         ap of_nodes (cut true is) ∙ some
     by_node false is = ap of_nodes (cut false is)
 
--- a choice whose first or second side is so
+-- a choice, if one of its two sides is true
 first_side : (b : Bool) (A B : Type 0) → b ≡ true → A → MatchBool b A B
 first_side true A B is a = a
 first_side false A B is a = absurd (false_true is)
@@ -40,7 +40,7 @@ second_side : (b : Bool) (A B : Type 0) → b ≡ false → B → MatchBool b A 
 second_side true A B is b = absurd (false_true (sym is))
 second_side false A B is b = b
 
--- a number that a header tells is below 10 ^ 18
+-- a number in a header is less than 10 ^ 18
 pub header_small : (name : List ℕ) (headers : List Header) (n : ℕ) → header_number name headers ≡ Some n → n < 10 ^ 18
 header_small name headers n is = by_value (header_value name headers) is
   where
@@ -52,7 +52,7 @@ same_there : (name : List ℕ) (old new : List Header) → header_value name new
     → has_header name new ≡ has_header name old
 same_there name old new same = sym (has_value name new) ∙ ap is_some same ∙ has_value name old
 
--- the text of a record whose lines break no rule and tell its lengths, with LFs behind it, begins with that record
+-- the text of a record whose lines break no rule and give its lengths, with LFs after it, begins with that record
 begins_again : (r s : DumpRecord) (feeds : ℕ) {front : List ℕ} → front ≡ record_text s ++ line_feeds feeds
     → is_block s.headers ≡ true
     → ((number : ℕ) → (number ≡ 0 → has_header version_name r.headers ≡ true) → is_lawful number s.headers ≡ true)
@@ -109,17 +109,17 @@ other_again settings kept {number} {text} {behind} {r} after front b no_revision
     no_kept : is_kept_node keep_all r ≡ true → ⊥
     no_kept is_kept = absurd_bool (is_node r) (first_true (is_node r) _ is_kept) no_node
 
--- no bytes are no properties
+-- an empty property block has no properties
 no_list : (r : DumpRecord) → r.props ≡ [] → HasPropertyList r []
 no_list r empty = (inl (empty, refl), λ deletes. absurd (false_true deletes))
 
--- where no property length stands no properties do
+-- if there is no property length, there are no properties
 no_props : {number : ℕ} {text behind : List ℕ} {r : DumpRecord} → BeginsWithRecord number text r behind
     → has_header property_length_name r.headers ≡ false → r.props ≡ []
 no_props {number} {text} {behind} {r} b missing =
     nil_from_length r.props (b.props_fit ∙ no_length property_length_name r.headers missing)
 
--- a property that passes such a test isn't deleted
+-- a property that passes the test isn't deleted
 set_value : (b : Bool) (value : Option (List ℕ)) → (b && is_some value) ≡ true → is_none value ≡ false
 set_value b (Some bytes) is = refl
 set_value true None is = cc
@@ -135,7 +135,7 @@ padding_keeps (p ∷ ps) = by_date (padding_keeps ps) (is_date p) refl
     by_date more true is = let set = set_value (bytes_eq p.name (codes "svn:date")) p.value is in rw is (rw set refl)
     by_date more false is = rw is more
 
--- what is written of a revision's properties deletes one only where one of them was deleted
+-- what is written for a revision's properties deletes one only if one of them was deleted
 padding_deletes : (padded : Bool) (ps : List Property) → has_deletes (revision_properties padded ps) ≡ true
     → has_deletes ps ≡ true
 padding_deletes true ps deletes = absurd (absurd_bool (has_deletes (padding_properties ps)) deletes (padding_keeps ps))
@@ -228,7 +228,7 @@ revision_again settings kept {number} {text} {behind} {r} after front b rev no_n
         ∙ ap (λ t. t ++ codes "\n") (same_text w
         (with_header_value revision_name (spelled_number (revision_number it)) it.headers) same_number))
 
--- the lines of a copy tell a number as its source's revision
+-- the lines of a copy have a number for its source's revision
 abbrev IsCopyTold : List Header → Type 0
 IsCopyTold headers = has_header copy_path_name headers ≡ true
     → (n : ℕ) × (n < 10 ^ 18) × (has_header copy_revision_name headers ≡ true) × IsTold copy_revision_name n headers
@@ -250,7 +250,7 @@ number_there name headers n is = by_case (has_header name headers) refl
     by_case true there = there
     by_case false none = let bad : None ≡ Some n = no_number name headers none ∙ is in cc
 
--- a copy's written number isn't above its own
+-- the number that is written for a copy source isn't above the old one
 number_fits : (settings : Settings) (kept : KeptRevisions) (r : DumpRecord) → RiseFrom kept.first kept.numbers
     → (old n : ℕ) → header_number copy_revision_name r.headers ≡ Some old → IsWrittenCopyNumber settings kept old n
     → n < 10 ^ 18
@@ -333,16 +333,16 @@ node_lines settings kept r mid rise own copy = by_plain (becomes_plain settings 
     by_plain true lines = subst (IsNodeLines r.headers) (sym lines) plain
     by_plain false is = by_copy (is_copy r) refl is
 
--- each new value of mergeinfo is mergeinfo, and its own new value where everything is kept
+-- each new value of mergeinfo is mergeinfo, and its own new value if everything is kept
 abbrev pub OwnValues : Settings → KeptRevisions → Type 0
 OwnValues settings kept = (old new : List ℕ) → IsNewMergeinfo settings kept old new
     → HasMergeLines new × ((again : KeptRevisions) → IsNewMergeinfo keep_all again new new)
 
--- the property is mergeinfo only with a value that is
+-- the property is mergeinfo only if its value is
 abbrev IsReadable : Property → Type 0
 IsReadable p = is_mergeinfo p ≡ true → HasMergeLines (value_of p)
 
--- the properties of a kept node, and what is written of them
+-- the properties of a kept node, and what is written for them
 module _ (settings : Settings) (kept : KeptRevisions) where
   own_property : OwnValues settings kept → (p q : Property) → IsNewProperty settings kept p q
       → IsReadable q × ((again : KeptRevisions) → IsNewProperty keep_all again q q)
@@ -367,7 +367,7 @@ module _ (settings : Settings) (kept : KeptRevisions) where
           let still = kind (ap is_some same) ∙ is in
           ((λ merge. absurd (absurd_bool (is_mergeinfo q) merge still)), (λ again. (refl, rw still refl)))
 
-  -- a deleted property stays one, and no other becomes one
+  -- a deleted property remains deleted, and no other becomes deleted
   same_deleted : (p q : Property) → IsNewProperty settings kept p q → is_none q.value ≡ is_none p.value
   same_deleted p q (name, value) = by_case (is_mergeinfo p) refl value
     where
@@ -376,7 +376,7 @@ module _ (settings : Settings) (kept : KeptRevisions) where
       by_case true is (bytes, set, new) = ap is_none set ∙ sym (set_value (bytes_eq p.name mergeinfo_name) p.value is)
       by_case false is same = ap is_none same
 
-  -- what is written of properties deletes one where one was deleted
+  -- what is written for properties deletes one if one was deleted
   same_deletes : (ps qs : List Property) → AreNewProperties settings kept ps qs → has_deletes qs ≡ has_deletes ps
   same_deletes [] [] all = refl
   same_deletes [] (q ∷ qs) all = absurd all
@@ -405,7 +405,7 @@ never_plain s = never (is_copy s) _
     never true w = refl
     never false w = refl
 
--- the lines of a copy stay as they stand
+-- the lines of a copy are unchanged
 stays_copy : (again : KeptRevisions) (s : DumpRecord) → is_block s.headers ≡ true → IsCopyTold s.headers
     → IsNewCopy keep_all again s s.headers
 stays_copy again s block copied = rw (never_plain s) (by_copy (is_copy s) refl)

@@ -1,4 +1,4 @@
--- What is written of a clean dump is a clean dump, which stays as it stands where everything is kept.
+-- What is written for a dump without a fault is such a dump, and is unchanged if everything is kept.
 use Rattle.dump_filter.proofs.Prelude.{◌≡◌, ℕ, ◌+◌, ◌<◌, ◌≤◌, ◌^◌, Bool, true, false, ◌&&◌, ◌||◌, not, MatchBool, List, [], ◌∷◌, ◌++◌, length, refl, subst, arith, Option, Some, None, unwrap_or, if◌then◌else◌, revision_name, block_text, Ending, IsCutInto, HasRecords, header_number, DumpRecord, record_text, BeginsWithRecord, Settings, KeptRevisions, new_number, RiseFrom, own_value, new_number_fits, is_revision_record, is_node, is_kept_node, has_lost_source, LengthsFit, keep_all, KeepsItsOwnText, group_of, has_kept_node, keeps_group, revision_number, kept_revisions, is_whole_file, IsRevisionOutput, IsNodeOutput, IsCleanText, is_open, absurd_bool, not_so}
 use Rattle.dump_filter.proofs.knowing.Answered.{AllLawful, all_lawful}
 use Rattle.dump_filter.proofs.groups.KindLemmas.{alone}
@@ -9,13 +9,13 @@ use Rattle.dump_filter.proofs.again.RecordList.{at_each, versions_again, HasAgai
 use Rattle.dump_filter.proofs.again.Free.{free_again}
 use Rattle.dump_text.specs.declared.fault.FaultKind.TheVariants as faults
 
--- of one record of the list
+-- about one record of the list
 at_split : (Q : DumpRecord → List DumpRecord → Type 0) (done before after : List DumpRecord) (r : DumpRecord)
     → AtEach (λ b x a. Q x a) done (before ++ r ∷ after) → Q r after
 at_split Q done [] after r each = each.0
 at_split Q done (x ∷ before) after r each = at_split Q (done ++ x ∷ []) before after r each.1
 
--- where it stands in its dump
+-- its place in its dump
 abbrev Stands : DumpRecord → Type 0
 Stands r = (number : ℕ) × (front behind : List ℕ) × BeginsWithRecord number front r behind
 
@@ -130,6 +130,7 @@ module _ (settings : Settings) (dump text : List ℕ) (records : List DumpRecord
         },
       )
 
--- what the filter writes of a clean dump is a clean dump, which it leaves as it is where it keeps everything
+-- what the filter writes for a dump without a fault is such a dump, which the filter leaves unchanged if it keeps
+-- everything
 pub keeps_its_own_text : KeepsItsOwnText
 keeps_its_own_text settings dump text records clean fit = whole_again settings dump text records clean fit

@@ -1,14 +1,14 @@
--- What is written of a record, as the record that it is when it is read again.
+-- The record that is read again from what is written for a record.
 use Rattle.dump_filter.proofs.Prelude.{◌≡◌, ℕ, ◌+◌, ◌<◌, ◌^◌, Bool, true, false, List, [], ◌∷◌, ◌++◌, length, Some, MatchBool, version_name, copy_revision_name, Header, has_header, Property, line_feeds, header_number, version_from, DumpRecord, Settings, KeptRevisions, is_revision_record, is_node, has_lost_source, HasPropertyList, HasBadProperties, HasBadMd5, HasBadSha1, HasBadMergeinfo, keep_all, group_of, is_padded, revision_number, with_lengths, written_number, is_whole_file, IsWrittenCopyNumber, IsNewCopy, revision_properties, AreNewProperties, new_block, IsOutput, is_written, BeginsWithRecord}
 
--- a record's content has no fault where everything is kept
+-- the content of a record has no fault if everything is kept
 pub record IsClean (r : DumpRecord) : Type 0 where
   pub props : ¬ HasBadProperties keep_all r
   pub md5 : ¬ HasBadMd5 keep_all r
   pub sha1 : ¬ HasBadSha1 keep_all r
   pub merge : ¬ HasBadMergeinfo keep_all r
 
--- what is written of a kept node r is this node s: its lines with its new copy source and its new lengths, its new
+-- what is written for a kept node r is this node s: its lines with its new copy source and its new lengths, its new
 -- properties, and its own text; a node that loses its copy source is a whole file
 pub record IsNodeAgain (settings : Settings) (kept : KeptRevisions) (r s : DumpRecord) : Type 0 where
   pub mid : List Header
@@ -25,15 +25,15 @@ pub record IsNodeAgain (settings : Settings) (kept : KeptRevisions) (r s : DumpR
   pub number_fits : (number n : ℕ) → header_number copy_revision_name r.headers ≡ Some number
       → IsWrittenCopyNumber settings kept number n → n < 10 ^ 18
 
--- a text that goes on behind the front begins with this record s, and some LFs; as the first of a dump s is lawful where
--- r is a version record
+-- a text that goes on after the front begins with this record s and some LFs; as the first record of a dump, s breaks
+-- no rule if r is a version record
 abbrev pub BeginsAgain : DumpRecord → List ℕ → DumpRecord → Type 0
 BeginsAgain r front s = (feeds : ℕ) × ((number : ℕ) (text behind : List ℕ) → text ≡ front ++ behind
     → (number ≡ 0 → has_header version_name r.headers ≡ true)
     → BeginsWithRecord number text s (line_feeds feeds ++ behind))
 
--- what is written of a record r, which these records follow, is this record s; where everything is kept it stays as it
--- stands. The version in force for it is that for r
+-- what is written for a record r, which these records follow, is this record s; if everything is kept, s is written
+-- unchanged; the version in force for s is that for r
 pub record IsReadAgain (settings : Settings) (kept : KeptRevisions) (r : DumpRecord) (after : List DumpRecord)
     (front : List ℕ) (s : DumpRecord) : Type 0 where
   pub begins : BeginsAgain r front s
@@ -48,12 +48,12 @@ pub record IsReadAgain (settings : Settings) (kept : KeptRevisions) (r : DumpRec
   pub clean : IsClean s
   pub output : (again : KeptRevisions) (after : List DumpRecord) → IsOutput keep_all again s after front
 
--- wherever what is written of the record comes to stand, it is a record again
+-- wherever the text that is written for the record is in the new dump, it is a record again
 abbrev pub StandsAgain : Settings → KeptRevisions → DumpRecord → List DumpRecord → List ℕ → Type 0
 StandsAgain settings kept r after front =
     (place : ℕ) → (s : DumpRecord) × (s.place ≡ place) × IsReadAgain settings kept r after front s
 
--- what is written of a record is the first of the records again, before these others, if it is written
+-- what is written for a record is the first of the records that are read again, before these others, if it is written
 abbrev pub IsFirstAgain : Settings → KeptRevisions → DumpRecord → List DumpRecord → List ℕ
     → (List DumpRecord → Type 0) → List DumpRecord → Bool → Type 0
 IsFirstAgain settings kept r after front AreOthers again written =
@@ -62,14 +62,14 @@ IsFirstAgain settings kept r after front AreOthers again written =
     × AreOthers more)
     ((front ≡ []) × AreOthers again)
 
--- what is written of the records, in order, is the text, and these records again
+-- what is written for the records, in order, is the text and these records that are read again
 abbrev pub AreReadAgain : Settings → KeptRevisions → List DumpRecord → List ℕ → List DumpRecord → Type 0
 AreReadAgain settings kept [] text again = (text ≡ []) × (again ≡ [])
 AreReadAgain settings kept (r ∷ after) text again = (front rest : List ℕ) × (text ≡ front ++ rest)
     × IsFirstAgain settings kept r after front (AreReadAgain settings kept after rest) again
     (is_written settings true r after)
 
--- of each record, with those before it and behind it, this is so
+-- this is true of each record, with those before it and after it
 abbrev pub AtEach : (List DumpRecord → DumpRecord → List DumpRecord → Type 0) → List DumpRecord → List DumpRecord
     → Type 0
 AtEach P before [] = Unit {0}

@@ -1,4 +1,4 @@
--- What is written of a record is a record again.
+-- What is written for a record is a record again.
 use Rattle.dump_filter.proofs.Prelude.{◌≡◌, ℕ, ◌+◌, ◌<◌, ◌^◌, ◌==◌, Bool, true, false, not, ◌&&◌, ◌||◌, List, [], ◌++◌, length, refl, sym, ap, ◌∙◌, subst, arith, inl, Some, is_none, bytes_eq, length-append, flat_map, MatchBool, if◌then◌else◌, and-false, eqb-true, bytes_eq-Decides, spelled_number, version_name, uuid_name, revision_name, path_name, copy_revision_name, copy_path_name, property_length_name, text_length_name, content_length_name, Header, has_header, header_value, with_header_value, is_block, block_text, Property, IsPropertyBlock, has_deletes, block_end, entry_text, property_block_text, short_block, header_number, version_from, property_length, text_length, has_bad_kind, has_bad_version, has_bad_number, has_bad_lengths, DumpRecord, is_lawful, BeginsWithRecord, deciding, Keeps, keeps, takes_deletes, HasPropertyList, new_block, with_lengths, without_copy_headers, is_copy_line, whole_text, first_false, second_false, not_so, absurd_bool}
 use Rattle.dump_filter.proofs.written.HeaderLemmas.{no_length}
 use Rattle.dump_filter.proofs.again.LineChanges.{IsChange, spelled_line, same_has, block_stays, both_changes, put_has, put_change, go_change, gone, IsTold, told_put, told_reads}
@@ -6,7 +6,8 @@ use Rattle.dump_filter.proofs.again.Headers.{is_length_name, AreTold, lengths_ch
 
 -- version and UUID records
 
--- lines that break no rule in one place of a dump break none in another, but that a version record stands first
+-- lines that break no rule in one place of a dump break none in another one, except that a version record has to be
+-- first
 pub any_number : (number m : ℕ) (headers : List Header) → is_lawful number headers ≡ true
     → (m ≡ 0 → has_header version_name headers ≡ true) → is_lawful m headers ≡ true
 any_number number m headers lawful first =
@@ -47,7 +48,7 @@ module _ (headers : List Header) (good : has_bad_kind headers ≡ false) (fine :
       when_true true b is none = none
       when_true false b is none = cc
 
-  -- such a record's lengths of properties and text are 0
+  -- for such a record, the lengths of properties and text are 0
   pub no_content : (property_length headers ≡ 0) × (text_length headers ≡ 0)
   no_content = (
     no_length property_length_name headers (first_false _ _ no_lengths),
@@ -55,9 +56,9 @@ module _ (headers : List Header) (good : has_bad_kind headers ≡ false) (fine :
         (first_false _ _ (second_false _ _ no_lengths)),
   )
 
--- what the new lines of a revision or node keep
+-- what the new lines of a revision or node have in common with the old ones
 
--- lawful lines that don't change keep what they need to break no rule
+-- if lines that break no rule are unchanged, they have all that they need to break none
 pub stays_same : (number : ℕ) (headers : List Header) → is_lawful number headers ≡ true → StaysLawful headers headers
 stays_same number headers lawful =
     let k = keeps number headers lawful in
@@ -73,7 +74,7 @@ stays_same number headers lawful =
       copy_number = first_false _ _ (second_false _ _ numbers);
     }
 
--- lines under a new number keep what they need to break no rule
+-- with a new number, they still have what they need to break no rule
 pub stays_number : (name : List ℕ) (old : List Header) (n : ℕ) → n < 10 ^ 18 → has_header name old ≡ true
     → StaysLawful old old → StaysLawful old (with_header_value name (spelled_number n) old)
 stays_number name old n small has stays = record {
@@ -104,7 +105,7 @@ stays_number name old n small has stays = record {
     reads other read false apart =
         rw (there other, (put_change name (spelled_number n) old (spelled_line n small)).same other apart) read
 
--- lines without their copy source keep what they need to break no rule
+-- without their copy source, they still have what they need to break no rule
 pub stays_plain : (old : List Header) → StaysLawful old old → StaysLawful old (without_copy_headers old)
 stays_plain old stays =
     let change = go_change old in
@@ -137,14 +138,14 @@ stays_lengths old mid props text small stays =
       copy_number = rw (has copy_revision_name refl, change.same copy_revision_name refl) stays.copy_number;
     }
 
--- what becomes of a revision's or a node's lines before their lengths are written
+-- a revision's or a node's lines before their lengths are written
 pub record AreNewLines (old new : List Header) : Type 0 where
   pub touches : List ℕ → Bool
   pub change : IsChange touches old new
   pub stays : StaysLawful old new
   pub props_there : has_header property_length_name new ≡ has_header property_length_name old
 
--- lines under a new number, as the new lines of a record
+-- lines with a new number, as the new lines of a record
 abbrev pub numbered_lines : (name : List ℕ) (old : List Header) (n : ℕ) → n < 10 ^ 18 → has_header name old ≡ true
     → StaysLawful old old → AreNewLines old (with_header_value name (spelled_number n) old)
 numbered_lines name old n small has stays = record {
@@ -154,7 +155,7 @@ numbered_lines name old n small has stays = record {
   props_there = put_has property_length_name name (spelled_number n) old;
 }
 
--- a revision or node r under these lines and with these properties, as it is written
+-- a revision or node r with these lines and properties, as it is written
 pub record IsRewritten {number : ℕ} {text behind : List ℕ} {r : DumpRecord} (b : BeginsWithRecord number text r behind)
     (mid : List Header) (padded : Bool) (new : List Property) : Type 0 where
   pub either : (has_header revision_name r.headers || has_header path_name r.headers) ≡ true
@@ -162,7 +163,7 @@ pub record IsRewritten {number : ℕ} {text behind : List ℕ} {r : DumpRecord} 
   pub small : length (new_block padded r new) + length r.text < 10 ^ 18
   pub none : (padded || has_header property_length_name r.headers) ≡ false → new ≡ []
 
--- the record that is written: under the new lines, with the lengths of its new properties
+-- the record that is written: with the new lines, and the lengths of its new properties
 module _ {number : ℕ} {text behind : List ℕ} {r : DumpRecord} {b : BeginsWithRecord number text r behind}
     {mid : List Header} {padded : Bool} {new : List Property} (w : IsRewritten b mid padded new) where
   abbrev props : List ℕ
@@ -175,7 +176,7 @@ module _ {number : ℕ} {text behind : List ℕ} {r : DumpRecord} {b : BeginsWit
   abbrev pub again : ℕ → DumpRecord
   again place = record { place = place; version = r.version; headers = lines; props = props; text = r.text }
 
-  -- no line but those of lengths differs from the lines before
+  -- only lines of lengths differ from the lines before
   pub others : IsChange is_length_name mid lines
   others = lengths_change props r.text mid w.small
 
@@ -185,11 +186,11 @@ module _ {number : ℕ} {text behind : List ℕ} {r : DumpRecord} {b : BeginsWit
   told : AreTold props r.text lines
   told = lengths_told props r.text mid w.small no_text
 
-  -- the new lines tell the lengths of the properties and of the text
+  -- the new lines give the lengths of the properties and of the text
   pub lengths_fit : (length props ≡ property_length lines) × (length r.text ≡ text_length lines)
   lengths_fit = told_lengths props r.text lines w.small told
 
-  -- the new lines keep what they need of the old ones to break no rule
+  -- the new lines still have what they need from the old ones to break no rule
   pub new_stays : StaysLawful r.headers lines
   new_stays = stays_lengths r.headers mid props r.text w.small w.mid_lines.stays
 
@@ -208,7 +209,7 @@ module _ {number : ℕ} {text behind : List ℕ} {r : DumpRecord} {b : BeginsWit
       by_revision false is = stay path_name (new_stays.node ∙ sym (ap (λ b. b || has_header path_name r.headers) is)
           ∙ w.either)
 
-  -- the new lines break no rule in any place of a dump, but that a version record stands first
+  -- the new lines break no rule in any place of a dump, except that a version record has to be first
   pub new_lawful : (m : ℕ) → (m ≡ 0 → has_header version_name r.headers ≡ true) → is_lawful m lines ≡ true
   new_lawful = lawful_again number r.headers lines b.lawful w.either new_stays props r.text w.small told
 
@@ -218,7 +219,7 @@ module _ {number : ℕ} {text behind : List ℕ} {r : DumpRecord} {b : BeginsWit
       let good = not_so (has_bad_kind r.headers) (keeps number r.headers b.lawful).kind in
       rw (new_stays.version, (no_others r.headers good w.either).0) refl
 
-  -- the block of the new properties is one that is read again, and it stays as it stands
+  -- the block of the new properties is one that is read again, and it stays unchanged
   reads : IsPropertyBlock props new
   reads = by_block (padded || has_header property_length_name r.headers) refl w.small
     where
@@ -229,7 +230,7 @@ module _ {number : ℕ} {text behind : List ℕ} {r : DumpRecord} {b : BeginsWit
       by_block true is few = rw is (short_block new (omega (arith, few)))
       by_block false is few = rw is (inl (refl, w.none is))
 
-  -- the new properties are those of the record, if deleted ones may stand among them
+  -- the new properties are those of the record, if it may delete properties
   pub reads_list : (has_deletes new ≡ true → takes_deletes r ≡ true) → (place : ℕ) → HasPropertyList (again place) new
   reads_list may place = (reads, λ deletes. ap (λ node. node && r.version == 3) new_stays.node ∙ may deletes)
 
@@ -263,7 +264,7 @@ module _ {number : ℕ} {text behind : List ℕ} {r : DumpRecord} {b : BeginsWit
   same_lines : with_lengths props r.text lines ≡ lines
   same_lines = lengths_again props r.text lines new_is_block told
 
-  -- whatever lines are the same, what is written is the same
+  -- if the lines are the same, what is written is the same
   pub same_text : (headers : List Header) → headers ≡ lines
       → whole_text headers (new_block false (again 0) new) r.text ≡ whole_text mid props r.text
   same_text headers same =

@@ -1,11 +1,11 @@
--- What is written of a list of records, read again.
+-- What is written for a list of records, when it is read again.
 use Rattle.dump_filter.proofs.Prelude.{◌≡◌, ℕ, ◌+◌, ◌<◌, ◌==◌, Bool, true, false, ◌||◌, MatchBool, List, [], ◌∷◌, ◌++◌, length, refl, sym, ap, ◌∙◌, subst, arith, append_assoc, or_right, version_name, has_header, line_feeds, IsCutInto, HaveVersions, DumpRecord, record_text, is_lawful, version_from, kind_of, RecordKind, keeps, Settings, keeps_path, KeptRevisions, is_revision_record, is_node, keep_all, Group, group_of, group_number, has_kept_node, keeps_group, IsOutput, is_written, AreOutputs, absurd_bool, both_true, not_so}
 use Rattle.dump_records.specs.declared.kind.RecordKind.TheVariants as kinds
 use Rattle.dump_filter.proofs.groups.KindLemmas.{IsOfKind, of_kind}
 use Rattle.dump_filter.proofs.knowing.Answered.{AllLawful}
 use Rattle.dump_filter.proofs.again.ReadAgain.{StandsAgain, IsFirstAgain, AreReadAgain, AtEach}
 
--- of each record
+-- about each record
 
 at_each_behind : (P : List DumpRecord → DumpRecord → List DumpRecord → Type 0) (done rest : List DumpRecord)
     → ((before after : List DumpRecord) (r : DumpRecord) → done ++ rest ≡ before ++ r ∷ after → P before r after)
@@ -17,7 +17,7 @@ at_each_behind P done (r ∷ rest) holds = (
       (sym (append_assoc done (r ∷ []) rest) ∙ is)),
 )
 
--- what holds of each record where it stands holds at each of the list
+-- what holds of each record at its place holds of each in the list
 pub at_each : (P : List DumpRecord → DumpRecord → List DumpRecord → Type 0) (records : List DumpRecord)
     → ((before after : List DumpRecord) (r : DumpRecord) → records ≡ before ++ r ∷ after → P before r after)
     → AtEach P [] records
@@ -60,7 +60,7 @@ dropped_version settings number before r after lawful dropped =
     (λ has. absurd_bool (is_written settings true r after) (written has) dropped) in
     rw none refl
 
--- the records that are read again have the versions in force
+-- the versions in force are the same for the records that are read again
 pub versions_again : (settings : Settings) (kept : KeptRevisions) (before : ℕ) (records : List DumpRecord)
     (text : List ℕ) (again : List DumpRecord) → AllLawful records → HaveVersions before records
     → AreReadAgain settings kept records text again → HaveVersions before again
@@ -85,13 +85,13 @@ versions_again settings kept before (r ∷ rest) text again lawful (version, hav
 
 -- the records that are written, with the LFs between them
 
--- what is written of a record, if it is written, is a record again, wherever it comes to stand
+-- what is written for a record, if it is written, is a record again, wherever it is in the new dump
 abbrev pub HasAgain : Settings → KeptRevisions → DumpRecord → List DumpRecord → Type 0
 HasAgain settings kept r after = (front : List ℕ) → is_written settings true r after ≡ true
     → IsOutput settings kept r after front → StandsAgain settings kept r after front
 
 module _ (settings : Settings) (kept : KeptRevisions) where
-  -- the text, with LFs before it, is cut into what is written of the records
+  -- the text, with LFs before it, is cut into what is written for the records
   abbrev IsAgain : ℕ → ℕ → ℕ → List DumpRecord → List ℕ → Type 0
   IsAgain number place pending records text =
       (again : List DumpRecord) × IsCutInto number place (line_feeds pending ++ text) again []
@@ -143,7 +143,7 @@ module _ (settings : Settings) (kept : KeptRevisions) where
             ),
           )
 
--- where each record that is written is a record again, the whole text is cut into those records
+-- if each record that is written is a record again, the whole text is cut into those records
 pub records_again : (settings : Settings) (kept : KeptRevisions) (dump text : List ℕ) (records : List DumpRecord)
     → IsCutInto 0 0 dump records []
     → AtEach (λ before r after. HasAgain settings kept r after) [] records → AreOutputs settings true kept records text
@@ -162,7 +162,7 @@ some_again settings kept dump text (r ∷ rest) again (lfs, start, end, cut_is, 
     let same : again ≡ found.0 ∷ found.1 = found.2 in
     subst (λ (l : List DumpRecord). 0 < length l) (sym same) (omega arith)
 
--- where everything is kept
+-- if everything is kept
 
 -- the options that keep everything keep each path
 pub all_paths : (path : List ℕ) → keeps_path keep_all path ≡ true
@@ -180,7 +180,7 @@ all_written s after = cases (is_revision_record s) (is_node s) refl refl
     cases false true other node = rw (other, node) refl
     cases false false other no_node = rw (other, no_node) refl
 
--- what is written of the records again is the same text
+-- what is written for the records that are read again is the same text
 pub outputs_again : (settings : Settings) (kept : KeptRevisions) (records : List DumpRecord) (text : List ℕ)
     (again : List DumpRecord)
     → AreReadAgain settings kept records text again → (all : KeptRevisions) → AreOutputs keep_all true all again text

@@ -1,4 +1,4 @@
--- What a filter answers to the record that comes next: its fate, or its fault.
+-- The answer of a filter to the next record: its fate, or its fault.
 use Rattle.dump_filter.proofs.Prelude.{◌≡◌, ◌⊎◌, ◌↔◌, ℕ, ◌+◌, ◌<◌, nat_lt, Bool, true, false, not, ◌&&◌, ◌||◌, List, [], ◌∷◌, ◌++◌, refl, sym, ap, ◌∙◌, subst, arith, inl, inr, Option, Some, None, unwrap_or, IsTrue, IsFalse, Result, Ok, Err, if◌then◌else◌, FaultKind, fault_code, NoFault, Property, block_stable, DumpRecord, is_lawful, code_once, Settings, keeps_path, KeptRevisions, image, HasForeignNumber, is_revision_record, is_node, is_kept_node, node_path, HasPropertyList, HasPropertyBlock, HasBadMergeinfo, IsVerdict, Verdict, CopyChange, Fate, kept_revisions, is_whole_file, stays_copy, IsNewCopy, has_lost_source, copied_headers, present_number, HasBadCopyRevision, HoldsOfRecord, IsRecordFault, merge_fault, PresentGroup, State, node_revision, NoGroup, Pending, Written, front_kept, takes_node, is_in_order, is_orphan, HasNoSource, copy_change, kept_unless, with_fault, node_fate, fate_of, decided, AreAsked, is_plain, Stands, first_true, second_true, both_true, absurd_bool}
 use borrow.Author.Tests.{ltb-true, ltb-false}
 use Rattle.dump_text.specs.declared.fault.FaultKind.TheVariants as faults
@@ -7,7 +7,7 @@ use Rattle.dump_filter.proofs.groups.KindLemmas.{alone}
 use Rattle.dump_filter.proofs.answer.MergeLemmas.{Misses, IsForeign, MergeJudged, merge_judged}
 use Rattle.dump_filter.proofs.answer.FaultLemmas.{ordered, disordered, kept_with_node, CopyJudged, copy_judged}
 
--- what a record is by its fate; a kept node's new copy source is right, and its mergeinfo has no foreign number
+-- what a fate says about its record; a kept node's new copy source is right, and its mergeinfo has no foreign number
 abbrev pub IsFate : Settings → State → DumpRecord → Fate → Type 0
 IsFate settings s r (fates.Keep copy) = (is_plain r ≡ true) × (is_kept_node settings r ≡ true)
     × IsNewCopy settings (front_kept s.revisions.kept s.group) r (copied_headers copy r.headers)
@@ -17,7 +17,7 @@ IsFate settings s r fates.Drop = (is_plain r ≡ true) × (is_kept_node settings
 IsFate settings s r fates.Hold = (is_node r ≡ false) × (is_revision_record r ≡ true)
 IsFate settings s r fates.Pass = (is_node r ≡ false) × (is_revision_record r ≡ false)
 
--- what is known of a record of this fate
+-- what is known about a record with this fate
 pub record IsTaken (settings : Settings) (before : List DumpRecord) (s : State) (r : DumpRecord)
     (fate : Fate) : Type 0 where
   pub free : NoFault (HoldsOfRecord settings before r)
@@ -25,7 +25,7 @@ pub record IsTaken (settings : Settings) (before : List DumpRecord) (s : State) 
   pub readable : (is_revision_record r || is_kept_node settings r) ≡ true → HasPropertyBlock r
   pub is : IsFate settings s r fate
 
--- the record is of this fate, or has this fault
+-- the record has this fate, or this fault
 abbrev pub IsAnswer : Settings → List DumpRecord → State → DumpRecord → Result Fate FaultKind → Type 0
 IsAnswer settings before s r (Ok fate) = IsTaken settings before s r fate
 IsAnswer settings before s r (Err fault) = IsRecordFault settings before r fault
@@ -33,11 +33,11 @@ IsAnswer settings before s r (Err fault) = IsRecordFault settings before r fault
 not_kept : (settings : Settings) (r : DumpRecord) → is_node r ≡ false → is_kept_node settings r ≡ false
 not_kept settings r other = ap (λ b. b && keeps_path settings (node_path r)) other
 
--- the faults up to a number don't hold
+-- the faults up to a number don't apply
 abbrev NoneBelow : Settings → List DumpRecord → DumpRecord → ℕ → Type 0
 NoneBelow settings before r n = (other : FaultKind) → fault_code other < n → ¬ HoldsOfRecord settings before r other
 
--- the faults of cutting hold of no record
+-- the faults of cutting apply to no record
 none_cut : (settings : Settings) (before : List DumpRecord) (r : DumpRecord) → NoneBelow settings before r 8
 none_cut settings before r faults.Order small h = absurd (omega arith)
 none_cut settings before r faults.Props small h = absurd (omega arith)
@@ -50,7 +50,7 @@ none_cut settings before r faults.MergeSource small h = absurd (omega arith)
 none_cut settings before r faults.MergeRange small h = absurd (omega arith)
 none_cut settings before r _ small h = h
 
--- one more of them
+-- one more fault doesn't apply
 none_more : (settings : Settings) (before : List DumpRecord) (r : DumpRecord) (fault : FaultKind)
     → NoneBelow settings before r (fault_code fault)
     → ¬ HoldsOfRecord settings before r fault → NoneBelow settings before r (fault_code fault + 1)
@@ -76,7 +76,7 @@ none_at_all : (settings : Settings) (before : List DumpRecord) (r : DumpRecord) 
     → NoFault (HoldsOfRecord settings before r)
 none_at_all settings before r none other = none other (code_small other)
 
--- where a record isn't kept, nothing but its order and its properties can be wrong
+-- if a record isn't kept, only its order and its properties can be wrong
 other_none : (settings : Settings) (before : List DumpRecord) (r : DumpRecord) → is_kept_node settings r ≡ false
     → NoneBelow settings before r 10
     → NoFault (HoldsOfRecord settings before r)
@@ -168,7 +168,7 @@ module _ (settings : Settings) (before : List DumpRecord) (s : State) (text : Li
         (first_true (has_lost_source settings r) (not (is_whole_file r)) orphan))
         (second_true (has_lost_source settings r) (not (is_whole_file r)) orphan)
 
-    -- the dump's first revision and the present one are those of the filter, so its numbers are
+    -- the dump's first revision and the present one are those of the filter, and so are their numbers
     foreign_is : HoldsOfRecord settings before r faults.MergeRange → IsForeign settings kept present r
     foreign_is (value, of, bad) = (
       value,
@@ -273,7 +273,7 @@ module _ (settings : Settings) (before : List DumpRecord) (s : State) (text : Li
       by_kind false k false other keep no_rev =
           other_taken fates.Pass good (not_kept settings r other) none (other, no_rev)
 
-  -- the answer by a record's verdict and its properties is true of it
+  -- the answer from a record's verdict and its properties is true of it
   pub answered : (v : Verdict) → IsVerdict settings r v → (ps : List Property) → AreAsked settings r v ps
       → IsAnswer settings before s r (decided settings s r v ps)
   answered v means ps asked = by_order (is_in_order s r) refl
@@ -313,7 +313,7 @@ module _ (settings : Settings) (before : List DumpRecord) (s : State) (text : Li
       by_order true good = by_props good (good_order good) v.props_ok refl
       by_order false bad = order_fault bad
 
--- the fault of mergeinfo is the same under equal settings and numbers
+-- the fault of mergeinfo is the same with equal settings and numbers
 same_merge_fault : (settings : Settings) (first present : ℕ) (options : Settings) (from at : ℕ) (ok : Bool)
     (ps : List Property)
     → settings ≡ options → first ≡ from → present ≡ at
@@ -322,7 +322,7 @@ same_merge_fault settings first present options from at ok ps e f g =
     ap (λ (s : Settings). merge_fault s first present ok ps) e ∙ ap (λ n. merge_fault options n present ok ps) f
     ∙ ap (λ n. merge_fault options from n ok ps) g
 
--- the fate of a kept node, by what its copy source becomes and by the fault that was found of its mergeinfo
+-- the fate of a kept node, from what the filter does with its copy source and the fault of its mergeinfo
 pub node_fate_is : {settings options : Settings} (s : State) (r : DumpRecord) (ok : Bool) (ps : List Property)
     {first present : ℕ} {copy : CopyChange} {found : Option FaultKind}
     → settings ≡ options → is_kept_node options r ≡ true
@@ -338,7 +338,7 @@ node_fate_is {settings} {options} s r ok ps {first} {present} {copy} {found} e k
     (merge_fault options s.revisions.kept.first (node_revision s.revisions) ok ps))
     copied)
 
--- where a node that is kept may come next, any node may
+-- if the next record may be a kept node, it may be any node
 pub node_is_taken : (settings : Settings) (s : State) (r : DumpRecord) → is_kept_node settings r ≡ true
     → is_in_order s r ≡ true → takes_node s.group ≡ true
 node_is_taken settings s r keep good =
@@ -364,7 +364,7 @@ fate_of_dropped settings s r ok ps node left =
     sym (ap (λ b. if b then kept else if is_revision_record r then Ok fates.Hold else Ok fates.Pass) node
     ∙ ap (λ b. if b then node_fate settings s r ok ps else Ok fates.Drop) left)
 
--- the fate of a revision is to be held
+-- the fate of a revision is to be held back
 pub fate_of_revision : (settings : Settings) (s : State) (r : DumpRecord) (ok : Bool) (ps : List Property)
     → is_node r ≡ false → is_revision_record r ≡ true → Ok fates.Hold ≡ fate_of settings s r ok ps
 fate_of_revision settings s r ok ps no_node revision =

@@ -1,4 +1,4 @@
--- Which fault a record has behind others.
+-- Which fault a record has after others.
 use Rattle.dump_filter.proofs.Prelude.{◌≡◌, ◌⊎◌, ℕ, ◌<◌, nat_lt, Bool, true, false, not, ◌&&◌, ◌||◌, List, [], ◌∷◌, ◌++◌, refl, sym, ap, ◌∙◌, subst, arith, append_assoc, inl, inr, Option, Some, None, IsTrue, MatchBool, Result, Ok, Err, is_some, if◌then◌else◌, last_or, list_all, list_any, FaultKind, spelled_number, copy_revision_name, with_header_value, header_number, has_bad_kind, has_bad_number, DumpRecord, is_lawful, part_of_node, keeps, Settings, KeptRevisions, image, is_revision_record, is_node, is_kept_node, CopyChange, revision_number, revision_numbers, first_number, kept_revisions, is_whole_file, becomes_plain, stays_copy, IsWrittenCopyNumber, IsNewCopy, is_copy, has_lost_source, copied_headers, ends_in_group, IsOutOfOrder, State, front_kept, takes_node, rises, is_in_order, is_orphan, HasNoSource, imaged, source_change, copy_change, is_plain, kept_numbers, Shape, Stands, Fresh, Idle, Passed, Waits, copy_both, copy_there, false_true, not_so, first_true, second_true, not_true, not_false, both_true, absurd_bool}
 use borrow.Author.Tests.{ltb-true, ltb-false}
 use Rattle.dump_text.specs.declared.fault.FaultKind.TheVariants as faults
@@ -7,10 +7,10 @@ use Rattle.dump_filter.proofs.groups.GroupLemmas.{plain_other, plain_more, any_m
 use Rattle.dump_filter.proofs.groups.NumberLemmas.{first_other, kept_group, passed_keeps}
 use Rattle.dump_filter.proofs.knowing.StandsNext.{ends_open}
 
--- the order: a node follows where there is a group, and a revision where its number rises
+-- the order: a node follows if there is a group, and a revision if its number rises
 module _ (settings : Settings) (before : List DumpRecord) (s : State) (text : List ℕ)
     (st : Stands settings before s text) (r : DumpRecord) where
-  -- whether a node may follow is told by the last record, too
+  -- the last record says whether a node may follow, too
   ends_is : ends_in_group (last_or None before) ≡ takes_node s.group
   ends_is = ends_open settings before s st.shape
 
@@ -55,7 +55,7 @@ pub above_present : (s : State) (r : DumpRecord) → is_in_order s r ≡ true �
 above_present s r good other rev p is =
     ltb-true p (revision_number r) (ap (λ q. rises q (revision_number r)) (sym is) ∙ sym (rw (other, rev) refl) ∙ good)
 
--- with a kept node its group is kept
+-- if a node is kept, its group is kept
 numbers_with : (settings : Settings) (closed ns : List DumpRecord) (y r : DumpRecord) → is_node y ≡ false
     → is_revision_record y ≡ true → list_all is_plain ns ≡ true → is_plain r ≡ true
     → list_any (is_kept_node settings) (ns ++ r ∷ []) ≡ true
@@ -66,7 +66,7 @@ numbers_with settings closed ns y r other rev all plain more =
     ∙ ap (λ b. kept_numbers settings closed ++ (if b then revision_number y ∷ [] else []))
     (passed_keeps settings y (ns ++ r ∷ []) more)
 
--- the kept revisions with a kept node's own
+-- the kept revisions with that of a kept node
 pub kept_with_node : (settings : Settings) (before : List DumpRecord) (s : State) (r : DumpRecord)
     → Shape settings before s → s.revisions.kept.first ≡ first_number (revision_numbers before)
     → is_plain r ≡ true → is_kept_node settings r ≡ true → takes_node s.group ≡ true
@@ -85,7 +85,7 @@ kept_with_node settings before s r (Waits t closed y ns other rev all none c) fi
     ∙ ap (λ (ns : List ℕ). ns ++ revision_number y ∷ []) (sym c.numbers_are) in
     λ i. record { first = first i; numbers = numbers i }
 
--- a lawful node is a copy where its copy revision can be read
+-- a node that breaks no rule is a copy if its copy revision can be read
 copies_told : (number : ℕ) (r : DumpRecord) → IsTrue (is_lawful number r.headers) → is_node r ≡ true
     → is_copy r ≡ is_some (header_number copy_revision_name r.headers)
 copies_told number r lawful node =
@@ -93,7 +93,7 @@ copies_told number r lawful node =
     sym (copy_both r.headers (not_so (has_bad_kind r.headers) k.kind) node)
     ∙ copy_there r.headers (not_so (has_bad_number r.headers) k.number_ok)
 
--- what becomes of a kept node's copy source, or which fault it has
+-- what the filter does with a kept node's copy source, or its fault
 abbrev pub CopyJudged : Settings → KeptRevisions → ℕ → DumpRecord → Result CopyChange FaultKind → Type 0
 CopyJudged settings kept present r (Ok copy) =
     IsNewCopy settings kept r (copied_headers copy r.headers) × (¬ IsTrue (is_orphan settings r))
@@ -189,7 +189,7 @@ module _ (settings : Settings) (kept : KeptRevisions) (present : ℕ) (number : 
           λ h. absurd_bool settings.renumber (first_true settings.renumber (stays_copy settings r) h.0) renumber,
         )
 
-  -- what is decided of a kept node's copy source is what becomes of it, or its fault
+  -- the decision about a kept node's copy source is right: what the filter does with it, or its fault
   pub copy_judged : CopyJudged settings kept present r (copy_change settings kept present r)
   copy_judged = by_lost (has_lost_source settings r) refl
     where

@@ -85,7 +85,7 @@ module _ (settings : Settings) (r : DumpRecord) (keep : is_kept_node settings r 
         by_source true some = inr (inl (refl, fine, some_misses some))
         by_source false none = by_range (none_misses none) (list_any (is_foreign settings kept.first present) ps) refl
 
-  -- the fault that is found in a kept node's mergeinfo is there, where the verdict is right
+  -- the fault that is found in a kept node's mergeinfo is there, if the verdict is right
   pub merge_judged : (kept : KeptRevisions) (present : ℕ) (ok : Bool) → IsFalse ok ↔ ∥ HasBadMergeinfo settings r ∥₁
       → MergeJudged settings kept present r (merge_fault settings kept.first present ok ps)
   merge_judged kept present true means = values_judged kept present
@@ -98,7 +98,7 @@ module _ (settings : Settings) (r : DumpRecord) (keep : is_kept_node settings r 
         | inr none ↦ absurd (∥∥₁_elim (means.0 refl) (λ x y. absurd x) none)
       ]
 
--- a kept node without bad mergeinfo has lines in each value
+-- if a kept node's mergeinfo has no fault, each value is lines of mergeinfo
 pub lines_told : (settings : Settings) (r : DumpRecord) → is_kept_node settings r ≡ true → ¬ HasBadMergeinfo settings r
     → HasPropertyBlock r → HasGoodMergeinfo r.props
 lines_told settings r keep fine (qs, list) ps block p within is none =
@@ -106,12 +106,12 @@ lines_told settings r keep fine (qs, list) ps block p within is none =
     let here = subst (λ (l : List Property). Contains l p) same within in
     fine (value_of p, (keep, qs, list, p, here, is, refl), none)
 
--- a kept node's properties are asked for
+-- the properties of a kept node are needed
 pub asked_node : (d : Done) → IsReadNode d → IsTrue (is_asked (done_settings d) (record_item (done_record d)))
 asked_node d (kept, read, ok) = or_right (is_revision_record (record_item (done_record d)))
     (is_kept_node (done_settings d) (record_item (done_record d))) kept
 
--- each value of its mergeinfo is some lines
+-- each value of its mergeinfo is lines of mergeinfo
 pub read_lines : (d : Done) → IsReadNode d → HasGoodMergeinfo (record_item (done_record d)).props
 read_lines d (kept, read, ok) =
     lines_told (done_settings d) (record_item (done_record d)) kept
@@ -122,7 +122,7 @@ read_lines d (kept, read, ok) =
           (d.judged.verdict_is.props.1 (asked_node d (kept, read, ok), none)))
     ])
 
--- and those of a revision are
+-- and so are those of a revision
 pub asked_revision : (d : Done) → IsTrue (is_revision_record (record_item (done_record d)))
     → IsTrue (is_asked (done_settings d) (record_item (done_record d)))
 asked_revision d revision = ap (λ b. b || is_kept_node (done_settings d) (record_item (done_record d))) revision

@@ -64,7 +64,7 @@ no_groups (n ∷ ns) all =
     let other = plain_other n (first_true (is_plain n) (list_all is_plain ns) all) in
     rw other (no_groups ns (second_true (is_plain n) (list_all is_plain ns) all))
 
--- the group of a revision and nodes behind it
+-- the group of a revision and nodes after it
 pub own_group : (y : DumpRecord) (ns : List DumpRecord) → list_all is_plain ns ≡ true
     → group_of y ns ≡ record { revision = y; nodes = ns }
 own_group y ns all = ap (λ (t : List DumpRecord). record { revision = y; nodes = t }) (take_nodes ns all)
@@ -196,7 +196,7 @@ module _ (settings : Settings) (k : KeptRevisions) where
   node_output r after text plain own ended = subst (IfWritten r after text) (sym (node_written ended r after plain))
       (rw (plain_other r plain, plain_node r plain) (rw (plain_node r plain) at own))
 
-  -- one more node behind nodes
+  -- one more node after nodes
   pub nodes_more : (ended last : Bool) (ns : List DumpRecord) (r : DumpRecord) (text own : List ℕ)
       → list_all is_plain ns ≡ true → is_plain r ≡ true → AreOutputs settings ended k ns text → OwnOutput r own
       → AreOutputs settings last k (ns ++ r ∷ []) (text ++ own)
@@ -212,7 +212,7 @@ module _ (settings : Settings) (k : KeptRevisions) where
         nodes_more ended last ns r rest own (second_true (is_plain n) (list_all is_plain ns) all) plain more mine,
       )
 
-  -- nodes behind which the dump ends
+  -- nodes after which the dump ends
   pub nodes_end : (ended last : Bool) (ns : List DumpRecord) (text : List ℕ) → list_all is_plain ns ≡ true
       → AreOutputs settings ended k ns text → AreOutputs settings last k ns text
   nodes_end ended last [] text all none = none
@@ -355,7 +355,7 @@ module _ (settings : Settings) (k : KeptRevisions) (closed ns : List DumpRecord)
       (outputs_join settings k ended closed ms y parts.before (own ++ nodes) other parts.closed_out
       (own, nodes, refl, own_out, nodes_out))
 
-  -- behind a kept node a node adds what is written of it
+  -- after a kept node a node adds what is written of it
   pub passed_more : (r : DumpRecord) (own : List ℕ) → is_plain r ≡ true → list_any (is_kept_node settings) ns ≡ true
       → OwnOutput settings k r own → AreOutputs settings false k (closed ++ y ∷ (ns ++ r ∷ [])) (text ++ own)
   passed_more r own plain some mine =
@@ -456,7 +456,7 @@ module _ (settings : Settings) (k : KeptRevisions) (closed ns : List DumpRecord)
       (nothing none ∙ sym (append-nil parts.before))
 
 module _ (settings : Settings) (k : KeptRevisions) where
-  -- a list that ends with a version or UUID record ends as it stands
+  -- a list that ends with a version or UUID record ends unchanged
   pub idle_end : (closed : List DumpRecord) (y : DumpRecord) (text : List ℕ) → is_node y ≡ false
       → is_revision_record y ≡ false
       → AreOutputs settings false k (closed ++ y ∷ []) text → AreOutputs settings true k (closed ++ y ∷ []) text
@@ -473,7 +473,7 @@ module _ (settings : Settings) (k : KeptRevisions) where
         group.4,
       ))
 
-  -- a revision behind ended records waits
+  -- a revision after ended records waits
   pub revision_more : (before : List DumpRecord) (r : DumpRecord) (text : List ℕ) → is_node r ≡ false
       → is_revision_record r ≡ true
       → AreOutputs settings true k before text → AreOutputs settings false k (before ++ r ∷ []) text
@@ -487,7 +487,7 @@ module _ (settings : Settings) (k : KeptRevisions) where
         refl,
       ))
 
-  -- a version or UUID record is written as it stood
+  -- a version or UUID record is written unchanged
   pub other_more : (before : List DumpRecord) (r : DumpRecord) (text : List ℕ) → is_node r ≡ false
       → is_revision_record r ≡ false
       → AreOutputs settings true k before text → AreOutputs settings false k (before ++ r ∷ [])

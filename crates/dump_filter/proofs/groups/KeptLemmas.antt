@@ -42,7 +42,7 @@ image_kept kept from whole m g low =
     ∙ image_goes_on kept.first kept.numbers g.later m
     (all_weaker (λ n. from ≤ n) (λ n. m < n) g.later (λ n up. omega (arith, up, low)) g.behind)
 
--- the number of a revision that comes behind all kept ones
+-- the number of a revision that comes after all kept ones
 pub next_written : (settings : Settings) (kept : KeptRevisions) (from : ℕ) (whole : KeptRevisions) (r : DumpRecord)
     → GoesOn kept from whole
     → revision_number r ≤ from → All (λ n. n < revision_number r) kept.numbers
@@ -60,7 +60,7 @@ next_written settings kept from whole r g low below = by_case settings.renumber
     by_case true = at
     by_case false = refl
 
--- what may come behind a pending revision that is kept might come before
+-- what may come after a pending revision that is kept might come before
 reopened : (kept whole : KeptRevisions) (r : DumpRecord) (p q : ℕ) → revision_number r ≡ p → p ≤ q
     → GoesOn (with_kept kept r) q whole → GoesOn kept p whole
 reopened kept whole r p q is low g = record {
@@ -88,7 +88,7 @@ front_reopened kept whole Written present up g = g
 front_reopened kept whole (Pending w) present up g =
     reopened kept whole w.revision present (present + 1) up.waits (omega arith) g
 
--- a list that goes on behind the group's end goes on from the least number that was open
+-- a list that goes on after the group's end goes on from the least number that was open
 pub end_reopened : (settings : Settings) (kept whole : KeptRevisions) (group : PresentGroup) (present next : ℕ)
     → AreRising kept present group → present < next
     → GoesOn (end_kept settings kept group) next whole → GoesOn kept (open_from present group) whole
@@ -175,7 +175,7 @@ pub first_rising : (r : DumpRecord)
     (Pending (record { revision = r; bare = true }))
 first_rising r = record { low = omega arith; rise = tt; below = All-nil (λ n. n < revision_number r); waits = refl }
 
--- the pending revision stands above all kept ones
+-- the pending revision is above all kept ones
 pub below_pending : (kept : KeptRevisions) (w : PendingRevision) (present : ℕ) → AreRising kept present (Pending w)
     → All (λ n. n < revision_number w.revision) kept.numbers
 below_pending kept w present up =

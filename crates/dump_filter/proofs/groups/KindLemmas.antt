@@ -1,4 +1,4 @@
--- What a record is, by its deciding names, of which exactly one stands there.
+-- What a record is, by its deciding names, of which exactly one is there.
 use Rattle.dump_filter.proofs.Prelude.{◌≡◌, ℕ, Bool, true, false, refl, sym, ◌∙◌, subst, IsTrue, version_name, uuid_name, revision_name, path_name, has_header, has_bad_kind, kind_of, RecordKind, DumpRecord, Record, record_item, record_number, is_lawful, OneKind, deciding, keeps, is_revision_record, is_node, not_so, false_true, absurd_bool}
 use Rattle.dump_records.specs.declared.kind.RecordKind.TheVariants as kinds
 

@@ -42,7 +42,7 @@ pub present_other : (before : List DumpRecord) (r : DumpRecord) → is_revision_
     → present_revision (before ++ r ∷ []) ≡ present_revision before
 present_other before r other = ap (last_or None) (numbers_other before r other)
 
--- behind a revision and its nodes that revision is the present one
+-- after a revision and its nodes that revision is the present one
 pub present_group : (before : List DumpRecord) (r : DumpRecord) (ns : List DumpRecord) → is_node r ≡ false
     → is_revision_record r ≡ true → list_all is_plain ns ≡ true
     → present_revision (before ++ r ∷ ns) ≡ Some (revision_number r)

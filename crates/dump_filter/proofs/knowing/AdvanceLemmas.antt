@@ -1,4 +1,4 @@
--- One more record of its fate: what then stands, the text that is written, and the counts.
+-- One more record with its fate: what is true then, the text that is written, and the counts.
 use Rattle.dump_filter.proofs.Prelude.{◌≡◌, ℕ, ◌+◌, ◌≤◌, Bool, true, false, not, ◌&&◌, ◌||◌, List, [], ◌∷◌, ◌++◌, length, refl, sym, ap, ◌∙◌, subst, length-append, suc, arith, Option, Some, None, Contains, MatchBool, count_by, cond, if◌then◌else◌, or_right, block_text, Property, block_stable, property_list_once, DumpRecord, Settings, KeptRevisions, RiseFrom, HasMergeLines, has_lines, new_value, is_revision_record, is_node, is_kept_node, is_mergeinfo, is_checked_text, value_of, HasPropertyBlock, CopyChange, Fate, Report, kept_revisions, revision_number, AreFaultFree, IsNewProperty, AreNewProperties, HasGoodMergeinfo, revision_own, node_own, IsWrittenText, PresentGroup, State, pending_count, revision_count, NoGroup, Pending, Written, stays, pads, next_number, IsOwnRevision, IsOwnNode, IsEndText, IsFrontText, IsPiece, with_kept, front_kept, end_kept, with_kept_revision, with_dropped_revision, front_report, end_report, ended, emptied, started, text_count, next_state, Shape, AreKept, Stands, Fresh, Idle, Passed, Waits}
 use Rattle.std.proofs.lemmas.List.{append-nil}
 use Rattle.dump_text.specs.declared.fault.FaultKind.TheVariants as faults
@@ -23,14 +23,14 @@ pending_readable settings before s (Waits t closed y ns other rev all none c) fr
     block_stable y
     (λ none. free closed ns y refl faults.Props (ap (λ b. b || is_kept_node settings y) rev, none))
 
--- the count of dropped revisions is that of an ended group, or stays
+-- the number of dropped revisions is that of an ended group, or unchanged
 front_dropped : (group : PresentGroup) (report : Report)
     → (front_report group report).revisions_dropped ≡ report.revisions_dropped
 front_dropped NoGroup report = refl
 front_dropped Written report = refl
 front_dropped (Pending w) report = refl
 
--- what stands behind one more record
+-- what is true after one more record
 pub next_stands : (settings : Settings) (before : List DumpRecord) (s : State) (text : List ℕ) (r : DumpRecord)
     (fate : Fate) (checked : Bool) (piece : List ℕ)
     → Stands settings before s text → IsReadable s.group → IsTaken settings before s r fate
@@ -61,7 +61,7 @@ next_stands settings before s text r fates.Pass checked piece st readable taken 
     subst (λ (t : List ℕ). Stands settings (before ++ r ∷ []) next (text ++ t)) (sym joined)
     (pass_stands settings before s r other next.report text front st readable ends refl no_rev)
 
--- each record that is taken has its text
+-- each accepted record has its text
 revision_exists : (settings : Settings) (kept : KeptRevisions) (r : DumpRecord) (padded : Bool) → HasPropertyBlock r
     → (text : List ℕ) × IsOwnRevision settings kept r padded text
 revision_exists settings kept r padded (ps, block) = (
@@ -112,7 +112,7 @@ front_exists settings kept NoGroup readable = ([], refl)
 front_exists settings kept Written readable = ([], refl)
 front_exists settings kept (Pending w) readable = revision_exists settings kept w.revision false readable
 
--- something is written at the group's end, where the pending revision can be read
+-- something is written when the group ends, if the pending revision can be read
 pub end_exists : (settings : Settings) (kept : KeptRevisions) (group : PresentGroup) → IsReadable group
     → (text : List ℕ) × IsEndText settings kept group text
 end_exists settings kept NoGroup readable = ([], refl)
@@ -124,7 +124,7 @@ end_exists settings kept (Pending w) readable = by_stays (stays settings w)
     by_stays true = revision_exists settings kept w.revision (pads settings w) readable
     by_stays false = ([], refl)
 
--- the kept revisions rise, with the present one too
+-- the kept revisions rise, also with the present one
 rising : (s : State) → AreKept s.revisions s.group
     → RiseFrom (front_kept s.revisions.kept s.group).first (front_kept s.revisions.kept s.group).numbers
 rising s = by_present s.revisions.present
@@ -136,7 +136,7 @@ rising s = by_present s.revisions.present
         (sym (ap (front_kept s.revisions.kept) free ∙ none)) tt
     by_present (Some p) up = (front_rising s.revisions.kept s.group p up).rise
 
--- something is written of a record with a fate, where the pending revision can be read
+-- something is written for a record with a fate, if the pending revision can be read
 pub piece_exists : (settings : Settings) (before : List DumpRecord) (s : State) (r : DumpRecord) (fate : Fate)
     → AreKept s.revisions s.group → IsReadable s.group → IsTaken settings before s r fate → (piece : List ℕ)
     × IsPiece settings s r fate piece
@@ -153,13 +153,13 @@ piece_exists settings before s r fates.Pass up readable taken =
     let front = end_exists settings s.revisions.kept s.group readable in
     (front.0 ++ block_text r.headers, (front.0, refl, front.1))
 
--- what stands is written, and nothing else is
+-- the text of the state is what is written for the records
 pub stands_written : (settings : Settings) (before : List DumpRecord) (s : State) (text : List ℕ)
     → Stands settings before s text → IsWrittenText settings false before text
 stands_written settings before s text st =
     st.written (kept_revisions settings before) (becomes settings before s text st)
 
--- what stands written of the records is the only text that is written of them
+-- the text of the state is the only one that is written for the records
 pub stands_once : (settings : Settings) (before : List DumpRecord) (s : State) (text other : List ℕ)
     → Stands settings before s text → IsWrittenText settings false before other → text ≡ other
 stands_once settings before s text other st written =
@@ -185,7 +185,7 @@ ended_counted settings s is = by_group s.group
             ∙ sym (length-append s.revisions.kept.numbers (revision_number w.revision ∷ []))
         by_stays false = is
 
--- behind one more record the report's count of kept revisions is right, too
+-- after one more record the report's count of kept revisions is right
 pub next_counted : (settings : Settings) (s : State) (r : DumpRecord) (fate : Fate) (checked : Bool)
     → AreKept s.revisions s.group → s.report.revisions_kept ≡ length s.revisions.kept.numbers
     → (next_state settings s r fate checked).report.revisions_kept
@@ -246,7 +246,7 @@ next_room settings s r fates.Hold checked n room = let low =
 next_room settings s r fates.Pass checked n room = let low =
     ended_room settings s.group s.report n room in omega (arith, low)
 
--- the counts of nodes and of texts where the present group ends
+-- the counts of nodes and of texts after the present group has ended
 pub ended_others : (settings : Settings) (group : PresentGroup) (report : Report)
     → ((end_report settings group report).nodes_kept ≡ report.nodes_kept)
     × ((end_report settings group report).nodes_dropped ≡ report.nodes_dropped)
@@ -271,7 +271,7 @@ front_nodes NoGroup report = (refl, refl)
 front_nodes Written report = (refl, refl)
 front_nodes (Pending w) report = (refl, refl)
 
--- the counts of nodes behind one more record
+-- the counts of nodes after one more record
 module _ (settings : Settings) (before : List DumpRecord) (s : State) (r : DumpRecord) (checked : Bool)
     (kept_is : s.report.nodes_kept ≡ count_by (is_kept_node settings) before)
     (dropped_is : s.report.nodes_dropped ≡ count_by (λ x. is_node x && not (is_kept_node settings x)) before) where
@@ -284,7 +284,7 @@ module _ (settings : Settings) (before : List DumpRecord) (s : State) (r : DumpR
       (is_node r && not (is_kept_node settings r)) 1 0
   one_dropped = count_one (λ x. is_node x && not (is_kept_node settings x)) before r
 
-  -- behind one more record the report counts the kept nodes of all of them
+  -- after one more record the report counts the kept nodes of all of them
   pub kept_nodes : (fate : Fate) → IsTaken settings before s r fate
       → (next_state settings s r fate checked).report.nodes_kept ≡ count_by (is_kept_node settings) (before ++ r ∷ [])
   kept_nodes (fates.Keep copy) taken =
@@ -295,7 +295,7 @@ module _ (settings : Settings) (before : List DumpRecord) (s : State) (r : DumpR
   kept_nodes fates.Pass taken =
       (ended_others settings s.group s.report).0 ∙ kept_is ∙ sym (one_kept ∙ rw taken.is.0 (omega arith))
 
-  -- behind one more record the report counts those of all the nodes that aren't kept
+  -- after one more record the report counts those of all the nodes that aren't kept
   pub dropped_nodes : (fate : Fate) → IsTaken settings before s r fate
       → (next_state settings s r fate checked).report.nodes_dropped
       ≡ count_by (λ x. is_node x && not (is_kept_node settings x)) (before ++ r ∷ [])
@@ -309,7 +309,7 @@ module _ (settings : Settings) (before : List DumpRecord) (s : State) (r : DumpR
   dropped_nodes fates.Pass taken =
       (ended_others settings s.group s.report).1 ∙ dropped_is ∙ sym (one_dropped ∙ rw taken.is.0 (omega arith))
 
--- the count of checked texts behind one more record
+-- the count of checked texts after one more record
 pub next_texts : (settings : Settings) (before : List DumpRecord) (s : State) (r : DumpRecord) (checked : Bool)
     → checked ≡ is_checked_text settings r → s.report.texts_checked ≡ count_by (is_checked_text settings) before
     → text_count checked s.report ≡ count_by (is_checked_text settings) (before ++ r ∷ [])

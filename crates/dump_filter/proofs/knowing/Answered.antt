@@ -1,4 +1,4 @@
--- Each dump has an answer: from any records without a fault the filter goes on to one.
+-- Each dump has an answer: from any records without a fault the filter goes on until it has one.
 use Rattle.dump_filter.proofs.Prelude.{◌≡◌, ◌⊎◌, ℕ, ◌+◌, Bool, true, false, List, [], ◌∷◌, ◌++◌, length, refl, sym, ap, ◌∙◌, subst, append_assoc, inl, inr, IsTrue, Result, Ok, Err, FaultKind, DumpRecord, record_text, is_lawful, IsCutInto, Settings, Fate, kept_revisions, IsRecordFault, AreFaultFree, IsWrittenText, State, new_state, next_state, decided, Stands, verdict_exists}
 use Rattle.std.proofs.lemmas.List.{append-nil}
 use Rattle.dump_filter.proofs.knowing.StandsNext.{ended_text, becomes_ended}
@@ -11,24 +11,24 @@ abbrev pub AllLawful : List DumpRecord → Type 0
 AllLawful [] = Unit {0}
 AllLawful (r ∷ rs) = ((number : ℕ) × IsTrue (is_lawful number r.headers)) × AllLawful rs
 
--- the records that a text is cut into break no rule
+-- the records into which a text is cut break no rule
 pub all_lawful : (number place : ℕ) (text rest : List ℕ) (rs : List DumpRecord) → IsCutInto number place text rs rest
     → AllLawful rs
 all_lawful number place text rest [] cut = tt
 all_lawful number place text rest (r ∷ rs) (lfs, front, after, is, at, b, more) =
     ((number, b.lawful), all_lawful (number + 1) (r.place + length (record_text r)) after rest rs more)
 
--- the last of some lawful records are lawful
+-- the last ones of records that break no rule break none
 pub lawful_behind : (rs ss : List DumpRecord) → AllLawful (rs ++ ss) → AllLawful ss
 lawful_behind [] ss all = all
 lawful_behind (r ∷ rs) ss all = lawful_behind rs ss all.1
 
--- the first of some lawful records are lawful
+-- the first ones of records that break no rule break none
 pub lawful_front : (rs ss : List DumpRecord) → AllLawful (rs ++ ss) → AllLawful rs
 lawful_front [] ss all = tt
 lawful_front (r ∷ rs) ss all = (all.0, lawful_front rs ss all.1)
 
--- a state that stands behind these records, and what is written of them
+-- the state after these records, and what is written of them
 pub record Reached (settings : Settings) (before : List DumpRecord) : Type 0 where
   pub state : State
   pub text : List ℕ
@@ -38,12 +38,12 @@ pub record Reached (settings : Settings) (before : List DumpRecord) : Type 0 whe
 pub reached_none : (settings : Settings) → Reached settings []
 reached_none settings = record { state = new_state; text = []; stands = new_stands settings }
 
--- what was reached is what is written of these records
+-- the text that was reached is what is written for these records
 pub reached_written : (settings : Settings) (before : List DumpRecord) (reached : Reached settings before)
     → IsWrittenText settings false before reached.text
 reached_written settings before d = stands_written settings before d.state d.text d.stands
 
--- the end behind records without a fault
+-- the end after records without a fault
 record End (settings : Settings) (before : List DumpRecord) (text : List ℕ) : Type 0 where
   more : List ℕ
   written : IsWrittenText settings true before (text ++ more)
@@ -63,7 +63,7 @@ reached_end settings before free d =
 module _ (settings : Settings) (before : List DumpRecord) (free : AreFaultFree settings before)
     (reached : Reached settings before) (r : DumpRecord) (number : ℕ)
     (lawful : IsTrue (is_lawful number r.headers)) where
-  -- a record that is taken brings its text
+  -- each accepted record adds its text
   pub record Next : Type 0 where
     pub more : List ℕ
     pub still_free : AreFaultFree settings (before ++ r ∷ [])
@@ -112,7 +112,7 @@ reach settings done (r ∷ rest) all free front reached =
       | inr found ↦ absurd (free done rest r refl found.0 found.1.holds)
     ]
 
--- how the filter goes on behind some records
+-- how the filter goes on after some records
 pub data Outcome (settings : Settings) (before rest : List DumpRecord) (text : List ℕ) : Type 0 where
   Stops : (mid after : List DumpRecord) (r : DumpRecord) (fault : FaultKind) → rest ≡ mid ++ r ∷ after
       → AreFaultFree settings (before ++ mid)
@@ -140,7 +140,7 @@ further settings before rest r text turn next is (Ends free more written end who
     (written_as false (λ i. settings) moved texts written) end
     (written_as true (λ i. settings) moved (ap (λ t. t ++ end) texts) whole)
 
--- lawful records behind those without a fault end without one, or stop at the first that has one
+-- lawful records after those without a fault end without one, or stop at the first that has one
 pub follow : (settings : Settings) (before rest : List DumpRecord) → AllLawful rest → AreFaultFree settings before
     → (reached : Reached settings before)
     → Outcome settings before rest reached.text

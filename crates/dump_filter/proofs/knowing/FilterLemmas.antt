@@ -1,4 +1,4 @@
--- A filter's step and end, by what it knows of the records that it has accepted.
+-- A filter's step and end, from what it knows about the records that it has accepted.
 use Rattle.dump_filter.proofs.Prelude.{◌≡◌, ◌↔◌, ◌⊎◌, ℕ, ◌+◌, ◌^◌, ◌<◌, ◌≤◌, Bool, true, false, not, ◌&&◌, List, [], ◌∷◌, ◌++◌, length, refl, sym, ap, ◌∙◌, subst, arith, length-append, filter, inl, inr, Option, Some, None, option_map, IsTrue, Result, Ok, Err, or_right, not-false, length-map, count_by-le-length, length-filter, FaultKind, NoFault, Property, tail-eq, block_or_not, Record, DumpRecord, record_dump, record_number, record_item, BeginsWithRecords, IsRecordOf, strip, begins_once, one_more, least_once, Settings, done_record, done_settings, done_verdict, Done, is_revision_record, is_node, is_kept_node, is_checked_text, IsVerdict, Verdict, CopyChange, Fate, Inside, Report, groups, group_number, keeps_group, kept_revisions, HoldsOfRecord, IsRecordFault, AreFaultFree, IsWrittenText, report_of, Seen, FilterState, count_up_to, AreAccepted, IsOfSameDump, Accepts, Refuses, Finishes, State, CanCountMore, view_state, new_state, revision_count, IsEndText, IsPiece, ended, next_state, decided, AreAsked, Stands, AreUpTo, KnowsAccepted, Fresh, absurd_bool, not_so, not_true, ∥∥₁_elim, transport, IsReadNode}
 use Rattle.dump_text.specs.declared.fault.FaultKind.TheVariants as faults
 use Rattle.dump_filter.specs.declared.fate.Fate.TheVariants as fates
@@ -6,7 +6,7 @@ use Rattle.dump_filter.proofs.knowing.StandsNext.{IsReadable, ended_numbers, end
 use Rattle.dump_filter.proofs.answer.DecisionLemmas.{IsTaken, IsAnswer, answered}
 use Rattle.dump_filter.proofs.knowing.AdvanceLemmas.{pending_readable, next_stands, stands_written, stands_once, ended_counted, ended_others, next_counted, next_room, kept_nodes, dropped_nodes, next_texts}
 
--- the accepted records are one list
+-- the accepted records are exactly one list
 pub up_to_once : (last : Option Record) (rs ss : List DumpRecord) → AreUpTo last rs → AreUpTo last ss → rs ≡ ss
 up_to_once None rs ss a b = a ∙ sym b
 up_to_once (Some r) rs ss a b = begins_once (record_dump r) rs ss (a.1 ∙ sym b.1) a.0 b.0
@@ -24,7 +24,7 @@ pub up_to_accepted : (settings : Settings) (active : Bool) (last : Option Record
 up_to_accepted settings active None rs a = a
 up_to_accepted settings active (Some r) rs a = a
 
--- no record stands in no list
+-- the empty list has no record
 pub none_within : (b a : List DumpRecord) (x : DumpRecord) → [] ≡ b ++ x ∷ a → ⊥
 none_within [] a x e = cc
 none_within (c ∷ b) a x e = cc
@@ -33,7 +33,7 @@ none_within (c ∷ b) a x e = cc
 pub free_none : (settings : Settings) → AreFaultFree settings []
 free_none settings = λ b a x is. absurd (none_within b a x is)
 
--- a record of some records and one more is one of these, or that one
+-- a record of a list with one more at its end is in the list, or is that one
 snoc_split : (before b a : List DumpRecord) (r x : DumpRecord) → before ++ r ∷ [] ≡ b ++ x ∷ a
     → ((before ≡ b) × (r ≡ x)) ⊎ ((rest : List DumpRecord) × (before ≡ b ++ x ∷ rest))
 snoc_split [] [] a r x is = inl (refl, cc)
@@ -46,7 +46,7 @@ snoc_split (y ∷ before) (c ∷ b) a r x is =
       | inr (rest, l) ↦ inr (rest, (λ i. same i ∷ l i))
     ]
 
--- the same text of the same records under the same settings
+-- the same text of the same records with the same settings
 pub written_as : (ended : Bool) {u v : Settings} {l m : List DumpRecord} {s t : List ℕ} → u ≡ v → l ≡ m → s ≡ t
     → IsWrittenText u ended l s → IsWrittenText v ended m t
 written_as ended settings lists texts =
@@ -114,14 +114,14 @@ new_knows settings = record {
   texts_is = refl;
 }
 
--- the same facts of the same record and state
+-- the same facts about the same record and state
 pub knows_as : (settings : Settings) (last last' : Option Record) (s s' : State) → KnowsAccepted settings last s
     → last' ≡ last → s' ≡ s → KnowsAccepted settings last' s'
 knows_as settings last last' s s' knows l e =
     subst (λ (x : Option Record). KnowsAccepted settings x s') (sym l)
     (subst (λ (x : State). KnowsAccepted settings last x) (sym e) knows)
 
--- the properties that are asked of a record
+-- the properties that are needed of a record
 pub asked_properties : (settings : Settings) (r : DumpRecord) (v : Verdict) → IsVerdict settings r v
     → (ps : List Property) × AreAsked settings r v ps
 asked_properties settings r v means = elim (block_or_not r) [
@@ -134,20 +134,20 @@ asked_properties settings r v means = elim (block_or_not r) [
   )
 ]
 
--- the fields of an active filter, and what is seen of it
+-- the fields of an active filter, and its view
 pub record Holds (f : Inside) (state : FilterState) : Type 0 where
   pub knows : KnowsAccepted f.options.now f.state.last (view_state f.state)
   pub view_is : record { settings = f.options.now; last = option_map seen f.state.last; active = f.active } ≡ state
   pub active : f.active ≡ true
 
--- what a call of an active filter begins with
+-- the facts at the beginning of a call of an active filter
 pub holds : (f : Inside) (state : FilterState)
     → (f.active ≡ true → KnowsAccepted f.options.now f.state.last (view_state f.state))
     → record { settings = f.options.now; last = option_map seen f.state.last; active = f.active } ≡ state
     → f.active ≡ true → Holds f state
 holds f state knows view_is active = record { knows = knows active; view_is = view_is; active = active }
 
--- what the fields of an active filter tell
+-- what the fields of an active filter give
 module _ {f : Inside} {state : FilterState} (h : Holds f state) where
   abbrev settings : Settings
   settings = f.options.now
@@ -176,7 +176,7 @@ module _ {f : Inside} {state : FilterState} (h : Holds f state) where
   count_of : length before ≡ count_up_to state.last
   count_of = count_is f.state.last before h.knows.up_to ∙ ap (λ (v : FilterState). count_up_to v.last) h.view_is
 
-  -- the text where the dump ends
+  -- the text if the dump ends here
   pub finishes : (end : List ℕ) → IsEndText settings s.revisions.kept s.group end → Finishes state end
   finishes end ends records text accepted written =
       let same = is_before records accepted in
@@ -216,7 +216,7 @@ module _ {f : Inside} {state : FilterState} (h : Holds f state) where
             texts_checked = t i;
           }
 
-  -- no count is above that of the records, so each has room for one more where the next record's number has
+  -- no count is above the number of records, so each has room for one more if the next record's number has
   pub has_room : (number : ℕ) → number ≡ count_up_to state.last → number + 1 < 2 ^ 64 → CanCountMore s
   has_room number is small =
       let count = count_of in
@@ -237,7 +237,7 @@ module _ {f : Inside} {state : FilterState} (h : Holds f state) where
         texts = omega (arith, count, is, small, texts, count_by-le-length (is_checked_text settings) before);
       }
 
-  -- a step with a record that was checked under the filter's options
+  -- a step with a record that was checked with the filter's options
   module _ (done : Done) (asked : done_settings done ≡ state.settings) where
     abbrev r : DumpRecord
     r = record_item (done_record done)
@@ -248,7 +248,7 @@ module _ {f : Inside} {state : FilterState} (h : Holds f state) where
     means : IsVerdict settings r v
     means = subst (λ (x : Settings). IsVerdict x r v) (asked ∙ sym settings_is) done.judged.verdict_is
 
-    -- the answer is decided by whatever properties are asked
+    -- the result is the decision about the record with its properties, if these are needed
     abbrev IsDecided : Result Fate FaultKind → Type 0
     IsDecided result = (ps : List Property) → AreAsked settings r v ps → result ≡ decided settings s r v ps
 
@@ -305,11 +305,11 @@ module _ {f : Inside} {state : FilterState} (h : Holds f state) where
             (λ x y. absurd x) (taken.free faults.MergeInfo))),
       )
 
-      -- a record that is held back is a revision
+      -- a record whose fate is to be held back is a revision
       pub held_is_revision : fate ≡ fates.Hold → is_revision_record r ≡ true
       held_is_revision held = (subst (IsTaken settings before s r) held taken).is.1
 
-      -- a record with a fate is accepted, with what is written of it
+      -- a record with a fate is accepted, and this is what is written for it
       pub accepts : (piece : List ℕ) → IsPiece settings s r fate piece → Accepts state r piece
       accepts piece is_piece list accepted =
           let same = is_before list accepted in (
@@ -323,7 +323,7 @@ module _ {f : Inside} {state : FilterState} (h : Holds f state) where
                 (h.knows.text ++ piece) (next piece is_piece)),
           )
 
-      -- behind the next record of the dump, with its fate, the filter's state says what it has accepted
+      -- after the next record of the dump, with its fate, the filter's state says what it has accepted
       pub next_knows : (piece : List ℕ) → IsPiece settings s r fate piece
           → IsOfSameDump state (record_dump (done_record done))
           → record_number (done_record done) ≡ count_up_to state.last

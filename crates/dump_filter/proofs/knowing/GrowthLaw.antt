@@ -1,4 +1,4 @@
--- What is written of the first records of a dump begins what is written of more of them.
+-- What is written for the first records of a dump is the beginning of what is written for more of them.
 use Rattle.dump_filter.proofs.Prelude.{◌≡◌, ℕ, Bool, true, false, List, [], ◌∷◌, ◌++◌, sym, ap, ◌∙◌, append_assoc, IsPrefixOf, DumpRecord, Settings, kept_revisions, AreFaultFree, IsWrittenText, WrittenOnlyGrows}
 use Rattle.dump_filter.proofs.knowing.OnceLemmas.{outputs_once}
 use Rattle.dump_filter.proofs.knowing.FilterLemmas.{free_none}
@@ -15,7 +15,7 @@ pub front_free : (settings : Settings) (records more : List DumpRecord) → AreF
 front_free settings records more free before after r is =
     free before (after ++ more) r (ap (λ (l : List DumpRecord). l ++ more) is ∙ append_assoc before (r ∷ after) more)
 
--- what is written of the first records begins what is written of them and more
+-- what is written for the first records is the beginning of what is written for them and more
 pub written_only_grows : WrittenOnlyGrows
 written_only_grows settings ended dump records more old new begins free was is = by_outcome
     (follow settings records more later first_free reached)

@@ -1,4 +1,4 @@
--- What is written of a list is one text.
+-- What is written for a list is one text.
 use Rattle.dump_filter.proofs.Prelude.{◌≡◌, ℕ, Bool, true, false, List, [], ◌∷◌, ◌++◌, refl, sym, ap, ap₂, ◌∙◌, subst, Some, MatchBool, codes, same_Some, spelled_number, copy_revision_name, Header, with_header_value, block_text, Property, property-eq, DumpRecord, Settings, KeptRevisions, image, one_new_value, is_revision_record, is_node, is_mergeinfo, value_of, Group, group_of, is_padded, becomes_plain, without_copy_headers, IsWrittenCopyNumber, IsNewCopy, is_copy, new_block, AreNewProperties, revision_text, whole_text, IsRevisionOutput, IsNodeOutput, IsOutput, is_written, AreOutputs, property_list_once}
 use Rattle.dump_filter.proofs.written.CopyLemmas.{AreCopyLines}
 use Rattle.dump_filter.proofs.written.PropertyOutput.{IsNewValue}
@@ -74,7 +74,7 @@ output_once settings k r after x y = cases (is_revision_record r) (is_node r)
     cases false true a b = node_once settings k r x y a b
     cases false false a b = a ∙ sym b
 
--- what is written of the same records is the same text
+-- what is written for the same records is the same text
 pub outputs_once : (settings : Settings) (ended : Bool) (k : KeptRevisions) (rs : List DumpRecord) (x y : List ℕ)
     → AreOutputs settings ended k rs x → AreOutputs settings ended k rs y → x ≡ y
 outputs_once settings ended k [] x y a b = a ∙ sym b

@@ -1,4 +1,4 @@
--- What was written of the records so far, and where they end, goes on to what is written of one more record.
+-- From what was written for the records so far, and from how they end, to what is written for one more record.
 use Rattle.dump_filter.proofs.Prelude.{◌≡◌, ℕ, ◌+◌, ◌<◌, ◌≤◌, ◌==◌, Bool, true, false, not, ◌||◌, List, [], ◌∷◌, ◌++◌, length, refl, sym, ap, ◌∙◌, subst, arith, append_assoc, length-append, Option, Some, None, All, MatchOption, if◌then◌else◌, MatchBool, ⊤, list_all, list_any, last_or, All-cons, All-nil, last_or_pushed, block_text, DumpRecord, Settings, KeptRevisions, is_revision_record, is_node, is_kept_node, HasPropertyBlock, CopyChange, Report, keeps_group, revision_number, revision_numbers, first_number, present_revision, kept_revisions, keeps_empty, IsNewCopy, ends_in_group, IsNodeOutput, copied_headers, AreOutputs, PendingRevision, PresentGroup, State, no_revisions, node_revision, NoGroup, Pending, Written, stays, pads, IsOwnRevision, IsOwnNode, IsEndText, IsFrontText, with_kept, front_kept, end_kept, with_kept_revision, with_dropped_revision, end_report, opened, ended, emptied, started, begun, takes_node, HasNoSource, is_plain, kept_numbers, dropped_groups, in_group, Shape, GoesOn, MayBecome, AreRising, AreKept, Stands, HasCounts, Fresh, Idle, Passed, Waits, false_true, first_true, second_true}
 use Rattle.std.proofs.lemmas.List.{append-nil}
 use Rattle.dump_filter.proofs.groups.GroupLemmas.{plain_node, plain_more, any_more, plain_other, passed_more, passed_end, waits_more, waits_on, waits_kept, waits_dropped, idle_end, revision_more, other_more, OwnOutput, unpadded}
@@ -12,11 +12,11 @@ abbrev pub IsReadable : PresentGroup → Type 0
 IsReadable (Pending w) = HasPropertyBlock w.revision
 IsReadable _ = Unit {0}
 
--- the number of the group's revision, where it is kept
+-- the number of the group's revision, if it is kept
 abbrev number_if : Bool → DumpRecord → List ℕ
 number_if b y = if b then revision_number y ∷ [] else []
 
--- a group without a kept node is kept where its pending revision is
+-- a group without a kept node is kept if its pending revision is
 stays_is : (settings : Settings) (y : DumpRecord) (ns : List DumpRecord) → list_any (is_kept_node settings) ns ≡ false
     → keeps_group settings (record { revision = y; nodes = ns })
     ≡ stays settings (record { revision = y; bare = length ns == 0 })
@@ -28,7 +28,7 @@ stays_is settings y ns none =
     mix true b = refl
     mix false b = refl
 
--- the first revision stays the first
+-- the first revision is still the first
 pub end_first : (settings : Settings) (kept : KeptRevisions) (group : PresentGroup)
     → (end_kept settings kept group).first ≡ kept.first
 end_first settings kept NoGroup = refl
@@ -39,7 +39,7 @@ end_first settings kept (Pending w) = by_case (stays settings w)
     by_case true = refl
     by_case false = refl
 
--- the kept revisions where the list ends
+-- the kept revisions if the list ends here
 pub ended_numbers : (settings : Settings) (before : List DumpRecord) (s : State) → Shape settings before s
     → (end_kept settings s.revisions.kept s.group).numbers ≡ kept_numbers settings before
 ended_numbers settings before s (Fresh t c) = c.numbers_are
@@ -61,7 +61,7 @@ ended_numbers settings before s (Waits t closed y ns other rev all none c) =
     by_case true = refl
     by_case false = sym (append-nil t.revisions.kept.numbers)
 
--- and those that are dropped
+-- and the dropped ones
 pub ended_dropped : (settings : Settings) (before : List DumpRecord) (s : State) → Shape settings before s
     → (end_report settings s.group s.report).revisions_dropped ≡ dropped_groups settings before
 ended_dropped settings before s (Fresh t c) = c.dropped_are
@@ -81,7 +81,7 @@ ended_dropped settings before s (Waits t closed y ns other rev all none c) =
     by_case true = let is = c.dropped_are in omega (arith, is)
     by_case false = let is = c.dropped_are in omega (arith, is)
 
--- what was written of the list so far
+-- what was written for the list so far
 abbrev IsText : Settings → List DumpRecord → State → List ℕ → Type 0
 IsText settings before s text =
     (whole : KeptRevisions) → MayBecome s whole → AreOutputs settings false whole before text
@@ -123,7 +123,7 @@ ended_text settings before s text end (Waits t closed y ns other rev all none c)
         (waits_dropped settings whole closed ns y text other rev all (written whole g) none
         (stays_is settings y ns none ∙ is))
 
--- a list ends in a group behind a revision and plain nodes
+-- a list ends in a group after a revision and plain nodes
 ends_behind : (x : DumpRecord) (ns : List DumpRecord) → ends_in_group (Some x) ≡ true → list_all is_plain ns ≡ true
     → ends_in_group (last_or (Some x) ns) ≡ true
 ends_behind x [] ends all = ends
@@ -141,7 +141,7 @@ ends_so : (first : Option DumpRecord) (closed : List DumpRecord) (y : DumpRecord
 ends_so first [] y ns rev all = ends_behind y ns (ap (λ b. b || is_node y) rev) all
 ends_so first (x ∷ closed) y ns rev all = ends_so (Some x) closed y ns rev all
 
--- a node may follow where there is a group
+-- a node may follow if there is a group
 pub ends_open : (settings : Settings) (before : List DumpRecord) (s : State) → Shape settings before s
     → ends_in_group (last_or None before) ≡ takes_node s.group
 ends_open settings before s (Fresh t c) = refl
@@ -152,7 +152,7 @@ ends_open settings before s (Waits t closed y ns other rev all none c) = ends_so
 
 -- a node in a group
 module _ (settings : Settings) (r : DumpRecord) (plain : is_plain r ≡ true) (text : List ℕ) where
-  -- a node joins the last group: neither the present revision nor the first changes
+  -- a node joins the last group: the present revision and the first one are unchanged
   joined : (t u : State) (closed ns : List DumpRecord) (y : DumpRecord) (group next : PresentGroup) (new : List ℕ)
       → Stands settings (closed ++ y ∷ ns) (in_group t group y) text → u.revisions.kept.first ≡ t.revisions.kept.first
       → Shape settings (closed ++ y ∷ (ns ++ r ∷ [])) (in_group u next y)
@@ -172,7 +172,7 @@ module _ (settings : Settings) (r : DumpRecord) (plain : is_plain r ≡ true) (t
             (written whole may);
       }
 
-  -- behind a group that is written what is written of the node is added
+  -- after a group that is written, what is written for the node is added
   joined_written : (t : State) (closed ns : List DumpRecord) (y : DumpRecord) (report : Report) (own : List ℕ)
       → is_node y ≡ false → is_revision_record y ≡ true → list_all is_plain ns ≡ true
       → list_any (is_kept_node settings) ns ≡ true
@@ -192,7 +192,7 @@ module _ (settings : Settings) (r : DumpRecord) (plain : is_plain r ≡ true) (t
       (λ whole may. passed_more settings whole closed ns y text other rev all (st.written whole may) r own plain some
       (mine whole may))
 
-  -- behind a kept node its revision, if it was pending, and the node are written, too
+  -- after a kept node its revision, if it was pending, and the node are written, too
   pub keep_stands : (before : List DumpRecord) (s : State) (copy : CopyChange) (report : Report) (front own : List ℕ)
       → Shape settings before s → Stands settings before s text → is_kept_node settings r ≡ true
       → takes_node s.group ≡ true
@@ -238,7 +238,7 @@ module _ (settings : Settings) (r : DumpRecord) (plain : is_plain r ≡ true) (t
       (below_pending kept w present st.numbers) readable (unpadded settings whole y (ns ++ r ∷ []) more) at_front)
       (node_out settings (with_kept kept y) whole present r copy own may keep good known props new at_own))
 
-  -- behind a node that isn't kept no more is written
+  -- after a node that isn't kept nothing more is written
   pub drop_stands : (before : List DumpRecord) (s : State) (report : Report)
       → Shape settings before s → Stands settings before s text → is_kept_node settings r ≡ false
       → takes_node s.group ≡ true
@@ -265,17 +265,17 @@ module _ (settings : Settings) (r : DumpRecord) (plain : is_plain r ≡ true) (t
       (record { low = up.low; rise = up.rise; below = up.below; waits = up.waits })
       (λ whole may. waits_on settings whole closed ns y text other rev all (st.written whole may) r plain none drop)
 
--- a record behind a group
+-- a record after a group
 module _ (settings : Settings) (before : List DumpRecord) (s : State) (r : DumpRecord) (other : is_node r ≡ false)
     (report : Report) (text end : List ℕ)
     (st : Stands settings before s text) (readable : IsReadable s.group)
     (ends : IsEndText settings s.revisions.kept s.group end)
     (same : report.revisions_dropped ≡ (end_report settings s.group s.report).revisions_dropped) where
-  -- the kept revisions by the present one
+  -- the kept revisions and the present one
   abbrev AreKeptAt : Option ℕ → Type 0
   AreKeptAt p = AreKept (record s.revisions { present = p }) s.group
 
-  -- behind a version or UUID record the group's end and the record are written, too
+  -- after a version or UUID record the group's end and the record are written, too
   pub pass_stands : is_revision_record r ≡ false
       → Stands settings (before ++ r ∷ []) (record (ended settings s) { report = report })
       (text ++ (end ++ block_text r.headers))
@@ -301,7 +301,7 @@ module _ (settings : Settings) (before : List DumpRecord) (s : State) (r : DumpR
       by_present None (kept_is, none) = (ap (λ g. end_kept settings s.revisions.kept g) none ∙ kept_is, refl)
       by_present (Some p) up = end_rising settings s.revisions.kept s.group p up
 
-  -- behind a revision record the end of the group before it is written, too, and the revision is pending
+  -- after a revision record the end of the group before it is written, too, and the revision is pending
   pub hold_stands : is_revision_record r ≡ true → ((p : ℕ) → s.revisions.present ≡ Some p → p < revision_number r)
       → Stands settings (before ++ r ∷ []) (record (begun (ended settings s) r) { report = report }) (text ++ end)
   hold_stands rev above = record {
@@ -348,7 +348,7 @@ module _ (settings : Settings) (before : List DumpRecord) (s : State) (r : DumpR
       closes (Some p) whole above g =
           lowered kept whole (p + 1) (revision_number r) (let low = above p refl in omega arith) g
 
--- the kept revisions of the list itself are such as may be
+-- the kept revisions of the list itself are possible ones
 pub becomes : (settings : Settings) (before : List DumpRecord) (s : State) (text : List ℕ)
     → Stands settings before s text → MayBecome s (kept_revisions settings before)
 becomes settings before s text st = by_shape before s st.shape st.first_is
@@ -391,7 +391,7 @@ becomes settings before s text st = by_shape before s st.shape st.first_is
             (All-nil (λ n. revision_number y ≤ n))
         by_case false = All-nil (λ n. revision_number y ≤ n)
 
--- and so they are where the list ends
+-- and so they are if the list ends here
 pub becomes_ended : (settings : Settings) (before : List DumpRecord) (s : State) (text : List ℕ)
     → Stands settings before s text → MayBecome (ended settings s) (kept_revisions settings before)
 becomes_ended settings before s text st = by_present s.revisions.present

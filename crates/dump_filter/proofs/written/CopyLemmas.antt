@@ -1,8 +1,8 @@
--- The new copy source of a kept node, and the image of a number behind a pending revision.
+-- The new copy source of a kept node, and the image of a number after a pending revision.
 use Rattle.dump_filter.proofs.Prelude.{◌≡◌, ℕ, ◌+◌, ◌<◌, ◌≤◌, length, true, refl, sym, ap, subst, Option, Some, None, is_some, MatchOption, Bool, List, MatchBool, spelled_number, copy_revision_name, Header, with_header_value, header_number, Settings, KeptRevisions, image, image_pushed, image_at_pushed, length_fits, revision_number, IsWrittenCopyNumber, Revisions, PendingRevision, PresentGroup, no_revisions, NoGroup, Pending, absurd_bool, front_kept, takes_node, AreRising, AreKept}
 use Rattle.dump_filter.proofs.groups.KeptLemmas.{below_pending}
 
--- the lines of a copy with its source's new number, and those of no copy as they stood
+-- the lines of a copy with the new number of its source, and the unchanged lines of a node that is no copy
 abbrev pub AreCopyLines : Settings → KeptRevisions → List Header → Bool → List Header → Type 0
 AreCopyLines settings kept old copies new =
     MatchBool copies
@@ -14,7 +14,7 @@ AreCopyLines settings kept old copies new =
 no_pending : (w : PendingRevision) → Pending w ≡ NoGroup → ⊥
 no_pending w e = cc
 
--- where a revision is pending, it is the present one
+-- if a revision is pending, it is the present one
 pub pending_rising : (revisions : Revisions) (w : PendingRevision) → AreKept revisions (Pending w)
     → AreRising revisions.kept (revision_number w.revision) (Pending w)
 pending_rising revisions w = by_present revisions.present
@@ -45,7 +45,7 @@ pub image_before_pending : (kept : KeptRevisions) (w : PendingRevision) (n : ℕ
     → image (front_kept kept (Pending w)) n ≡ image kept n
 image_before_pending kept w n low = image_pushed kept (revision_number w.revision) n low
 
--- where a node may come next there is a present revision
+-- if the next record may be a node, there is a present revision
 pub present_there : (revisions : Revisions) (group : PresentGroup) → AreKept revisions group → takes_node group ≡ true
     → is_some revisions.present ≡ true
 present_there revisions group kept taken = cases revisions.present kept

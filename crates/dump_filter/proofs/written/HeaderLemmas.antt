@@ -1,4 +1,4 @@
--- A name that no header line has: the length is 0.
+-- If no header line has a name, its length is 0.
 use Rattle.dump_filter.proofs.Prelude.{◌≡◌, ℕ, false, List, sym, ap, unwrap_or, Header, has_header, header_length, no_number}
 
 -- a header that isn't there gives no length

@@ -3,7 +3,7 @@ use Rattle.dump_filter.proofs.Prelude.{◌≡◌, ℕ, ◌==◌, Bool, true, fal
 use Rattle.std.proofs.lemmas.List.{append-nil}
 use Rattle.dump_filter.proofs.again.LineChanges.{of_name, of_length, put_has, put_absent, same_has, go_change}
 
--- the line, with this number if it has this name and there is a number
+-- the line, with this number if the line has this name and there is a number
 abbrev put : List ℕ → Option ℕ → Header → Header
 put name o h = if is_named name h then with_number h o else h
 
@@ -20,7 +20,7 @@ put_all-map name (Some n) headers = λ i. map (λ h. one h i) headers
     one h = of_name name h (λ h. (if is_named name h then numbered name n else h) ≡ put name (Some n) h)
         (λ is. refl) (λ is. rw is refl)
 
--- one number more in lines that are seen one by one
+-- one more number in lines that are seen one by one
 more : (name : List ℕ) (o : Option ℕ) (f : Header → Header) (lines headers : List Header) → lines ≡ map f headers
     → put_all name o lines ≡ map (λ h. put name o (f h)) headers
 more name o f lines headers is =
@@ -54,7 +54,7 @@ each c h =
     on_copy None = refl
     on_copy (Some n) = refl
 
--- a copy that stays one loses no line
+-- a copy that remains one loses no line
 all_stay : (headers : List Header) → filter (λ h. true) headers ≡ headers
 all_stay [] = refl
 all_stay (h ∷ headers) = ap (λ (t : List Header). h ∷ t) (all_stay headers)
@@ -77,7 +77,7 @@ put_all_has : (other name : List ℕ) (o : Option ℕ) (headers : List Header)
 put_all_has other name None headers = refl
 put_all_has other name (Some n) headers = put_has other name (spelled_number n) headers
 
--- a length's line, where it was or last
+-- the line of a length, at its old place or at the end
 length_is : (name : List ℕ) (n : ℕ) (headers : List Header)
     → with_length name n headers ≡ with_header_value name (spelled_number n) headers ++ added name n headers
 length_is name n headers = of_length name n headers
@@ -102,7 +102,7 @@ added_same : (name : List ℕ) (n : ℕ) (old new : List Header) → has_header 
 added_same name n old new same = ap (λ b. if b then [] else if n == 0 then [] else numbered name n ∷ []) same
 
 module _ (c : Changes) (headers : List Header) where
-  -- the lines under their numbers, then with the length of the properties, and of the text; and the line that is added
+  -- the lines with their numbers, then with the length of the properties, and of the text; and the line that is added
   abbrev base : List Header
   base = put_all revision_name c.revision (copied_headers c.copy headers)
 
@@ -158,7 +158,7 @@ module _ (c : Changes) (headers : List Header) where
       ∙ (λ i. (put_missing content_length_name c.content text refl
       ∙ ap (λ (t : List Header). t ++ missing) all_put) i ++ added_same content_length_name c.content headers (text ++ missing) content_has i)
 
-  -- the lines that are written, under the lengths of what follows them
+  -- the lines that are written, with the lengths of what follows them
   pub lengths_are : (ps bytes : List ℕ) → AreLengths ps bytes c → new_headers c headers
       ≡ with_lengths ps bytes (put_all revision_name c.revision (copied_headers c.copy headers))
   lengths_are ps bytes lengths = λ i. with_length content_length_name (lengths.content_is i)

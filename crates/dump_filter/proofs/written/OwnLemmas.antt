@@ -1,11 +1,11 @@
--- What is written of a record by itself is its output, in whatever way the dump goes on.
+-- The text of a record alone is what is written for it, whichever records follow.
 use Rattle.dump_filter.proofs.Prelude.{◌≡◌, ℕ, ◌+◌, ◌<◌, ◌≤◌, ◌==◌, Bool, true, false, not, ◌&&◌, List, [], ◌∷◌, length, refl, sym, ap, ap₂, ◌∙◌, subst, arith, inl, inr, suc, Some, All, Contains, MatchBool, list_any, leb_tells, copy_revision_name, Header, Property, header_number, DumpRecord, Settings, KeptRevisions, image, IsNewMergeinfo, HasForeignNumber, later_revisions, is_kept_node, is_mergeinfo, value_of, HasPropertyBlock, CopyChange, is_bare, is_pad, is_padded, revision_number, becomes_plain, stays_copy, without_copy_headers, IsWrittenCopyNumber, IsNewCopy, is_copy, AreNewProperties, IsRevisionOutput, IsNodeOutput, copied_headers, revision_own, pads, IsOwnRevision, IsOwnNode, HasNoSource, GoesOn, both_true, not_false}
 use Rattle.dump_filter.proofs.groups.KeptLemmas.{all_weaker, whole_is, next_written, image_kept}
 use Rattle.dump_filter.proofs.answer.MergeLemmas.{IsForeign}
 use Rattle.dump_filter.proofs.written.CopyLemmas.{AreCopyLines}
 use Rattle.dump_filter.proofs.written.PropertyOutput.{IsNewValue}
 
--- a revision's own text is what is written of it, whatever revisions are kept later
+-- a revision's own text is what is written for it, whichever revisions are kept later
 pub revision_out : (settings : Settings) (kept : KeptRevisions) (from : ℕ) (whole : KeptRevisions) (y : DumpRecord)
     (ns : List DumpRecord) (padded : Bool) (text : List ℕ)
     → GoesOn kept from whole → revision_number y ≤ from → All (λ n. n < revision_number y) kept.numbers
@@ -20,7 +20,7 @@ revision_out settings kept from whole y ns padded text g low below (ps, block) p
       ∙ ap₂ (λ n b. revision_own y n b ps) (sym (next_written settings kept from whole y g low below)) (sym pad),
 )
 
--- a group without a kept node is padded where its pending revision is
+-- a group without a kept node is padded if its pending revision is
 pub pads_is : (settings : Settings) (y : DumpRecord) (ns : List DumpRecord)
     → list_any (is_kept_node settings) ns ≡ false
     → is_padded settings (record { revision = y; nodes = ns })
@@ -34,7 +34,7 @@ pads_is settings y ns none =
     short true c d = refl
     short false c d = refl
 
--- a copy's source where the dump goes on
+-- a copy's source if the dump goes on
 new_copy_kept : (settings : Settings) (kept whole : KeptRevisions) (present : ℕ) (r : DumpRecord)
     (headers : List Header) → GoesOn kept (present + 1) whole
     → ¬ HasNoSource settings kept present r → IsNewCopy settings kept r headers → IsNewCopy settings whole r headers
@@ -76,7 +76,7 @@ new_copy_kept settings kept whole present r headers g good new = by_plain (becom
     by_plain true plain lines = rw plain lines
     by_plain false plain h = rw plain (by_copy plain (is_copy r) refl h)
 
--- new values of mergeinfo where the dump goes on
+-- new values of mergeinfo if the dump goes on
 properties_kept : (settings : Settings) (kept whole : KeptRevisions) (present : ℕ) → GoesOn kept (present + 1) whole
     → (ps new : List Property)
     → ((p : Property) → Contains ps p → is_mergeinfo p ≡ true → ¬ HasForeignNumber settings kept present (value_of p))
@@ -103,7 +103,7 @@ properties_kept settings kept whole present g (p ∷ ps) (q ∷ new) known ((nam
     by_case true is (v, set, new_value) = (v, set, moved (known p (0, omega arith, refl) is) v new_value)
     by_case false is new_value = new_value
 
--- a kept node's own text is what is written of it, whatever revisions are kept later
+-- a kept node's own text is what is written for it, whichever revisions are kept later
 pub node_out : (settings : Settings) (kept whole : KeptRevisions) (present : ℕ) (r : DumpRecord) (copy : CopyChange)
     (text : List ℕ) → GoesOn kept (present + 1) whole
     → is_kept_node settings r ≡ true → ¬ HasNoSource settings kept present r → ¬ IsForeign settings kept present r

@@ -1,13 +1,13 @@
--- What is written of the properties of a record.
+-- What is written for the properties of a record.
 use Rattle.dump_filter.proofs.Prelude.{◌≡◌, ℕ, ◌<◌, ◌^◌, suc, Bool, true, false, List, [], ◌∷◌, ◌++◌, length, flat_map, refl, sym, ap, ◌∙◌, subst, arith, append_assoc, inl, inr, codes, bytes_eq, Option, Some, None, unwrap_or, IsTrue, MatchBool, list_any, nil_from_length, flat_map-append, bytes_eq-Decides, property_length_name, has_header, IsWritten, Property, IsEntry, IsPropertyBlock, block_end, entry_text, property_block_text, HasPropertyChanges, property_value, entry_parts, left_of, property_block_once, written_list, header_number, property_length, DumpRecord, Settings, KeptRevisions, HasMergeLines, IsNewMergeinfo, is_mergeinfo, value_of, HasPropertyList, padding_log, padding_properties, IsNewProperty, AreNewProperties, new_block, property_of, dated_padding, HasGoodMergeinfo, Props, props_bytes, first_false, second_false, no_number}
 use Rattle.std.proofs.lemmas.List.{append-nil}
 
--- the rest of a list is written behind what stands already
+-- the rest of a list is written after what is already there
 abbrev pub IsLeftOf : List ℕ → List ℕ → List ℕ → Type 0
 IsLeftOf block out rest = (ps : List Property) → IsPropertyBlock block ps
     → (qs : List Property) × IsPropertyBlock rest qs × (property_block_text ps ≡ out ++ property_block_text qs)
 
--- with one more entry written, what is left of the list is the rest behind it
+-- with one more entry written, the rest of the list is the rest after it
 pub next_left : (block out text rest new : List ℕ) (p : Property) (front : List ℕ) → IsLeftOf block out text
     → text ≡ front ++ rest → IsEntry front p → new ≡ out ++ entry_text p → IsLeftOf block new rest
 next_left block out text rest new p front before cut one new_is = λ ps is.
@@ -21,7 +21,7 @@ next_left block out text rest new p front before cut one new_is = λ ps is.
           ∙ sym (append_assoc out (entry_text p) more) ∙ ap (λ t. t ++ more) (sym new_is),
     )
 
--- where no entry is left, the entries written and the end line are the text of the list
+-- if no entry is left, the written entries and the end line are the text of the list
 pub none_left : (block out rest new : List ℕ) → IsLeftOf block out rest → IsPropertyBlock rest []
     → new ≡ out ++ block_end
     → (ps : List Property) → IsPropertyBlock block ps → new ≡ property_block_text ps
@@ -30,13 +30,13 @@ none_left block out rest new before end new_is = λ ps is.
     let none : qs ≡ [] = property_block_once rest qs [] here end in
     new_is ∙ sym (same ∙ ap (λ (l : List Property). out ++ property_block_text l) none)
 
--- bytes that are spelled as they are written are the spelling of their own list
+-- a block that is spelled as the filter writes it is the text of its own list
 pub own_spelling : (block : List ℕ) → length block < 2 ^ 64 → IsWritten block
     → (ps : List Property) → IsPropertyBlock block ps → block ≡ property_block_text ps
 own_spelling block small (qs, spelled) = λ ps is.
     spelled ∙ ap property_block_text (sym (written_list block ps qs small is spelled))
 
--- the properties of an empty revision are those of the first date that there is
+-- the properties of a padded revision are those of the first date that there is
 pub padding_is : (ps : List Property) → padding_properties ps ≡ dated_padding (property_value (codes "svn:date") ps)
 padding_is [] = refl
 padding_is (p ∷ ps) = cases (padding_is ps) (bytes_eq p.name (codes "svn:date")) refl p.value refl
@@ -49,7 +49,7 @@ padding_is (p ∷ ps) = cases (padding_is ps) (bytes_eq p.name (codes "svn:date"
     cases others true is None none = rw (is, none) others
     cases others false is v any = rw is others
 
--- the value is the property's or, of mergeinfo, a new one
+-- the value of the property or, if it is mergeinfo, a new one
 abbrev pub IsNewValue : Settings → KeptRevisions → Property → Option (List ℕ) → Bool → Type 0
 IsNewValue settings kept p value merge =
     MatchBool merge ((v : List ℕ) × (value ≡ Some v) × IsNewMergeinfo settings kept (value_of p) v) (value ≡ p.value)
@@ -59,13 +59,13 @@ pub unchanged : (settings : Settings) (kept : KeptRevisions) (p : Property) → 
     → IsNewProperty settings kept p p
 unchanged settings kept p other = (refl, rw other refl)
 
--- mergeinfo with its new value is what is written of that property
+-- mergeinfo with its new value is what is written for that property
 pub with_new_value : (settings : Settings) (kept : KeptRevisions) (p : Property) (value : List ℕ)
     → is_mergeinfo p ≡ true
     → IsNewMergeinfo settings kept (value_of p) value → IsNewProperty settings kept p (property_of p.name value)
 with_new_value settings kept p value merge is = (refl, rw merge (value, refl, is))
 
--- no property of the list is mergeinfo, so it is its own new list
+-- if no property of the list is mergeinfo, the list is its own new list
 pub no_mergeinfo : (settings : Settings) (kept : KeptRevisions) (ps : List Property) → list_any is_mergeinfo ps ≡ false
     → AreNewProperties settings kept ps ps
 no_mergeinfo settings kept [] none = tt
@@ -74,7 +74,7 @@ no_mergeinfo settings kept (p ∷ ps) none = (
   no_mergeinfo settings kept ps (second_false (is_mergeinfo p) (list_any is_mergeinfo ps) none),
 )
 
--- the properties up to the rest of a block, with new values, are written behind what stands already
+-- the properties up to the rest of a block, with new values, are written after what is already there
 abbrev pub AreRewritten : Settings → KeptRevisions → List ℕ → List ℕ → List ℕ → Type 0
 AreRewritten settings kept block out rest = (ps : List Property) → IsPropertyBlock block ps
     → (qs done new : List Property) × IsPropertyBlock rest qs × (ps ≡ done ++ qs)
@@ -95,7 +95,7 @@ one_more settings kept [] (y ∷ qs) p q all one = absurd all
 one_more settings kept (x ∷ ps) [] p q all one = absurd all
 one_more settings kept (x ∷ ps) (y ∷ qs) p q all one = (all.0, one_more settings kept ps qs p q all.1 one)
 
--- with one more entry written under its new value, what is left of the block is the rest behind it
+-- with one more entry written with its new value, the rest of the block is the rest after it
 pub next_rewritten : (settings : Settings) (kept : KeptRevisions) (block out text rest after : List ℕ) (p : Property)
     (front : List ℕ) → AreRewritten settings kept block out text
     → text ≡ front ++ rest → IsEntry front p → (q : Property) → IsNewProperty settings kept p q
@@ -115,7 +115,7 @@ next_rewritten settings kept block out text rest after p front before cut one q 
           ∙ sym (flat_map-append entry_text new (q ∷ [])),
     )
 
--- where no entry is left, the entries written and the end line are the text of the new properties
+-- if no entry is left, the written entries and the end line are the text of the new properties
 pub all_rewritten : (settings : Settings) (kept : KeptRevisions) (block out rest after : List ℕ)
     → AreRewritten settings kept block out rest → IsPropertyBlock rest []
     → after ≡ out ++ block_end → (ps : List Property) → IsPropertyBlock block ps
@@ -130,7 +130,7 @@ all_rewritten settings kept block out rest after before end after_is = λ ps is.
           ∙ ap (λ t. t ++ block_end) written,
     )
 
--- the mergeinfo of what is left of a block is some lines
+-- the mergeinfo in the rest of a block is lines of mergeinfo
 pub left_lines : (block rest front : List ℕ) (p : Property) → HasGoodMergeinfo block → block ≡ front ++ rest
     → IsEntry front p → HasGoodMergeinfo rest
 left_lines block rest front p lines cut one ps is q (i, within, at) = elim is [
@@ -138,7 +138,7 @@ left_lines block rest front p lines cut one ps is q (i, within, at) = elim is [
   | inr more ↦ lines (p ∷ ps) (inr (front, rest, cut, one, more)) q (suc i, omega arith, at)
 ]
 
--- a mergeinfo entry's value is some lines, where each of the block's is
+-- the value of a mergeinfo entry is lines of mergeinfo, if each one in the block is
 pub entry_lines : (block rest front : List ℕ) (p : Property) → HasGoodMergeinfo block → HasPropertyChanges block
     → block ≡ front ++ rest → IsEntry front p → IsTrue (is_mergeinfo p) → ¬ ¬ HasMergeLines (value_of p)
 entry_lines block rest front p lines (ps, is) cut one merge =
@@ -150,7 +150,7 @@ pub read_block : (r : DumpRecord) (p : Props) → props_bytes p ≡ r.props → 
     → IsPropertyBlock (props_bytes p) ps
 read_block r p is ps list = subst (λ (t : List ℕ). IsPropertyBlock t ps) (sym is) list.0
 
--- the block of a record with a length for its properties, and without
+-- the block of a record that has a length for its properties, and of one that has none
 pub block_with : (r : DumpRecord) (ps : List Property) → has_header property_length_name r.headers ≡ true
     → property_block_text ps ≡ new_block false r ps
 block_with r ps has = rw has refl
@@ -163,7 +163,7 @@ no_bytes r none size =
     sym (no_number property_length_name r.headers none) in
     nil_from_length r.props (size ∙ ap (λ (n : Option ℕ). unwrap_or n 0) number)
 
--- a record without a property length that isn't padded gets no property block, and has none
+-- a record without a property length that isn't padded gets no property block
 pub block_without : (r : DumpRecord) (ps : List Property) → has_header property_length_name r.headers ≡ false
     → length r.props ≡ property_length r.headers → r.props ≡ new_block false r ps
 block_without r ps none size = rw none (no_bytes r none size)

@@ -1,16 +1,16 @@
--- A block that is written as it stands: under its own numbers and lengths, spelled as they are written.
+-- A block that is written unchanged: its numbers and lengths stay, and are spelled as the filter writes them.
 use Rattle.dump_filter.proofs.Prelude.{◌≡◌, ℕ, ◌+◌, ◌==◌, nat_eq, nat_le, Bool, true, false, not, ◌&&◌, ◌||◌, List, length, refl, sym, ap, ◌∙◌, Option, Some, None, is_none, unwrap_or, option_and_then, option_eq, eqb-true, not-false, bytes_eq-Decides, number_of, spelled_number, revision_name, copy_revision_name, property_length_name, text_length_name, content_length_name, Header, has_header, count_named, header_value, first_true, second_true, first_false, second_false, false_true, not_so, absurd_bool, header_number, header_length, property_length, text_length, has_bad_number, has_bad_lengths, are_spelled, is_spelled, are_written, DumpRecord, BeginsWithRecord, keeps, CopyChange, Same, Renumbered, Dropped, Changes, with_lengths, AreLengths, StaysCopied, copied_headers, new_headers, put_all}
 use Rattle.dump_filter.proofs.written.HeaderLemmas.{no_length}
 use Rattle.dump_filter.proofs.again.LineChanges.{IsTold, put_same}
 use Rattle.dump_filter.proofs.again.Headers.{AreTold, known_once, lengths_again}
 use Rattle.dump_filter.proofs.written.LineLemmas.{lengths_are}
 
--- a number that is told the same as another one is that one
+-- an optional number that passes the test for another number is that number
 pub same_number : (x : Option ℕ) (n : ℕ) → option_eq nat_eq x (Some n) ≡ true → x ≡ Some n
 same_number None n same = absurd (false_true same)
 same_number (Some m) n same = ap Some (eqb-true m n same)
 
--- what a number is that is there and is written as it stands
+-- a number that is there and is written unchanged
 spelled_value : (name : List ℕ) (n : ℕ) (headers : List Header) → is_spelled name headers ≡ true
     → header_number name headers ≡ Some n
     → header_value name headers ≡ Some (spelled_number n)
@@ -40,7 +40,7 @@ there name headers has good = by_number (header_number name headers) refl
     by_number None is = absurd (absurd_bool (has_header name headers && is_none (header_number name headers))
         (rw (has, is) refl) good)
 
--- a length that is written as it stands is told
+-- the line of a length that is written unchanged has that length
 told_of : (name : List ℕ) (n : ℕ) (headers : List Header) → is_spelled name headers ≡ true
     → (has_header name headers && is_none (header_number name headers)) ≡ false
     → (has_header name headers ≡ true → header_length name headers ≡ n) → (has_header name headers ≡ false → n ≡ 0)
@@ -54,7 +54,7 @@ told_of name n headers spelled good is none = by_case (has_header name headers) 
         rw has (spelled_value name n headers spelled (number ∙ ap (λ k. Some k) same))
     by_case false has = rw has (none has)
 
--- which numbers of a lawful block are there
+-- which numbers a block without a broken rule has
 record AreGood (headers : List Header) : Type 0 where
   pub props : (has_header property_length_name headers && is_none (header_number property_length_name headers)) ≡ false
   pub text : (has_header text_length_name headers && is_none (header_number text_length_name headers)) ≡ false
@@ -69,7 +69,7 @@ are_good headers good =
       content = first_false _ _ (second_false _ _ (second_false _ _ lengths));
     }
 
--- the parts of what it is to be written as it stands
+-- the conditions under which a block is written unchanged
 record AreParts (headers : List Header) : Type 0 where
   pub revision : is_spelled revision_name headers ≡ true
   pub copy : is_spelled copy_revision_name headers ≡ true
@@ -99,7 +99,7 @@ parts_of headers written =
       there = second_true (r && c && p && t && k) h written;
     }
 
--- the lengths of a record whose block is written as it stands are told
+-- if the block of a record is written unchanged, its lines have the lengths of its content
 told_all : (number : ℕ) (text : List ℕ) (r : DumpRecord) (after : List ℕ) → BeginsWithRecord number text r after
     → are_written r.headers ≡ true → AreTold r.props r.text r.headers
 told_all number text r after b written =
@@ -133,7 +133,7 @@ told_all number text r after b written =
         (header_length content_length_name r.headers == property_length r.headers + text_length r.headers)) has)
         ∙ ok))
 
--- a number that stands already is put to no effect
+-- to put a number that is already there has no effect
 put_known : (name : List ℕ) (o : Option ℕ) (headers : List Header) → nat_le (count_named name headers) 1 ≡ true
     → is_spelled name headers ≡ true
     → ((n : ℕ) → o ≡ Some n → header_number name headers ≡ Some n) → put_all name o headers ≡ headers
@@ -148,7 +148,7 @@ copy_put (Renumbered n) headers few spelled same =
     put_same copy_revision_name (spelled_number n) headers few (spelled_value copy_revision_name n headers spelled same)
 copy_put Dropped headers few spelled same = absurd same
 
--- the block of a record under its own numbers and lengths, all of them written as they stand
+-- the block of a record, if it has its own numbers and lengths and all of them are written unchanged
 pub stands_as_written : (number : ℕ) (text : List ℕ) (r : DumpRecord) (after : List ℕ) (c : Changes)
     → BeginsWithRecord number text r after
     → are_written r.headers ≡ true → AreLengths r.props r.text c

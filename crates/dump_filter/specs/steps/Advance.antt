@@ -1,4 +1,5 @@
--- What the fate of one record does to a filter: what is written, what is held behind the record, and what is counted.
+-- How the fate of a record changes a filter: what is written, what the filter stores after the record, and what it
+-- counts.
 use Rattle.std.specs.Prelude.{◌≡◌, ℕ, ◌+◌, ◌==◌, Bool, true, false, not, ◌&&◌, ◌||◌, List, [], ◌∷◌, ◌++◌, length, Option, Some, None, if◌then◌else◌, MatchBool}
 use Rattle.dump_text.specs.HeaderBlock.{block_text}
 use Rattle.dump_text.specs.PropertyList.{Property}
@@ -16,73 +17,73 @@ use Rattle.dump_filter.specs.declared.fate.Fate.TheVariants as fates
 use Rattle.dump_filter.specs.declared.report.Report.{Report}
 use Rattle.dump_digest.specs.RecordParts.{HasPropertyList}
 
--- whether the options keep a revision whose group ends so
+-- whether the options keep a pending revision if its group ends now
 abbrev pub stays : Settings → PendingRevision → Bool
 stays settings w = revision_number w.revision == 0 || keeps_empty settings.empty w.bare
 
--- whether a revision whose group ends so is padded
+-- whether a pending revision is padded if its group ends now
 abbrev pub pads : Settings → PendingRevision → Bool
 pads settings w = not w.bare && is_pad settings.empty && not settings.preserve
 
--- the number under which a revision above all kept ones is written
+-- the number with which a revision above all kept ones is written
 abbrev pub next_number : Settings → KeptRevisions → DumpRecord → ℕ
 next_number settings kept r = if settings.renumber then kept.first + length kept.numbers else revision_number r
 
--- the text is a revision, of whatever properties it has
+-- the text is what is written for a revision, whichever properties it has
 abbrev pub IsOwnRevision : Settings → KeptRevisions → DumpRecord → Bool → List ℕ → Type 0
 IsOwnRevision settings kept r padded text = (ps : List Property) → HasPropertyList r ps
     → text ≡ revision_own r (next_number settings kept r) padded ps
 
--- the text is a node with new values of mergeinfo, of whatever properties it has
+-- the text is what is written for a node with new values of mergeinfo, whichever properties it has
 abbrev pub IsOwnNode : Settings → KeptRevisions → DumpRecord → CopyChange → List ℕ → Type 0
 IsOwnNode settings kept r copy text = (ps : List Property) → HasPropertyList r ps
     → (new : List Property) × AreNewProperties settings kept ps new × (text ≡ node_own r copy new)
 
--- what is written where the present group ends
+-- the text is what is written when the present group ends
 abbrev pub IsEndText : Settings → KeptRevisions → PresentGroup → List ℕ → Type 0
 IsEndText settings kept (Pending w) text =
     MatchBool (stays settings w) (IsOwnRevision settings kept w.revision (pads settings w) text) (text ≡ [])
 IsEndText settings kept _ text = text ≡ []
 
--- what is written of a pending revision before its first kept node
+-- the text is what is written of a pending revision before its first kept node
 abbrev pub IsFrontText : Settings → KeptRevisions → PresentGroup → List ℕ → Type 0
 IsFrontText settings kept (Pending w) text = IsOwnRevision settings kept w.revision false text
 IsFrontText settings kept _ text = text ≡ []
 
--- one more kept revision
+-- the kept revisions with one more
 abbrev pub with_kept : KeptRevisions → DumpRecord → KeptRevisions
 with_kept kept r = record kept { numbers = kept.numbers ++ revision_number r ∷ [] }
 
--- the kept revisions where a pending one is kept for its node
+-- the kept revisions if a pending one is kept for its node
 abbrev pub front_kept : KeptRevisions → PresentGroup → KeptRevisions
 front_kept kept (Pending w) = with_kept kept w.revision
 front_kept kept _ = kept
 
--- the kept revisions where the present group ends
+-- the kept revisions after the present group has ended
 abbrev pub end_kept : Settings → KeptRevisions → PresentGroup → KeptRevisions
 end_kept settings kept (Pending w) = if stays settings w then with_kept kept w.revision else kept
 end_kept settings kept _ = kept
 
--- one more kept revision is counted
+-- the counts with one more kept revision
 abbrev pub with_kept_revision : Report → Report
 with_kept_revision report = record report { revisions_kept = report.revisions_kept + 1 }
 
--- one more dropped revision is counted
+-- the counts with one more dropped revision
 abbrev pub with_dropped_revision : Report → Report
 with_dropped_revision report = record report { revisions_dropped = report.revisions_dropped + 1 }
 
--- the counts where a pending revision is kept for its node
+-- the counts if a pending revision is kept for its node
 abbrev pub front_report : PresentGroup → Report → Report
 front_report (Pending w) report = with_kept_revision report
 front_report _ report = report
 
--- the counts where the present group ends
+-- the counts after the present group has ended
 abbrev pub end_report : Settings → PresentGroup → Report → Report
 end_report settings (Pending w) report =
     if stays settings w then with_kept_revision report else with_dropped_revision report
 end_report settings _ report = report
 
--- what is held where the present group has a kept node
+-- the state after the present group has a kept node
 abbrev pub opened : State → State
 opened s = record {
   group = Written;
@@ -90,7 +91,7 @@ opened s = record {
   report = front_report s.group s.report;
 }
 
--- what is held where the present group ends
+-- the state after the present group has ended
 abbrev pub ended : Settings → State → State
 ended settings s = record {
   group = NoGroup;
@@ -98,17 +99,17 @@ ended settings s = record {
   report = end_report settings s.group s.report;
 }
 
--- the group behind a dropped node
+-- the group after a node of it was dropped
 abbrev pub emptied : PresentGroup → PresentGroup
 emptied (Pending w) = Pending (record { revision = w.revision; bare = false })
 emptied group = group
 
--- the kept revisions behind the dump's first revision, or behind another
+-- the kept revisions after the dump's first revision, or after a later one
 abbrev pub started : Option ℕ → DumpRecord → KeptRevisions → KeptRevisions
 started None r kept = record { first = revision_number r; numbers = [] }
 started (Some present) r kept = kept
 
--- what is held where this revision begins a group
+-- the state after this revision begins a group
 abbrev pub begun : State → DumpRecord → State
 begun s r = record {
   group = Pending (record { revision = r; bare = true });
@@ -119,7 +120,7 @@ begun s r = record {
   report = s.report;
 }
 
--- what is held behind a record of this fate, but for the count of texts
+-- the state after a record with this fate, without the count of checked texts
 abbrev pub fate_state : Settings → State → DumpRecord → Fate → State
 fate_state settings s r (fates.Keep copy) =
     let t = opened s in record t { report = record t.report { nodes_kept = t.report.nodes_kept + 1 } }
@@ -130,18 +131,18 @@ fate_state settings s r fates.Drop = record s {
 fate_state settings s r fates.Hold = begun (ended settings s) r
 fate_state settings s r fates.Pass = ended settings s
 
--- the count of checked texts with one more, if it was checked
+-- the count of checked texts, with one more if the text was checked
 abbrev pub text_count : Bool → Report → ℕ
 text_count checked report = if checked then report.texts_checked + 1 else report.texts_checked
 
--- what is held behind a record of this fate, whose text was checked or not
+-- the state after a record with this fate, whose text was checked or not
 abbrev pub next_state : Settings → State → DumpRecord → Fate → Bool → State
 next_state settings s r fate checked =
     let t = fate_state settings s r fate in record t {
       report = record t.report { texts_checked = text_count checked s.report };
     }
 
--- what is written where a record of this fate comes next
+-- the text is what is written for the next record, if it has this fate
 abbrev pub IsPiece : Settings → State → DumpRecord → Fate → List ℕ → Type 0
 IsPiece settings s r (fates.Keep copy) text = (front own : List ℕ) × (text ≡ front ++ own)
     × IsFrontText settings s.revisions.kept s.group front

@@ -1,4 +1,4 @@
--- The fate of the record that comes next, or its fault.
+-- The fate of the next record, or its fault.
 use Rattle.std.specs.Prelude.{◌≡◌, ◌⊎◌, ℕ, ◌<◌, Bool, true, false, not, ◌&&◌, List, Option, Some, None, nat_lt, Result, Ok, Err, if◌then◌else◌, IsTrue}
 use Rattle.dump_text.specs.declared.fault.FaultKind.{FaultKind}
 use Rattle.dump_text.specs.declared.fault.FaultKind.TheVariants.{Order, Props, Md5, Sha1, CopySource, CopyRevision}
@@ -23,7 +23,7 @@ use Rattle.dump_filter.specs.steps.State.{PresentGroup, State, node_revision}
 use Rattle.dump_filter.specs.steps.State.PresentGroup.{NoGroup}
 use Rattle.dump_filter.specs.steps.Advance.{front_kept}
 
--- whether a node may come next
+-- whether the next record may be a node
 abbrev pub takes_node : PresentGroup → Bool
 takes_node NoGroup = false
 takes_node _ = true
@@ -39,40 +39,40 @@ is_in_order s r =
     if is_node r then takes_node s.group
     else if is_revision_record r then rises s.revisions.present (revision_number r) else true
 
--- whether a node is copied from a path that isn't kept, and can't stand alone
+-- whether a node is copied from a path that isn't kept, and needs its source
 abbrev pub is_orphan : Settings → DumpRecord → Bool
 is_orphan settings r = has_lost_source settings r && not (is_whole_file r)
 
--- a copy's revision has no image, or is above the present one
+-- the revision of a copy has no image, or is above the present one
 abbrev pub HasNoSource : Settings → KeptRevisions → ℕ → DumpRecord → Type 0
 HasNoSource settings kept present r = IsTrue (settings.renumber && stays_copy settings r)
     × (number : ℕ) × (header_number copy_revision_name r.headers ≡ Some number)
     × ((image kept number ≡ None) ⊎ (present < number))
 
--- a copy of the revision with this image
+-- a copy of the revision with this image, if there is one
 abbrev pub imaged : Option ℕ → Result CopyChange FaultKind
 imaged None = Err CopyRevision
 imaged (Some n) = Ok (Renumbered n)
 
--- what becomes of the source of a kept node that stays a copy of this revision, if it is one
+-- what the filter does with the source of a kept node that remains a copy of this revision, if there is one
 abbrev pub source_change : Settings → KeptRevisions → ℕ → Option ℕ → Result CopyChange FaultKind
 source_change settings kept present None = Ok Same
 source_change settings kept present (Some number) =
     if settings.renumber then (if nat_lt present number then Err CopyRevision else imaged (image kept number))
     else Ok (Renumbered number)
 
--- what becomes of the copy source of a kept node, or its fault
+-- what the filter does with the copy source of a kept node, or its fault
 abbrev pub copy_change : Settings → KeptRevisions → ℕ → DumpRecord → Result CopyChange FaultKind
 copy_change settings kept present r =
     if has_lost_source settings r then (if is_whole_file r then Ok Dropped else Err CopySource)
     else source_change settings kept present (part_of_node r (header_number copy_revision_name r.headers))
 
--- a node is kept so, where there is no other fault
+-- the node is kept with this copy source, if it has no other fault
 abbrev pub kept_unless : Option FaultKind → CopyChange → Result Fate FaultKind
 kept_unless None copy = Ok (fates.Keep copy)
 kept_unless (Some fault) copy = Err fault
 
--- the fault of a node's copy source comes before another
+-- the fault of a node's copy source comes before its other fault
 abbrev pub with_fault : Result CopyChange FaultKind → Option FaultKind → Result Fate FaultKind
 with_fault (Ok copy) fault = kept_unless fault copy
 with_fault (Err fault) other = Err fault
@@ -84,13 +84,13 @@ node_fate settings s r merge_ok ps =
     with_fault (copy_change settings (front_kept s.revisions.kept s.group) present r)
     (merge_fault settings s.revisions.kept.first present merge_ok ps)
 
--- the fate of a record in order that can be read, or its fault
+-- the fate of a record that is in order and can be read, or its fault
 abbrev pub fate_of : Settings → State → DumpRecord → Bool → List Property → Result Fate FaultKind
 fate_of settings s r merge_ok ps =
     if is_node r then (if is_kept_node settings r then node_fate settings s r merge_ok ps else Ok fates.Drop)
     else if is_revision_record r then Ok fates.Hold else Ok fates.Pass
 
--- the fate of the record that comes next, with this verdict and these properties, or its fault
+-- the fate of the next record, with this verdict and these properties, or its fault
 abbrev pub decided : Settings → State → DumpRecord → Verdict → List Property → Result Fate FaultKind
 decided settings s r v ps =
     if is_in_order s r then
@@ -102,6 +102,6 @@ decided settings s r v ps =
     else Err Props)
     else Err Order
 
--- the properties are those of the record, where they are asked
+-- the properties are those of the record, if it is a kept node and they can be read
 abbrev pub AreAsked : Settings → DumpRecord → Verdict → List Property → Type 0
 AreAsked settings r v ps = is_kept_node settings r ≡ true → v.props_ok ≡ true → HasPropertyList r ps

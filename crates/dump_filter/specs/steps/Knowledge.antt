@@ -1,4 +1,4 @@
--- What a filter knows of the records that it has accepted.
+-- What a filter stores about the records that it has accepted.
 use Rattle.std.specs.Prelude.{◌≡◌, ℕ, ◌+◌, ◌<◌, ◌≤◌, ◌==◌, Bool, true, false, not, ◌&&◌, List, [], ◌∷◌, ◌++◌, length, count_by, All, Option, Some, None, MatchOption, ⊤}
 use Rattle.std.specs.List.{list_all, list_any}
 use Rattle.dump_records.specs.declared.record.Record.{Record}
@@ -16,7 +16,7 @@ use Rattle.dump_filter.specs.declared.revisions.Revisions.{Revisions}
 use Rattle.dump_filter.specs.steps.State.{PresentGroup, State, no_revisions, revision_count}
 use Rattle.dump_filter.specs.steps.State.PresentGroup.{NoGroup, Pending, Written}
 
--- a node that is nothing else
+-- whether the record is a node and has no revision number
 abbrev pub is_plain : DumpRecord → Bool
 is_plain r = is_node r && not (is_revision_record r)
 
@@ -28,17 +28,17 @@ kept_numbers settings records = (kept_revisions settings records).numbers
 abbrev pub dropped_groups : Settings → List DumpRecord → ℕ
 dropped_groups settings records = count_by (λ g. not (keeps_group settings g)) (groups records)
 
--- the state holds these numbers of kept revisions, and counts so many dropped ones
+-- the state has these numbers of kept revisions, and counts this many dropped ones
 pub record HasCounts (s : State) (numbers : List ℕ) (dropped : ℕ) : Type 0 where
   pub numbers_are : s.revisions.kept.numbers ≡ numbers
   pub dropped_are : s.report.revisions_dropped ≡ dropped
 
--- the state where this revision is the present one, and its group is so
+-- the state with this group, and this revision as the present one
 abbrev pub in_group : State → PresentGroup → DumpRecord → State
 in_group s group y = record s { group = group; revisions = record s.revisions { present = Some (revision_number y) } }
 
--- how the list ends: with nothing, with a version or UUID record, with a group that is written, or with one whose
--- revision is pending; and the revisions of it that are kept or dropped for sure
+-- how the list ends: it is empty, or ends with a version or UUID record, with a group that is written, or with one
+-- whose revision is pending; and which of its revisions are already decided as kept or dropped
 pub data Shape (settings : Settings) : List DumpRecord → State → Type 0 where
   Fresh : (s : State) → HasCounts s [] 0
       → Shape settings [] (record s { group = NoGroup; revisions = record s.revisions { present = None } })
@@ -56,19 +56,19 @@ pub data Shape (settings : Settings) : List DumpRecord → State → Type 0 wher
       → HasCounts s (kept_numbers settings closed) (dropped_groups settings closed)
       → Shape settings (closed ++ y ∷ ns) (in_group s (Pending (record { revision = y; bare = length ns == 0 })) y)
 
--- the least number that a revision may still be kept under: that of the pending one, or one above the present
+-- the least number that a kept revision may still get: that of the pending one, or the one after the present
 abbrev pub open_from : ℕ → PresentGroup → ℕ
 open_from present (Pending w) = present
 open_from present _ = present + 1
 
--- these are the kept revisions of a list that goes on: those kept so far, and others from a number on
+-- `whole` has the kept revisions of `kept`, and later ones from a number on
 pub record GoesOn (kept : KeptRevisions) (from : ℕ) (whole : KeptRevisions) : Type 0 where
   pub first_is : whole.first ≡ kept.first
   pub later : List ℕ
   pub numbers_are : whole.numbers ≡ kept.numbers ++ later
   pub behind : All (λ n. from ≤ n) later
 
--- these may be the kept revisions of a whole list, of which a front was read
+-- these may be the kept revisions of the whole list, whose first records were read
 abbrev pub MayBecome : State → KeptRevisions → Type 0
 MayBecome s whole = MatchOption s.revisions.present ⊤
     (λ present. GoesOn s.revisions.kept (open_from present s.group) whole)
@@ -85,13 +85,13 @@ pub record AreRising (kept : KeptRevisions) (present : ℕ) (group : PresentGrou
   pub below : All (λ n. n < open_from present group) kept.numbers
   pub waits : IsPendingAt group present
 
--- the kept revisions by the present one; before the first there are none
+-- the kept revisions rise, up to the present one; before the first revision there are none
 abbrev pub AreKept : Revisions → PresentGroup → Type 0
 AreKept revisions group = MatchOption revisions.present
     ((revisions.kept ≡ no_revisions.kept) × (group ≡ NoGroup))
     (λ present. AreRising revisions.kept present group)
 
--- what was written of the records so far, in whatever way the dump goes on
+-- what was written of the records so far, whichever records follow
 pub record Stands (settings : Settings) (before : List DumpRecord) (s : State) (text : List ℕ) : Type 0 where
   pub present_is : s.revisions.present ≡ present_revision before
   pub first_is : s.revisions.kept.first ≡ (kept_revisions settings before).first
@@ -99,12 +99,12 @@ pub record Stands (settings : Settings) (before : List DumpRecord) (s : State) (
   pub numbers : AreKept s.revisions s.group
   pub written : (whole : KeptRevisions) → MayBecome s whole → AreOutputs settings false whole before text
 
--- the accepted records, by the last of them
+-- the accepted records are those up to the last one
 abbrev pub AreUpTo : Option Record → List DumpRecord → Type 0
 AreUpTo last records = MatchOption last (records ≡ [])
     (λ r. BeginsWithRecords (record_dump r) records × (length records ≡ record_number r + 1))
 
--- what the last record and the state of a filter say of the records that it has accepted
+-- what the last record and the state of a filter say about the records that it has accepted
 pub record KnowsAccepted (settings : Settings) (last : Option Record) (s : State) : Type 0 where
   pub before : List DumpRecord
   pub up_to : AreUpTo last before

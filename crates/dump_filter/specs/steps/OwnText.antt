@@ -1,4 +1,4 @@
--- What is written of one record by itself.
+-- What is written for one record alone.
 use Rattle.std.specs.Prelude.{ℕ, Bool, false, List, ◌++◌, codes}
 use Rattle.dump_text.specs.Number.{spelled_number}
 use Rattle.dump_text.specs.Names.{revision_name, copy_revision_name}
@@ -17,13 +17,13 @@ copied_headers Same headers = headers
 copied_headers (Renumbered n) headers = with_header_value copy_revision_name (spelled_number n) headers
 copied_headers Dropped headers = without_copy_headers headers
 
--- a revision of these properties under its new number, padded or not
+-- a revision with these properties and its new number, padded or not
 abbrev pub revision_own : DumpRecord → ℕ → Bool → List Property → List ℕ
 revision_own r number padded ps =
     whole_text (with_header_value revision_name (spelled_number number) r.headers)
     (new_block padded r (revision_properties padded ps)) r.text
     ++ codes "\n"
 
--- a node of these properties with its new copy source
+-- a node with these properties and its new copy source
 abbrev pub node_own : DumpRecord → CopyChange → List Property → List ℕ
 node_own r copy ps = whole_text (copied_headers copy r.headers) (new_block false r ps) r.text ++ codes "\n\n"

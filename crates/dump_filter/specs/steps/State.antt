@@ -1,4 +1,4 @@
--- What a filter holds of the records that it has accepted.
+-- What a filter stores about the records that it has accepted.
 use Rattle.std.specs.Prelude.{ℕ, ◌+◌, ◌<◌, ◌^◌, Bool, [], None, unwrap_or}
 use Rattle.dump_records.specs.RecordText.{DumpRecord}
 use Rattle.dump_records.specs.steps.RecordViews.{record_item}
@@ -15,7 +15,7 @@ pub record PendingRevision : Type 0 where
   pub revision : DumpRecord
   pub bare : Bool
 
--- the group of a node that comes next: there is none, or its revision isn't written yet, or it is
+-- the group to which the next node belongs: there is none, or its revision isn't written yet, or is written
 pub data PresentGroup : Type 0 where
   NoGroup : PresentGroup
   Pending : PendingRevision → PresentGroup
@@ -50,12 +50,11 @@ new_state = record {
   report = record { revisions_kept = 0; revisions_dropped = 0; nodes_kept = 0; nodes_dropped = 0; texts_checked = 0 };
 }
 
--- the number of the revision that a node belongs to which comes next; where there is none the node is out of order, and
--- 0 stands in its place
+-- the number of the revision to which the next node belongs; 0 if there is none, because then a node may not come next
 abbrev pub node_revision : Revisions → ℕ
 node_revision revisions = unwrap_or revisions.present 0
 
--- one where a revision is pending
+-- 1 if a revision is pending
 abbrev pub pending_count : PresentGroup → ℕ
 pending_count (PresentGroup.Pending w) = 1
 pending_count _ = 0
@@ -64,7 +63,7 @@ pending_count _ = 0
 abbrev pub revision_count : State → ℕ
 revision_count s = s.report.revisions_kept + s.report.revisions_dropped + pending_count s.group
 
--- each count has room for one more record; a pending revision is counted where its group ends
+-- each count has room for one more record; a pending revision is counted when its group ends
 pub record CanCountMore (s : State) : Type 0 where
   pub revisions : revision_count s < 2 ^ 64
   pub nodes_kept : s.report.nodes_kept + 1 < 2 ^ 64

@@ -1,4 +1,4 @@
-//! The records that the dumps of the tests are made of.
+//! The records of which the tests make their dumps.
 
 pub(crate) const VERSION: &[u8] = b"SVN-fs-dump-format-version: 2\n\n";
 
@@ -24,7 +24,7 @@ pub(crate) const REVISION_5: &[u8] =
 pub(crate) const REVISION_6: &[u8] =
     b"Revision-number: 6\nProp-content-length: 56\nContent-length: 56\n\nK 8\nsvn:date\nV 27\n2024-01-02T03:04:05.000000Z\nPROPS-END\n\n";
 
-/// Numbers with leading zeros, and no line for the whole length.
+/// Numbers with leading zeros, and no `Content-length`.
 pub(crate) const SPELLED_REVISION_7: &[u8] =
     b"Revision-number: 007\nProp-content-length: 056\n\nK 8\nsvn:date\nV 27\n2024-01-02T03:04:05.000000Z\nPROPS-END\n\n";
 
@@ -37,7 +37,7 @@ pub(crate) const REVISION_9: &[u8] =
 pub(crate) const PADDING_1: &[u8] =
     b"Revision-number: 1\nProp-content-length: 112\nContent-length: 112\n\nK 8\nsvn:date\nV 27\n2024-01-02T03:04:05.000000Z\nK 7\nsvn:log\nV 38\nThis is an empty revision for padding.\nPROPS-END\n\n";
 
-/// Its ten bytes of properties are none.
+/// Its ten bytes of properties aren't a property block.
 pub(crate) const BROKEN_REVISION_1: &[u8] =
     b"Revision-number: 1\nProp-content-length: 10\nContent-length: 10\n\nPROPS-ENDX\n";
 
@@ -56,21 +56,21 @@ pub(crate) const OTHER: &[u8] =
 pub(crate) const X: &[u8] =
     b"Node-path: x\nNode-kind: dir\nNode-action: add\nProp-content-length: 10\nContent-length: 10\n\nPROPS-END\n\n\n";
 
-/// A property whose length has a leading zero, and as it is written.
+/// A property whose length has a leading zero, and how the filter writes it.
 pub(crate) const SPELLED_TRUNK: &[u8] =
     b"Node-path: trunk\nNode-kind: dir\nNode-action: add\nProp-content-length: 22\nContent-length: 22\n\nK 01\na\nV 0\n\nPROPS-END\n\n\n";
 
 pub(crate) const RESPELLED_TRUNK: &[u8] =
     b"Node-path: trunk\nNode-kind: dir\nNode-action: add\nProp-content-length: 21\nContent-length: 21\n\nK 1\na\nV 0\n\nPROPS-END\n\n\n";
 
-/// The same, where a property is deleted too.
+/// The same, with a deleted property.
 pub(crate) const SPELLED_DELETION: &[u8] =
     b"Node-path: trunk\nNode-kind: dir\nNode-action: change\nProp-delta: true\nProp-content-length: 29\nContent-length: 29\n\nK 01\na\nV 0\n\nD 01\nb\nPROPS-END\n\n\n";
 
 pub(crate) const RESPELLED_DELETION: &[u8] =
     b"Node-path: trunk\nNode-kind: dir\nNode-action: change\nProp-delta: true\nProp-content-length: 27\nContent-length: 27\n\nK 1\na\nV 0\n\nD 1\nb\nPROPS-END\n\n\n";
 
-/// Copies of these directories.
+/// Copies of a directory; each name says of which directory and of which revision.
 pub(crate) const TAG_OF_TRUNK_2: &[u8] =
     b"Node-path: trunk/tag\nNode-kind: dir\nNode-action: add\nNode-copyfrom-rev: 2\nNode-copyfrom-path: trunk\n\n\n\n";
 
@@ -83,7 +83,7 @@ pub(crate) const TAG_OF_TRUNK_7: &[u8] =
 pub(crate) const TAG_OF_OTHER_0: &[u8] =
     b"Node-path: trunk/tag\nNode-kind: dir\nNode-action: add\nNode-copyfrom-rev: 0\nNode-copyfrom-path: other\n\n\n\n";
 
-/// The directory with its mergeinfo, before and behind the filter.
+/// The directory with its mergeinfo, before and after the filter.
 pub(crate) const TRUNK_MERGED_1_TO_7: &[u8] =
     b"Node-path: trunk\nNode-kind: dir\nNode-action: change\nProp-content-length: 49\nContent-length: 49\n\nK 13\nsvn:mergeinfo\nV 14\n/trunk:1-5,6-7\nPROPS-END\n\n\n";
 

@@ -1,4 +1,4 @@
-//! What is lent of worked dumps, and in which steps they are written.
+//! Which parts of a dump are borrowed, and what is written for each record.
 
 use crate::tests::blocks::{
     OTHER, REVISION_0, REVISION_1, SPELLED_REVISION_7, SPELLED_TRUNK, TRUNK, TRUNK_2, TRUNK_A,
@@ -8,7 +8,7 @@ use crate::tests::{Asked, include, outcome, preserve, report};
 use std::alloc::Global;
 use std::process::Abort;
 
-/// Whether all of a dump is kept, and so many chunks of it are made.
+/// Whether all of a dump is kept, and this many chunks are owned.
 fn is_made(alloc: Global, dump: &[&[u8]], made: u64) -> bool {
     match outcome(alloc, &preserve(b"/"), dump) {
         Some((answer, out)) => answer.is_ok() && out.sound && out.made == made,
@@ -16,7 +16,7 @@ fn is_made(alloc: Global, dump: &[&[u8]], made: u64) -> bool {
     }
 }
 
-/// Behind a changed length the lines are made, and so is a list of properties that is spelled otherwise.
+/// The filter makes new lines if a length changes, and a new property block if it spells a length in another way.
 #[test]
 fn what_stays_is_lent(rt: HostRuntime) {
     let lent = [VERSION, UUID, REVISION_0, REVISION_1, TRUNK];
@@ -25,7 +25,7 @@ fn what_stays_is_lent(rt: HostRuntime) {
     assert!(rt; is_made(rt.alloc(), &[VERSION, REVISION_0, SPELLED_TRUNK], 2));
 }
 
-/// Whether a dump is brought to its end with these counts, and is written in these steps.
+/// Whether a dump is filtered to its end with these counts, and the output has these lengths after each record.
 fn is_written_in_steps(
     alloc: Global,
     asked: Asked<'_>,

@@ -1,4 +1,4 @@
-//! A filter stays closed behind a fault.
+//! A filter stays closed after a fault.
 
 use crate::tests::blocks::{
     BROKEN_REVISION_1, REVISION_0, REVISION_1, REVISION_5, REVISION_6, TAG_OF_OTHER_0,

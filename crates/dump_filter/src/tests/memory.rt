@@ -1,4 +1,4 @@
-//! Memory that is refused closes the filter.
+//! An allocation that fails closes the filter.
 
 use crate::StepFault;
 use crate::tests::blocks::{
@@ -10,8 +10,8 @@ use crate::tests::{Asked, include, outcome, preserve, renumber, report};
 use std::alloc::Global;
 use std::process::Abort;
 
-/// Whether the filter, where memory may be refused, writes all of a dump, with these counts, or is closed behind a
-/// front of it.
+/// Whether the filter writes all of a dump, with these counts, or an allocation fails, and it is closed after the
+/// first part of the output.
 fn is_whole_or_closed(
     alloc: Global,
     asked: Asked<'_>,
@@ -26,7 +26,8 @@ fn is_whole_or_closed(
     }
 }
 
-/// Run with each allocation refused in turn: the filter runs out of memory at one call, and is closed behind it.
+/// Run with each allocation failing in turn: one call of the filter runs out of memory, and the filter is closed after
+/// it.
 #[test]
 fn a_refused_allocation_closes_the_filter(rt: HostRuntime) {
     let trunk = preserve(b"trunk");
@@ -34,7 +35,7 @@ fn a_refused_allocation_closes_the_filter(rt: HostRuntime) {
     assert!(rt; is_whole_or_closed(rt.alloc(), trunk, &dump, &dump, (2, 0, 1, 0)));
 }
 
-/// The same, where revisions are padded and get new numbers, and copies of them too.
+/// The same, if revisions are padded and get new numbers, and copies of them too.
 #[test]
 fn a_refused_allocation_closes_the_filter_that_pads(rt: HostRuntime) {
     let trunk = Asked {
@@ -63,7 +64,7 @@ fn a_refused_allocation_closes_the_filter_that_pads(rt: HostRuntime) {
     assert!(rt; is_whole_or_closed(rt.alloc(), trunk, &dump, &written, (4, 0, 2, 1)));
 }
 
-/// The same, where properties are deleted.
+/// The same, if properties are deleted.
 #[test]
 fn a_refused_allocation_closes_the_filter_of_deletions(rt: HostRuntime) {
     let dump = [VERSION_3, REVISION_0, SPELLED_DELETION];
@@ -71,7 +72,7 @@ fn a_refused_allocation_closes_the_filter_of_deletions(rt: HostRuntime) {
     assert!(rt; is_whole_or_closed(rt.alloc(), include(b"/"), &dump, &written, (1, 0, 1, 0)));
 }
 
-/// The same, where mergeinfo gets new numbers.
+/// The same, if mergeinfo gets new numbers.
 #[test]
 fn a_refused_allocation_closes_the_filter_of_mergeinfo(rt: HostRuntime) {
     let trunk = renumber(b"trunk");
