@@ -1,4 +1,4 @@
--- Numbered items that arrive in any order and are released in theirs.
+-- Numbered items that arrive in any order and are released in the order of their numbers.
 use Rattle.dump_lanes.proofs.Prelude.{◌≡◌, ◌≢◌, inl, inr, ℕ, zero, suc, ◌+◌, ◌<◌, ◌≤◌, ◌%◌, List, [], ◌∷◌, ◌++◌, length, Option, Some, None, slice_set, sum_by, refl, sym, ap, ◌∙◌, subst, arith, append_assoc, replicate, cases_eq, set-get_or, length-replicate, none-some, sum_by-cons, sum_by-append, sum_by_push, sum_by-set, WeighsSame, first_numbers, Lacks, IsWaiting, Clash, slot_item, with_slot_item, held, Row, Taken, Wrong, ◌⊎◌}
 use Rattle.std.proofs.Common.{slice_index_or}
 use Rattle.std.proofs.lemmas.List.{length-set, get_or-set_same, get_or-set_other}
@@ -14,7 +14,7 @@ weighed f xs ys h = weigh_is_sum f xs ∙ (h f ∙ sym (weigh_is_sum f ys))
 once_at_most : (m count : ℕ) → weigh (only m) (first_numbers count) ≤ 1
 once_at_most m count = grind (arith, within_range m count, above_range m count)
 
--- where the first so many arrived, those released and the others weigh what they weigh
+-- where this many of the first arrived, those released and the others weigh what they weigh
 split_weight : (released count : ℕ) (arrived others : List ℕ) → WeighsSame arrived (first_numbers count)
     → WeighsSame arrived (first_numbers released ++ others)
     → (f : ℕ → ℕ) → weigh f (first_numbers released) + weigh f others ≡ weigh f (first_numbers count)
@@ -29,7 +29,7 @@ comes_after : (count released m : ℕ) (rest : List ℕ) → weigh (only m) (fir
 comes_after count released m rest e =
     (grind (arith, within_range m released, once_at_most m count), grind (arith, above_range m count))
 
--- where the first so many arrived, each once, no two clash
+-- where this many of the first arrived, each once, no two clash
 pub no_clash : (window released count : ℕ) (arrived : List ℕ) → WeighsSame arrived (first_numbers count)
     → count ≤ released + window
     → Clash window released arrived → ⊥
@@ -55,7 +55,7 @@ lacks_none n (m ∷ ns) h =
     let here = only_other n m h.0 in
     let more = lacks_none n ns h.1 in omega arith
 
--- where the first so many arrived, each once, and the next to be released isn't there, all were released
+-- where this many of the first arrived, each once, and the next to be released isn't there, all were released
 pub none_waits : (released count : ℕ) (arrived : List ℕ) → WeighsSame arrived (first_numbers count)
     → IsWaiting released arrived → released ≡ count
 none_waits released count arrived all w =
@@ -77,7 +77,7 @@ then_more released arrived others more h f =
     ∙ (sym (sum_by-append f (first_numbers released ++ others) more)
     ∙ ap (sum_by f) (append_assoc (first_numbers released) others more)))
 
--- what still comes changes no clash
+-- items that still have to arrive change nothing about clashes
 pub still_clash : (window released : ℕ) (arrived more : List ℕ) → Clash window released arrived
     → Clash window released (arrived ++ more)
 still_clash window released arrived more (Taken m n rest same turn) =
@@ -138,7 +138,7 @@ module _ {T : Type 0} (number : T → ℕ) where
     same = λ f. ap (sum_by f) (sym (none_held window));
   }
 
-  -- what stands in a row after a change
+  -- what is in a row after a change
   placed_set : (places : List (Option T)) (window i : ℕ) (new : Option T) → i < length places
       → ((k : ℕ) (item : T) → slice_index_or places k None ≡ Some item → number item % window ≡ k)
       → ((item : T) → new ≡ Some item → number item % window ≡ i)
@@ -215,7 +215,7 @@ module _ {T : Type 0} (number : T → ℕ) where
   lacks_all (None ∷ places) n h = lacks_all places n (λ k. h (suc k))
   lacks_all (Some item ∷ places) n h = (h 0 item refl, lacks_all places n (λ k. h (suc k)))
 
-  -- nothing is in the place of the next
+  -- nothing is in the place of the next item
   pub next_is_missing : (window released : ℕ) (arrived : List ℕ) (places : List (Option T))
       → Row number window released arrived places
       → slot_item places released ≡ None → IsWaiting released arrived
@@ -228,7 +228,7 @@ module _ {T : Type 0} (number : T → ℕ) where
         none-some item (sym free ∙ (ap (λ (j : ℕ). slice_index_or places j None) (sym at) ∙ e)));
   }
 
-  -- the place of the next has another
+  -- the place of the next item has another item
   pub wrong_item : (window released : ℕ) (arrived : List ℕ) (places : List (Option T)) (item : T) → 0 < length places
       → Row number window released arrived places
       → slot_item places released ≡ Some item → number item ≢ released → Clash window released arrived

@@ -1,4 +1,4 @@
--- Each move on a pool's queue of credits keeps its rule.
+-- Each move on a pool's queue of credits obeys its rule.
 use Rattle.dump_lanes.proofs.Prelude.{◌≡◌, ◌≢◌, ◌≤◌, ℕ, ◌+◌, suc, true, true≢false, List, [], ◌∷◌, ◌++◌, length, set, sym, refl, ap, ◌∙◌, subst, arith, lt-ltb, ltb-true, length-append, Purse, Move, Thread, credits_share, credits_allow, event_of, steps_of, CreditStep, draw_step, back_step, drawn_in, back_in, first_purse, after_first, after_draw, after_back, cutter_purse, writer_purse, joined_purse, spent_purse, IsCreditQueue}
 use Rattle.std.proofs.Common.{IsTrue, length-set}
 use mathlib.Core.Option.{some}
@@ -11,14 +11,14 @@ use Rattle.dump_lanes.specs.steps.CreditQueue.{Fits, KnowsSteps}
 use Rattle.dump_lanes.proofs.PartMoves.{other_thread, same_or_other, forked, forked_stays, forked_to, joined as joined_owner, joined_is, joined_comes, knows_step, knows_else, knows_fork_left, knows_fork_else, knows_fork_new, knows_join_both, knows_join_else, knows_join_spent}
 use Rattle.dump_lanes.proofs.Views.{AllViews, AllViews-set, AllViews-one, AllViews-more, within}
 
--- the cutter's step, and the writer's, is the credits' share of its event
+-- the cutter's step, and the writer's, belongs to its event
 draw_is_step : (free : ℕ) → IsStep (suc free) draw_step free
 draw_is_step free = record { one_credit = refl; allowed = lt-ltb 0 (suc free) (omega arith); share = omega arith }
 
 back_is_step : (free : ℕ) → IsStep free back_step (free + 1)
 back_is_step free = record { one_credit = refl; allowed = refl; share = refl }
 
--- one step: the credits that were free and came are those that went and are free
+-- one step: the credits that were free or came back are those that were drawn or are free
 pub one_balance : (old new : ℕ) (m : Move) → put_by (event_of m) + taken_by (event_of m) ≡ 1
     → IsTrue (credits_allow old (event_of m))
     → new ≡ credits_share old (event_of m) → old + put_by (event_of m) ≡ taken_by (event_of m) + new
@@ -26,7 +26,7 @@ one_balance old new move.Draw one may e = let a = ltb-true 0 old may in omega ar
 one_balance old new move.Give one may e = omega arith
 one_balance old new m one may e = absurd (omega arith)
 
--- the credits that were drawn and are free are those that were there at first and came back
+-- the credits that were drawn or are free are those that were there at first or came back
 pub balance : (first : ℕ) (happened : List CreditStep) (free : ℕ) → AreSteps first happened free
     → drawn_in happened + free ≡ first + back_in happened
 balance first [] free h = omega arith
@@ -34,7 +34,7 @@ balance first (s ∷ before) free h =
     let t = balance first before h.0 h.2 in
     let o = one_balance h.0 free s.event h.1.one_credit h.1.allowed h.1.share in omega arith
 
--- where no credit was drawn and none came back, nothing happened
+-- if no credit was drawn and none came back, nothing happened
 nothing : (first : ℕ) (happened : List CreditStep) (free : ℕ) → AreSteps first happened free → drawn_in happened ≡ 0
     → back_in happened ≡ 0 → happened ≡ []
 nothing first [] free h d b = refl
@@ -43,7 +43,7 @@ nothing first (s ∷ before) free h d b = let o = h.1.one_credit in absurd (omeg
 cutter_not_writer : Thread.Cutter ≢ Thread.Writer
 cutter_not_writer = other_thread Thread.Cutter Thread.Writer refl
 
--- a pass that has the writer and all others has all
+-- a pass that has the writer's thread and all others has all threads
 has_all : (owner : Thread → ℕ) (pass : ℕ) → ((t : Thread) → t ≢ Thread.Writer → owner t ≡ pass)
     → owner Thread.Writer ≡ pass → (t : Thread) → owner t ≡ pass
 has_all owner pass others writer t = same_or_other Thread.Writer t (λ e. ap owner e ∙ writer) (others t)
@@ -93,7 +93,7 @@ module _ {T : Type 0} where
         fits = AllViews-set (Fits h.owner (h.first + 1) h.happened) views pass w one others;
       } in (w, after, refl)
 
-  -- a pass makes a step of its own, where it fits then, and the others still fit
+  -- a pass makes a step of its own thread; if it obeys the rule afterwards, the others still do
   one_step : (pass : ℕ) (w : Purse) (s : CreditStep) (items new : List T) (views : List Purse)
       (h : IsCreditQueue items views) → IsStep (length items) s (length new)
       → Fits h.owner h.first (s ∷ h.happened) pass w
@@ -151,7 +151,7 @@ module _ {T : Type 0} where
         refl,
       )
 
-  -- the first pass is cut into the cutter's and the writer's
+  -- the first pass is split into the cutter's and the writer's
   pub forks : (pass : ℕ) (v : Purse) → v.draws ≡ true → v.gives ≡ true → v.drawn ≡ 0 → v.back ≡ 0
       → Forks (IsCreditQueue {T = T}) pass v (cutter_purse v) (writer_purse v)
   forks pass v may_draw may_give none_drawn none_back items views h at =
@@ -199,7 +199,7 @@ module _ {T : Type 0} where
         fits = AllViews-more Now cut right (AllViews-set Now views pass left one others) last;
       }
 
-  -- the cutter's pass takes in the writer's
+  -- the cutter's pass joins the writer's
   pub merges : (pass : ℕ) (v : Purse) (other : ℕ) (u : Purse) → v.draws ≡ true → u.gives ≡ true
       → Merges (IsCreditQueue {T = T}) pass v other u (joined_purse v u) spent_purse
   merges pass v other u may_draw may_give items views h at two at' =
@@ -241,7 +241,8 @@ module _ {T : Type 0} where
         fits = AllViews-set Now joined other spent none (λ j y apart e. now j y e apart);
       }
 
-  -- a pass that does both learns that no more were drawn than were there at first and came back, and all steps
+  -- a pass that draws and gives back finds out all steps, and that no more were drawn than were there at first and
+  -- came back
   pub learns : (pass : ℕ) (v : Purse) → v.draws ≡ true → v.gives ≡ true
       → Learns (IsCreditQueue {T = T}) pass v (λ items. (v.drawn ≤ v.first + v.back) × KnowsSteps v (length items))
   learns pass v may_draw may_give items views h at =

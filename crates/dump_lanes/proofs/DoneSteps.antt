@@ -1,4 +1,4 @@
--- Each move on a pool's queue of dones keeps its rule.
+-- Each move on a pool's queue of dones obeys its rule.
 use Rattle.dump_lanes.proofs.Prelude.{◌≡◌, ◌==◌, ◌<◌, ℕ, true, false, true≢false, inl, inr, List, [], ◌∷◌, ◌++◌, length, cond, sym, refl, ap, arith, lt-ltb, Note, Move, View, Thread, thread_of, event_of, is_thread, after_put, after_take, dones_part, sequencer_crew, give_step, arrive_step, IsDoneQueue}
 use Rattle.std.proofs.Common.{eq-eqb}
 use Rattle.std.proofs.lemmas.List.{append-nil}
@@ -19,11 +19,11 @@ sequencer_apart = record {
 }
 
 module _ {T : Type 0} where
-  -- a worker's step, and the sequencer's, is the dones' share of its event
+  -- a worker's step, and the sequencer's, belongs to its event
   give_one : (x : Note T) → cond (x.from == x.from) (x ∷ []) [] ≡ x ∷ []
   give_one x = ap (λ b. cond b (x ∷ []) []) (eq-eqb x.from x.from refl)
 
-  -- a worker's step puts its note behind the dones
+  -- a worker's step puts its note after the dones
   pub give_is_step : (x : Note T) (items : List (Note T)) → IsStep dones_part items (give_step x) (items ++ x ∷ [])
   give_is_step x items = record {
     one_entry = ap (λ l. l ++ []) (give_one x);

@@ -1,4 +1,4 @@
--- What a step of one thread leaves to the others, and what its shared parts allow.
+-- What a step of one thread leaves unchanged for the others, and what its shared parts allow.
 use Rattle.dump_lanes.proofs.Prelude.{◌≢◌, ℕ, ap, refl, true, false, ◌&&◌, nat_lt, List, [], ◌∷◌, Some, None, PoolSize, Entry, World, Event, is_enabled, Thread, IsSameFor, LeavesOthers, PartsAllow, length, and_parts, credits_allow, jobs_allow, lane_allow}
 use Rattle.std.proofs.lemmas.List.{get_or-set_other}
 use Rattle.std.specs.Prelude.{IsTrue, not}
@@ -29,7 +29,7 @@ take_leaves w worker (Entry.Mark ∷ rest) (Thread.Worker k) h = (
 )
 take_leaves w worker (Entry.Mark ∷ rest) other h = same_own other w
 
--- each event leaves what the other threads own
+-- each event leaves unchanged what the other threads own
 pub leaves : (size : PoolSize) (w : World) (event : Event) → LeavesOthers size w event
 leaves size w (Event.Take worker) other h = take_leaves w worker w.jobs other h
 leaves size w (Event.Put worker) (Thread.Worker k) h =

@@ -1,4 +1,4 @@
--- The workers' ports of a pool as they are given.
+-- The ports of a pool's workers before the first call.
 use Rattle.dump_lanes.proofs.Prelude.{◌≡◌, ◌∙◌, List, [], All, length, map, refl, sym, ap, length-map-range_with_len, range_with_len, WorkerPort, WorkerSide, PoolState, new_worker, worker_port}
 use Rattle.dump_lanes.proofs.PortsTogether.{length_of_map, as_new}
 

@@ -1,4 +1,4 @@
--- Each move on a pool's queue of jobs keeps its rule.
+-- Each move on a pool's queue of jobs obeys its rule.
 use Rattle.dump_lanes.proofs.Prelude.{◌≡◌, ◌<◌, ℕ, true, false, true≢false, inl, inr, List, [], ◌∷◌, ◌++◌, length, refl, ap, arith, lt-ltb, Mark, Item, End, Move, View, Thread, thread_of, event_of, all_put, is_thread, after_put, jobs_part, cutter_crew, after_job, IsJobQueue}
 use Rattle.std.proofs.lemmas.List.{append-nil}
 use Rattle.crossbeam_queue.specs.Fifo.{Pushes, Pops}
@@ -19,7 +19,7 @@ cutter_apart = record {
 }
 
 module _ {T : Type 0} where
-  -- the cutter's step, and a worker's, is the jobs' share of its event
+  -- the cutter's step, and a worker's, belongs to its event
   pub cut_is_step : (x : Mark T) (items : List (Mark T)) → IsStep jobs_part items (put_step x) (items ++ x ∷ [])
   cut_is_step (Item x) items = record { one_entry = refl; allowed = refl; share = refl; in_turn = refl }
   cut_is_step End items = record { one_entry = refl; allowed = refl; share = refl; in_turn = refl }

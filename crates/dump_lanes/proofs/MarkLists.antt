@@ -21,7 +21,7 @@ module _ {T : Type 0} where
   all_items : (ms : List (Mark T)) → AreItemsThen [] ms → ms ≡ map Item (items_of ms)
   all_items ms h = h ∙ append-nil (map Item (items_of ms))
 
-  -- items alone, which an item joins, are items alone
+  -- if an item is added to a list of items, the list still has only items
   pub then_item : (ms : List (Mark T)) (x : T) → AreItemsThen [] ms → AreItemsThen [] (ms ++ Item x ∷ [])
   then_item ms x h =
       let items : List T = items_of ms in
@@ -32,7 +32,7 @@ module _ {T : Type 0} where
       ap (λ l. map {B = Mark T} Item l) (sym (items_of-then_item ms x)) in
       one ∙ (two ∙ sym (append-nil (map Item more)))
 
-  -- items alone, which the end mark joins, are items and then the end mark
+  -- if the end mark is added to a list of items, the list is items and then the end mark
   pub then_end : (ms : List (Mark T)) → AreItemsThen [] ms → AreItemsThen (End ∷ []) (ms ++ End ∷ [])
   then_end ms h =
       ap (λ l. l ++ End ∷ []) (all_items ms h ∙ ap (λ l. map {B = Mark T} Item l) (sym (items_of-then_end ms)))
@@ -58,14 +58,14 @@ module _ {T : Type 0} where
   unmarked (x ∷ put) [] left e = absurd (cc)
   unmarked (x ∷ put) (y ∷ taken) left e = unmarked put taken left (ap (λ l. drop 1 l) e)
 
-  -- the end mark was taken only where it was put
+  -- the end mark was taken only if it was put
   pub is_marked : (put taken : List (Mark T)) (marked : Bool) (left : List (Mark T))
       → AreItemsThen (mark_if marked) put → AreItemsThen (End ∷ []) taken → put ≡ taken ++ left → marked ≡ true
   is_marked put taken true left hp ht e = refl
   is_marked put taken false left hp ht e = absurd (unmarked (items_of put) (items_of taken) left
       (sym hp ∙ (e ∙ ap (λ l. l ++ left) ht)))
 
-  -- where the end mark was taken, what was taken is all that was put
+  -- if the end mark was taken, what was taken is all that was put
   pub is_whole : (put taken : List (Mark T)) (marked : Bool) (left : List (Mark T))
       → AreItemsThen (mark_if marked) put → AreItemsThen (End ∷ []) taken → put ≡ taken ++ left
       → items_of taken ≡ items_of put

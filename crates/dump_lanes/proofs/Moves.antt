@@ -1,4 +1,4 @@
--- Each move on a lane's channel keeps its rule.
+-- Each move on a lane's channel obeys its rule.
 use Rattle.dump_lanes.proofs.Prelude.{◌≡◌, ◌≢◌, ◌<◌, zero, suc, ℕ, Bool, true, false, true≢false, inl, inr, List, [], ◌∷◌, ◌++◌, length, cond, sym, refl, ap, ◌∙◌, subst, arith, lt-ltb, View, Mark, Item, End, Move, Step, Thread, thread_of, event_of, all_put, is_thread, steps_of, after_put, after_take, lane_part, receiver_first, sender_crew, item_step, item_steps, IsInOrder}
 use Rattle.std.proofs.lemmas.List.{append-nil}
 use Rattle.crossbeam_channel.specs.Fifo.{Pushes, Pops}
@@ -23,7 +23,7 @@ receivers_differ zero (suc k) ne = other_thread Thread.Writer (Thread.Worker k) 
 receivers_differ (suc j) zero ne = other_thread (Thread.Worker j) Thread.Writer refl
 receivers_differ (suc j) (suc k) ne = λ e. ne (ap suc (worker_number e))
 
--- the threads at a lane are different
+-- the threads that use a lane are different
 pub sender_apart : AreApart sender_crew
 sender_apart = record { leader = receiver_not_sender; others = receivers_differ }
 
@@ -36,7 +36,7 @@ module _ {T : Type 0} where
   abbrev pub write : T → Step T
   write x = record { event = move.Write; entry = x }
 
-  -- the sender's step, and the receiver's, is the lane's share of its event
+  -- the sender's step, and the receiver's, belongs to its event
   pub release_is_step : (x : T) (items : List T) → IsStep lane_part items (release x) (items ++ x ∷ [])
   release_is_step x items = record { one_entry = refl; allowed = refl; share = refl; in_turn = refl }
 
@@ -137,7 +137,7 @@ module _ {T : Type 0} where
   own_step t m End before e = own_end (is_thread t (thread_of (event_of m))) m (steps_of t (item_steps before))
       (steps_of t before) e
 
-  -- a thread's steps with items are the items' of its steps
+  -- a thread's steps with items are those of the items' history that are its own
   pub own_items : (t : Thread) (steps : List (Step (Mark T)))
       → steps_of t (item_steps steps) ≡ item_steps (steps_of t steps)
   own_items t [] = refl
@@ -164,6 +164,6 @@ module _ {T : Type 0} where
     knows_taken = queue.knows_taken lane_part sender_crew v items k Thread.Writer
         (λ s. taken_by_writer s.event s.entry)
 
-    -- so the two differ by what the channel holds
+    -- so what was put and what was taken differ by what the channel holds
     pub totals : v.put ≡ v.taken ++ items
     totals = knows_put ∙ (in_order lane_part k.happened items k.steps ∙ ap (λ l. l ++ items) (sym knows_taken))

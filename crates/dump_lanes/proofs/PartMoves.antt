@@ -1,4 +1,4 @@
--- One more step of a history: whose it is, and what it moves.
+-- One more step of a history: which thread makes it, and what it moves.
 use Rattle.dump_lanes.proofs.Prelude.{◌≡◌, ◌≢◌, ◌==◌, ℕ, true, false, true≢false, List, [], ◌∷◌, ◌++◌, cond, sum_by, sym, refl, ap, ◌∙◌, subst, ⊎_elim, append_assoc, arith, sum_by-append, sum_by-cons, filter-append, Step, Thread, thread_of, event_of, Part, all_put, is_thread, steps_of, Knows, cases_Bool}
 use Rattle.std.proofs.Common.{eq-eqb, ne_eqb}
 use Rattle.std.proofs.lemmas.Bool.{eqb-true}
@@ -33,7 +33,7 @@ one_thread Thread.Sequencer Thread.Sequencer e = refl
 one_thread Thread.Writer Thread.Writer e = refl
 one_thread t u e = absurd (true≢false (sym e))
 
--- by whether a thread is this one or another
+-- by cases: a thread is this one or another
 pub same_or_other : {A : Type 0} (t u : Thread) → (u ≡ t → A) → (u ≢ t → A) → A
 same_or_other t u same other =
     ⊎_elim (λ (e : is_thread t u ≡ true). same (one_thread t u e))
@@ -46,7 +46,7 @@ not_thread t u ne =
     (cases_Bool (is_thread t u))
 
 module _ {E : Type 0} where
-  -- a step joins what is known of its thread, and what happened
+  -- a step is added to what is known of its thread, and to what happened
   pub step_both : (t : Thread) (s : Step E) (known happened : List (Step E)) → steps_of t known ≡ steps_of t happened
       → steps_of t (s ∷ known) ≡ steps_of t (s ∷ happened)
   step_both t s known happened e = ap (λ l. cond (is_thread t (thread_of (event_of s.event))) (s ∷ l) l) e
@@ -57,7 +57,7 @@ module _ {E : Type 0} where
   step_other t s steps ne = ap (λ b. cond b (s ∷ steps_of t steps) (steps_of t steps))
       (not_thread t (thread_of (event_of s.event)) ne)
 
-  -- where one thread alone puts, what joined is what joined in its steps
+  -- if only one thread puts, what joined the queue is what joined it in this thread's steps
   pub put_alone : (part : Part E) (t : Thread)
       → ((s : Step E) → is_thread t (thread_of (event_of s.event)) ≡ false → part.puts s ≡ [])
       → (steps : List (Step E)) → all_put part steps ≡ all_put part (steps_of t steps)
@@ -72,17 +72,17 @@ module _ {E : Type 0} where
       ap (λ l. all ++ l) (none s y) ∙ (append-nil all ∙ (rest ∙ ap (λ b. all_put part (cond b (s ∷ own) own)) (sym y))))
       (cases_Bool (is_thread t (thread_of (event_of s.event))))
 
-  -- the part whose entries go the other way
+  -- the part whose puts are takes, and the other way around
   abbrev swapped : Part E → Part E
   swapped part = record part { puts = part.takes; takes = part.puts }
 
-  -- and where one alone takes, what left likewise
+  -- if only one thread takes, the same is true of what left the queue
   pub taken_alone : (part : Part E) (t : Thread)
       → ((s : Step E) → is_thread t (thread_of (event_of s.event)) ≡ false → part.takes s ≡ [])
       → (steps : List (Step E)) → all_taken part steps ≡ all_taken part (steps_of t steps)
   taken_alone part t none steps = put_alone (swapped part) t none steps
 
-  -- what joined weighs what its steps weigh, and what left likewise
+  -- what joined weighs as much as it does in the steps, and so does what left
   pub put_weight : (part : Part E) (weight : E → ℕ) (steps : List (Step E))
       → sum_by weight (all_put part steps) ≡ sum_by (λ s. sum_by weight (part.puts s)) steps
   put_weight part weight [] = refl
@@ -101,7 +101,7 @@ module _ {E : Type 0} where
       ap (λ l. l ++ part.takes s) (all_taken-append part xs ys) ∙ append_assoc (all_taken part ys) (all_taken part xs)
       (part.takes s)
 
-  -- and what joined likewise
+  -- the same of what joined
   pub all_put-append : (part : Part E) (xs ys : List (Step E))
       → all_put part (xs ++ ys) ≡ all_put part ys ++ all_put part xs
   all_put-append part xs ys = all_taken-append (swapped part) xs ys
@@ -119,7 +119,7 @@ module _ {E : Type 0} where
 
 -- a thread's steps go to a new pass
 module _ (owner : Thread → ℕ) (next : Thread) (new : ℕ) where
-  -- the pass that each thread's steps belong to, once this one's have gone to the new pass
+  -- the owner of each thread's steps, after this thread's have gone to the new pass
   abbrev pub forked : Thread → ℕ
   forked t = cond (is_thread next t) new (owner t)
 
@@ -140,17 +140,17 @@ module _ (owner : Thread → ℕ) (next : Thread) (new : ℕ) where
   pub forked_kept : (t : Thread) (j : ℕ) → owner next ≢ j → owner t ≡ j → forked t ≡ j
   forked_kept t j ne e = forked_stays t (λ w. ne (sym (ap owner w) ∙ e)) ∙ e
 
--- all steps that a pass knows go to another
+-- all steps that a pass knows go to another pass
 module _ (owner : Thread → ℕ) (pass other : ℕ) (two : other ≢ pass) where
-  -- the pass that each thread's steps belong to, once the one pass has taken in the other
+  -- the owner of each thread's steps, after one pass has joined the other
   abbrev pub joined : Thread → ℕ
   joined t = cond (owner t == other) pass (owner t)
 
-  -- a thread keeps its pass, where that isn't the one that is taken in
+  -- a thread keeps its pass, if that isn't the joined one
   pub joined_stays : (t : Thread) → owner t ≢ other → joined t ≡ owner t
   joined_stays t ne = ap (λ b. cond b pass (owner t)) (ne_eqb (owner t) other ne)
 
-  -- a thread of the pass that is taken in comes to the one that takes it in
+  -- a thread of the joined pass now belongs to the one that joins it
   pub joined_comes : (t : Thread) → owner t ≡ other → joined t ≡ pass
   joined_comes t e = ap (λ b. cond b pass (owner t)) (eq-eqb (owner t) other e)
 
@@ -158,16 +158,16 @@ module _ (owner : Thread → ℕ) (pass other : ℕ) (two : other ≢ pass) wher
   pub joined_is : (t : Thread) → owner t ≡ pass → joined t ≡ pass
   joined_is t e = joined_stays t (λ o. two (sym o ∙ e)) ∙ e
 
-  -- a thread that had another pass than the one that is taken in still has that pass
+  -- a thread that had another pass than the joined one still has that pass
   pub joined_kept : (t : Thread) (j : ℕ) → j ≢ other → owner t ≡ j → joined t ≡ j
   joined_kept t j ne e = joined_stays t (λ o. ne (sym e ∙ o)) ∙ e
 
-  -- a thread that now has another pass than the one that takes in had that pass before
+  -- a thread that now has another pass than the one that joins had that pass before
   pub joined_had : (t : Thread) (j : ℕ) → j ≢ pass → joined t ≡ j → owner t ≡ j
   joined_had t j ne e = dite (ℕ_discrete (owner t) other) (λ o. absurd (ne (sym e ∙ joined_comes t o)))
       (λ o. sym (joined_stays t o) ∙ e)
 
-  -- no thread is left with the pass that was taken in
+  -- no thread is left with the joined pass
   pub joined_left : (t : Thread) → joined t ≢ other
   joined_left t e = dite (ℕ_discrete (owner t) other) (λ o. two (sym e ∙ joined_comes t o))
       (λ ne. ne (sym (joined_stays t ne) ∙ e))

@@ -4,7 +4,7 @@ use Rattle.std.proofs.lemmas.List.{append-nil}
 use Rattle.dump_lanes.specs.steps.LaneMarks.{items_of}
 use Rattle.dump_lanes.proofs.MarkLists.{items_of-append}
 
--- so many end marks are counted as so many
+-- this many end marks are counted as this many
 pub count_ends-replicate : (T : Type 0) (n : ℕ) → count_ends {T = T} (replicate n End) ≡ n
 count_ends-replicate T zero = refl
 count_ends-replicate T (suc n) = let t = count_ends-replicate T n in omega arith

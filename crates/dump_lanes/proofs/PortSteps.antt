@@ -1,4 +1,4 @@
--- What a call leaves a port with.
+-- What a port has put or taken after a call.
 use Rattle.dump_lanes.proofs.Prelude.{◌≡◌, ◌≢◌, ◌+◌, ◌<◌, ◌==◌, ℕ, Bool, true, false, true≢false, cond, List, [], ◌∷◌, ◌++◌, map, replicate, sym, ap, ◌∙◌, subst, Option, Some, None, IfSome, IfNone, option_to_list, arith, Note, Mark, Item, End, Step, View, give_step, arrive_step, after_ends, after_job, after_put, after_take, AreItemsThen, mark_if, count_ends, marks_in, EndsLast, IsCutting, IsWorking, IsGiving, IsSequencing, HasRead, Thread, steps_of, PoolName, CutterSide, WorkerSide, SequencerSide, DoneStep}
 use Rattle.std.proofs.Common.{eq-eqb, ne_eqb}
 use Rattle.std.proofs.lemmas.List.{append-nil}
@@ -51,7 +51,7 @@ module _ {T : Type 0} where
   pub cut_ends_put : (n : ℕ) (v w : View (Mark T)) → w ≡ after_ends v n → items_of w.put ≡ items_of v.put
   cut_ends_put n v w e = ap (λ (k : View (Mark T)). items_of k.put) e ∙ items_of-then_ends v.put n
 
-  -- a cutter that had put no end mark and puts so many has put so many
+  -- a cutter that had put no end mark and puts this many has put this many
   pub cut_ends_marks : (n : ℕ) (v w : View (Mark T)) → count_ends v.put ≡ 0 → w ≡ after_ends v n → count_ends w.put ≡ n
   cut_ends_marks n v w none e =
       ap (λ (k : View (Mark T)). count_ends k.put) e

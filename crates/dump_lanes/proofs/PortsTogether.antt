@@ -1,4 +1,4 @@
--- What a pool's ports say together, once each is closed and has taken its last.
+-- What the ports of a pool say together, once each is closed and has taken its last item.
 use Rattle.dump_lanes.proofs.Prelude.{◌≡◌, ◌<◌, ◌==◌, ℕ, suc, true, false, List, [], ◌∷◌, ◌++◌, length, map, replicate, flat_map, sum_by, All, Contains, sym, refl, ap, ◌∙◌, subst, append_assoc, arith, range_with_len, length-append, Note, Queues, WorkerPort, Mark, End, View, dones_part, sequencer_crew, jobs_part, cutter_crew, after_join, AreItemsThen, mark_if, name_of, count_ends, marks_in, EndsLast, IsCutting, IsSequencing, steps_of, Thread, PoolName, PoolState, CutterSide, WorkerSide, new_cutter, new_worker, AreWorkersOf, IsDone, all_given, worker_port, steps_by, HasTakenIn, HasJobsOf, HasDonesOf, done_steps, length-map-range_with_len, get_or-map-range_with_len}
 use Rattle.std.proofs.Common.{slice_index_or}
 use Rattle.std.proofs.lemmas.Bool.{eqb-true}
@@ -26,7 +26,7 @@ module _ {X Y : Type 0} where
       (h k (f d) (subst (λ n. k < n) (sym (length_of_map f xs)) lt))
 
 module _ {P E : Type 0} where
-  -- what is nothing of each is nothing together
+  -- if each list is empty, so are all of them joined
   nothing_in : (f : P → List E) → ((p : P) → f p ≡ []) → (ps : List P) → flat_map f ps ≡ []
   nothing_in f none [] = refl
   nothing_in f none (p ∷ ps) = ap (λ l. l ++ flat_map f ps) (none p) ∙ nothing_in f none ps
@@ -38,7 +38,7 @@ module _ {P E : Type 0} (pass_of : P → View E) where
       ap (λ l. l ++ (pass_of q).steps) (steps_by-then ps p) ∙ append_assoc (pass_of p).steps (steps_by pass_of ps)
       (pass_of q).steps
 
-  -- the pass that leads is just its own where it has taken in no other
+  -- the pass that leads knows only its own steps if it has joined no other
   pub none_in : (v : View E) → v.leads ≡ true → HasTakenIn pass_of [] v v
   none_in v leads = record {
     leads = leads;
@@ -48,7 +48,7 @@ module _ {P E : Type 0} (pass_of : P → View E) where
     steps = refl;
   }
 
-  -- after it takes in one more, it has taken in all of them
+  -- after it joins one more, it has joined all of them
   pub more_in : (ps : List P) (p : P) (old v w : View E) → (pass_of p).parts ≡ 1 → HasTakenIn pass_of ps old v
       → w ≡ after_join v (pass_of p) → HasTakenIn pass_of (ps ++ p ∷ []) old w
   more_in ps p old v w one h e =
@@ -71,7 +71,7 @@ module _ {P E : Type 0} (pass_of : P → View E) where
 pub map_of_all : {X Y : Type 0} (P : Y → Type 0) (f : X → Y) (xs : List X) → All (λ x. P (f x)) xs → All P (map f xs)
 map_of_all P f xs h = All-map P f xs h
 
--- one more element of which a fact holds
+-- one more element for which a fact holds
 pub all_then : {X : Type 0} (P : X → Type 0) (xs : List X) (x : X) → All P xs → P x → All P (xs ++ x ∷ [])
 all_then P xs x h p = All-push P xs x h p
 

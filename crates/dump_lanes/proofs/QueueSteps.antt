@@ -1,4 +1,4 @@
--- Each move on a queue of the pool keeps its rule, whichever of its parts the queue is.
+-- Each move on a queue of the pool obeys its rule, for each of the parts that are queues.
 use Rattle.dump_lanes.proofs.Prelude.{◌≡◌, ◌≢◌, ◌<◌, ℕ, true, false, true≢false, List, [], ◌∷◌, ◌++◌, length, set, sum_by, sym, refl, ap, ◌∙◌, subst, ⊎_elim, arith, length-append, filter-append, sum_by-append, sum_by-cons, sum_by_push, PARTS, Step, View, Thread, thread_of, event_of, Part, all_put, is_thread, steps_of, Crew, leading, following, after_put, after_take, after_fork, after_join, May, IsQueueOf}
 use Rattle.std.proofs.lemmas.List.{append-nil, length-set}
 use mathlib.Core.Option.{some}
@@ -127,7 +127,7 @@ module _ {E : Type 0} (part : Part E) (crew : Crew) (apart : AreApart crew) wher
         refl,
       )
 
-  -- a pass is cut off the one that leads
+  -- a pass is split off the one that leads
   pub forks : (pass : ℕ) (v : View E) → v.leads ≡ true → 1 < v.parts
       → Forks (IsQueueOf part crew) pass v (after_fork v) (following v.made)
   forks pass v leads parted items views h at =
@@ -195,7 +195,7 @@ module _ {E : Type 0} (part : Part E) (crew : Crew) (apart : AreApart crew) wher
             (AllViews-set (Fits part crew owner h.happened) views pass left one others) last;
       }
 
-  -- the pass that leads takes in another
+  -- the pass that leads joins another
   pub merges : (pass : ℕ) (v : View E) (other : ℕ) (u : View E) → v.leads ≡ true → 0 < v.parts
       → Merges (IsQueueOf part crew) pass v other u (after_join v u) spent
   merges pass v other u leads parted items views h at two at' =
@@ -265,7 +265,7 @@ module _ {E : Type 0} (part : Part E) (crew : Crew) (apart : AreApart crew) wher
         fits = AllViews-set Now joined other spent gone (λ j y apart e. now j y e apart);
       }
 
-  -- where a pass has all parts, the others have none
+  -- if a pass has all parts, the others have none
   alone : (views : List (View E)) (pass j : ℕ) (v u : View E) → get_elem? views pass ≡ some v
       → get_elem? views j ≡ some u → j ≢ pass
       → sum_by parts_of views ≡ v.parts → u.parts ≡ 0
@@ -273,7 +273,7 @@ module _ {E : Type 0} (part : Part E) (crew : Crew) (apart : AreApart crew) wher
       let s = sum_by-set parts_of views pass v spent at in
       let l = sum_by-least parts_of (set views pass spent) j u (set_else views pass j spent ne ∙ e) in omega arith
 
-  -- a pass with all parts knows of each thread all steps
+  -- a pass with all parts knows all steps of each thread
   pub learns : (pass : ℕ) (v : View E) → v.parts ≡ PARTS
       → Learns (IsQueueOf part crew) pass v (λ items. KnowsSteps part crew v items)
   learns pass v all items views h at =
@@ -296,20 +296,20 @@ module _ {E : Type 0} (part : Part E) (crew : Crew) (apart : AreApart crew) wher
       }
 
 module _ {E : Type 0} (part : Part E) (crew : Crew) (v : View E) (items : List E) (k : KnowsSteps part crew v items) where
-  -- what a pass with all parts put is what joined, where one thread alone puts
+  -- if only one thread puts, what a pass with all parts put is what joined the queue
   pub knows_put : (t : Thread) → ((s : Step E) → is_thread t (thread_of (event_of s.event)) ≡ false → part.puts s ≡ [])
       → v.put ≡ all_put part k.happened
   knows_put t none = k.put_is ∙ (put_alone part t none v.steps ∙ (ap (all_put part) (k.each t)
       ∙ sym (put_alone part t none k.happened)))
 
-  -- and what it took is what left, where one thread alone takes
+  -- if only one thread takes, what it took is what left the queue
   pub knows_taken : (t : Thread)
       → ((s : Step E) → is_thread t (thread_of (event_of s.event)) ≡ false → part.takes s ≡ [])
       → v.taken ≡ all_taken part k.happened
   knows_taken t none = k.taken_is ∙ (taken_alone part t none v.steps ∙ (ap (all_taken part) (k.each t)
       ∙ sym (taken_alone part t none k.happened)))
 
-  -- and else it put each entry as often as it joined
+  -- otherwise it put each entry as often as it joined
   pub weighs_put : (weight : E → ℕ) → sum_by weight v.put ≡ sum_by weight (all_put part k.happened)
   weighs_put weight = ap (λ l. sum_by weight l) k.put_is ∙ (put_weight part weight v.steps
       ∙ (k.made (λ s. sum_by weight (part.puts s)) ∙ sym (put_weight part weight k.happened)))

@@ -15,11 +15,11 @@ use Rattle.dump_lanes.proofs.QueueSteps.{weighs_put, weighs_taken}
 use Rattle.dump_lanes.proofs.PoolMarks.{count_ends-append, count_ends-replicate, marks_in-then}
 
 module _ {X Y : Type 0} where
-  -- one more in a list whose parts are put together
+  -- one more element in a list whose parts are joined
   pub flat_map-then : (f : X → List Y) (xs : List X) (x : X) → flat_map f (xs ++ x ∷ []) ≡ flat_map f xs ++ f x
   flat_map-then f xs x = flat_map-append f xs (x ∷ []) ∙ ap (λ l. flat_map f xs ++ l) (append-nil (f x))
 
-  -- a list with one more, mapped, is the mapped list with that one mapped behind it
+  -- a list with one more, mapped, is the mapped list with that one mapped after it
   pub map-then : (f : X → Y) (xs : List X) (x : X) → map f (xs ++ x ∷ []) ≡ map f xs ++ f x ∷ []
   map-then f xs x = map-append f xs (x ∷ [])
 
@@ -85,7 +85,7 @@ module _ {T : Type 0} where
       h ∙ (ap (λ l. before ++ l) (ends_then n) ∙ sym (append_assoc before (replicate n End) (End ∷ []))) in
       no_tail (before ++ replicate n End) gone items (sym last ∙ order) none
 
-  -- where as many end marks were taken as were put, behind all jobs, each job was taken as often as it was put
+  -- where as many end marks were taken as were put, after all jobs, each job was taken as often as it was put
   pub all_jobs : (n : ℕ) (v : View (Mark T)) (items : List (Mark T)) → 0 < n → AreItemsThen (replicate n End) v.put
       → count_ends v.taken ≡ n → KnowsSteps jobs_part cutter_crew v items
       → (weight : T → ℕ) → sum_by weight (items_of v.taken) ≡ sum_by weight (items_of v.put)
@@ -110,7 +110,7 @@ module _ {T : Type 0} where
   pub marks_in-append : (xs ys : List (Note T)) → marks_in (xs ++ ys) ≡ marks_in xs ++ marks_in ys
   marks_in-append xs ys = map-append (λ (n : Note T). n.mark) xs ys
 
-  -- what a worker put, whose end mark is its last
+  -- what a worker has put, if its end mark is the last
   abbrev pub HasEnded : List (Note T) → Type 0
   HasEnded put = AreItemsThen (End ∷ []) (marks_in put)
 
@@ -122,14 +122,14 @@ module _ {T : Type 0} where
   ends_last-append [] ys a b = b
   ends_last-append (x ∷ xs) ys a b = a
 
-  -- where the last step of each worker put an end mark in both, it does in both together
+  -- if the last step of each worker put an end mark in both lists, this is true of the joined list
   pub all_end_last-append : (xs ys : List (Step (Note T))) → AllEndLast xs → AllEndLast ys → AllEndLast (xs ++ ys)
   all_end_last-append xs ys a b worker =
       subst EndsLast (sym (filter-append (λ (s : Step (Note T)). is_thread (Thread.Worker worker)
       (thread_of (event_of s.event))) xs ys)) (ends_last-append (steps_of (Thread.Worker worker) xs)
       (steps_of (Thread.Worker worker) ys) (a worker) (b worker))
 
-  -- no mark, or an end mark behind others
+  -- no mark, or an end mark after others
   abbrev NoneOrEnd : List (Mark T) → Type 0
   NoneOrEnd marks = (marks ≡ []) ⊎ ((before : List (Mark T)) × (marks ≡ before ++ End ∷ []))
 

@@ -1,4 +1,4 @@
--- What a step on each shared part can be, and nothing else.
+-- What a step on each shared part can be.
 use Rattle.dump_lanes.proofs.Prelude.{◌≡◌, ◌⊎◌, inl, inr, ◌+◌, ◌==◌, ℕ, Bool, true, false, true≢false, List, [], ◌∷◌, ◌++◌, length, cond, sym, refl, ap, ◌∙◌, arith, length-append, Note, Mark, Item, End, Move, Step, Event, Thread, thread_of, event_of, Part, all_put, Joins, Leaves, JobsMoveOne, DonesMoveOne, PiecesMoveOne, CreditsMoveOne, WordOnlyRises}
 use Rattle.std.proofs.Common.{ne_eqb}
 use Rattle.std.proofs.lemmas.List.{append-nil}
@@ -14,7 +14,7 @@ use Rattle.dump_lanes.specs.LaneRule as lane
 use Rattle.dump_lanes.proofs.CreditSteps.{one_balance}
 
 module _ {E : Type 0} where
-  -- a step moves one entry, no more
+  -- a step moves exactly one entry
   pub one_each : (part : Part E) (happened : List (Step E)) (items : List E) → AreSteps part happened items
       → length happened ≡ length (all_put part happened) + length (all_taken part happened)
   one_each part [] items h = refl
@@ -88,7 +88,7 @@ pub credits_move : CreditsMoveOne
 credits_move old new s h = credit s.event old new h.one_credit
     (one_balance old new s.event h.one_credit h.allowed h.share)
 
--- a raise puts the stop word up, and a look finds what it is and leaves it
+-- a raise sets the stop word, and a look finds its value and doesn't change it
 pub word_rises : WordOnlyRises
 word_rises was up kind.Raise h = inl (refl, h.share Event.WriterRaises refl)
 word_rises was up (kind.Look found) h = inr (ap kind.Look h.says, h.share Event.Look refl)

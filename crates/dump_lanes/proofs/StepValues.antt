@@ -1,4 +1,4 @@
--- Worked steps on a queue of the pool, and wrong ones that its rule refuses.
+-- Worked steps on a queue of the pool, and wrong ones that its rule rejects.
 use Rattle.dump_lanes.proofs.Prelude.{◌≡◌, ℕ, ◌+◌, List, [], ◌∷◌, ◌++◌, length, sum_by, true, refl, ap, sym, ◌∙◌, arith, sum_by-append, PARTS, View, Mark, Item, Step, Thread, Part, all_put, jobs_part, Knows, leading, following, after_put, after_take}
 use Rattle.crossbeam_queue.specs.Fifo.{Pushes}
 use Rattle.dump_lanes.specs.declared.steps.Move.TheVariants as move
@@ -29,7 +29,7 @@ first_is_taken = record { one_entry = refl; allowed = refl; share = refl; in_tur
 last_is_not_taken : IsStep jobs_part two_jobs (jobs.take_step 0 (job 7)) (job 5 ∷ []) → ⊥
 last_is_not_taken h = absurd (let e = ap first_of h.in_turn in omega arith)
 
--- what is put goes behind them, as one entry
+-- what is put goes after them, as one entry
 
 last_is_put : IsStep jobs_part (job 5 ∷ []) (jobs.put_step (job 7)) two_jobs
 last_is_put = record { one_entry = refl; allowed = refl; share = refl; in_turn = refl }
@@ -37,7 +37,7 @@ last_is_put = record { one_entry = refl; allowed = refl; share = refl; in_turn =
 first_is_not_put : IsStep jobs_part (job 5 ∷ []) (jobs.put_step (job 7)) (job 7 ∷ job 5 ∷ []) → ⊥
 first_is_not_put h = absurd (let e = ap first_of h.in_turn in omega arith)
 
--- a part of which each step would put two entries makes none
+-- a part in which each step would put two entries makes no step
 
 abbrev doubled : Part (Mark ℕ)
 doubled = record jobs_part { puts = λ s. s.entry ∷ s.entry ∷ [] }
@@ -59,7 +59,7 @@ ignorant_pass_is_refused k = absurd (let e = ap length (k.own Thread.Cutter refl
 other_pass_is_refused : Knows all_by_first cut_five 1 cut_five → ⊥
 other_pass_is_refused k = absurd (let e = ap length (k.others Thread.Cutter (omega arith)) in omega arith)
 
--- each step is noted as the thread's own that makes it
+-- each step is stored as one of the thread that makes it
 
 piece_is_released : lane.put_step (job 5) ≡ record { event = move.Release; entry = job 5 }
 piece_is_released = refl
@@ -67,7 +67,7 @@ piece_is_released = refl
 job_is_taken : jobs.take_step 3 (job 5) ≡ record { event = move.Take 3; entry = job 5 }
 job_is_taken = refl
 
--- no rule lets the cutter put a mark and note no step: it would be kept at the first push, and isn't
+-- no rule lets the cutter put a mark without storing a step: the first push would break the rule
 
 not_unnoted : {T : Type 0} (x : Mark T)
     → ((n pass : ℕ) (v : View (Mark T)) → v.leads ≡ true → Pushes jobs.IsJobQueue n pass v x
@@ -81,7 +81,7 @@ not_unnoted {T} x rule =
     let put : w.put ≡ x ∷ [] = ap (λ (k : View (Mark T)). k.put) after.2 in
     absurd (let e = ap length (ap (all_put jobs_part) (sym steps) ∙ (sym f.put_is ∙ put)) in omega arith)
 
--- what the passes of a queue put together is as much as they took and it holds
+-- what the passes of a queue put together is what they took and what it holds
 
 abbrev one : Mark ℕ → ℕ
 one mark = 1
@@ -107,7 +107,7 @@ balanced items views h =
 full_queue_is_no_beginning : jobs.IsJobQueue (job 5 ∷ []) (leading PARTS 0 ∷ []) → ⊥
 full_queue_is_no_beginning h = absurd (let e = balanced (job 5 ∷ []) (leading PARTS 0 ∷ []) h in omega arith)
 
--- and where a pass takes in another it keeps the other's steps: the cutter put a job and the worker took it
+-- and if a pass joins another it keeps the other's steps: the cutter put a job and the worker took it
 
 abbrev cutter_put : View (Mark ℕ)
 cutter_put = after_put (leading 127 1) (jobs.put_step (job 5))

@@ -1,4 +1,4 @@
--- Each step on the stop word keeps its rule.
+-- Each step on the stop word obeys its rule.
 use Rattle.dump_lanes.proofs.Prelude.{◌≡◌, ◌==◌, ◌/◌, ◌%◌, ◌*◌, ◌<◌, ◌≤◌, ℕ, Bool, true, false, true≢false, List, [], ◌∷◌, length, set, sum_by, sym, refl, ap, ◌∙◌, subst, slice_index, arith, or_left, or_right, sum_by_push, sum_by-cons, sum_by-append, WordStep, Marks, Event, stop_share, is_event, after_raise, after_look, left_half, right_half, joined_marks, word_of, SomeRaised, IsStop, SeesOwn, HasLooked, HasChecked, ⊎_elim, or_cases}
 use Rattle.std.proofs.Common.{IsTrue}
 use mathlib.Core.Option.{some, some-injective}
@@ -21,7 +21,7 @@ raised_by v = word_of v.raised
 abbrev made_by : (WordStep → ℕ) → Marks → ℕ
 made_by weight v = sum_by weight v.steps
 
--- a raise, and a look, is the word's share of its event
+-- a raise, and a look, belongs to its event
 raise_share : (was : Bool) (event : Event) → IsTrue (is_event kind.Raise event) → true ≡ stop_share was event
 raise_share was Event.SequencerRaises e = refl
 raise_share was Event.WriterRaises e = refl
@@ -32,11 +32,11 @@ look_share up Event.SequencerRaises e = absurd (true≢false (sym e))
 look_share up Event.WriterRaises e = absurd (true≢false (sym e))
 look_share up event e = refl
 
--- a raise puts the stop word up, whatever it was
+-- a raise sets the stop word, whatever it was
 pub raise_is_step : (was : Bool) → IsStep was kind.Raise true
 raise_is_step was = record { event = Event.WriterRaises; named = refl; share = raise_share was; says = refl }
 
--- a look finds what the stop word is, and leaves it
+-- a look finds the value of the stop word, and doesn't change it
 pub look_is_step : (up found : Bool) → found ≡ up → IsStep up (kind.Look found) up
 look_is_step up found e = record {
   event = Event.Look;
@@ -49,7 +49,7 @@ found_is : (up : Bool) (n : ℕ) → n ≡ word_of up → (n == 1) ≡ up
 found_is true n e = ap (λ (k : ℕ). k == 1) e
 found_is false n e = ap (λ (k : ℕ). k == 1) e
 
--- the word's number says whether it is up
+-- the value of the word says whether the stop is raised
 seen_up : (up : Bool) (n : ℕ) → n ≡ word_of up → IsTrue (n == 1) → IsTrue up
 seen_up up n e t = sym (found_is up n e) ∙ t
 
@@ -60,7 +60,7 @@ up_is false e = absurd (omega arith)
 one_is : (up : Bool) → IsTrue up → word_of up ≡ 1
 one_is up e = ap word_of e
 
--- where one seat changes, some seat raised the stop, if one does where the changed one had
+-- if one seat changes, some seat has raised the stop afterwards; this has to be shown if it was the changed one
 move_some : (views : List Marks) (id : ℕ) (v w : Marks) → get_elem? views id ≡ some v
     → (IsTrue v.raised → SomeRaised (set views id w)) → SomeRaised views → SomeRaised (set views id w)
 move_some views id v w at here one = dite (ℕ_discrete one.seat id)
@@ -74,7 +74,7 @@ move_some views id v w at here one = dite (ℕ_discrete one.seat id)
       raised = one.raised;
     })
 
--- a seat that raised the stop stays where one seat changes and keeps its mark
+-- if one seat changes and keeps its mark, some seat has raised the stop afterwards
 keep_some : (views : List Marks) (id : ℕ) (v w : Marks) → get_elem? views id ≡ some v
     → (IsTrue v.raised → IsTrue w.raised) → SomeRaised views → SomeRaised (set views id w)
 keep_some views id v w at keep = move_some views id v w at
@@ -91,7 +91,7 @@ own views id v up at all fits one =
     let r = one_is one.view.raised one.raised in
     up_is v.raised (omega arith)
 
--- the word is written, and a seat's view is another
+-- the word is written, and one seat's view is replaced
 abbrev written : State (Unit {0}) Marks → ℕ → ℕ → Marks → State (Unit {0}) Marks
 written s word id w = record { words = set s.words 0 word; homes = s.homes; views = set s.views id w }
 
@@ -112,7 +112,7 @@ begins = record {
   };
 }
 
--- a seat with a share looks, and notes what it found
+-- a seat with a share reads the word, and stores what it found
 pub looks : (slots id : ℕ) (me : Me (Unit {0}) Marks) → 0 < me.0.share → Allows IsStop slots id me 0 (λ n. n)
     (λ n new. HasLooked me n new)
 looks slots id me shared s h long at small =
@@ -147,7 +147,7 @@ looks slots id me shared s h long at small =
           } (λ j u other d. h.fits j u d);
     } in (w, keeps, tt, after, told)
 
--- where a view has the whole share, it made all steps
+-- a view with the whole share made all steps
 knows : (s : State (Unit {0}) Marks) (h : IsStop s) (id : ℕ) (v : Marks) → get_elem? s.views id ≡ some v → v.share ≡ 4
     → KnowsSteps v
 knows s h id v at whole = record {
@@ -159,7 +159,7 @@ knows s h id v at whole = record {
       ∙ h.made weight;
 }
 
--- a seat is told what its share says
+-- a seat finds out what its share says
 pub checks : (slots id : ℕ) (me : Me (Unit {0}) Marks) → Allows IsStop slots id me 0 (λ n. n)
     (λ n new. HasChecked me new)
 checks slots id me s h long at small =
@@ -248,7 +248,7 @@ splits id v even shared s h at =
       fits = AllViews-more (Fits h.up) cut r old theirs;
     }
 
--- a seat takes in another
+-- a seat joins another
 pub joins : (id : ℕ) (v : Marks) (other : ℕ) (u : Marks) → 0 < v.share
     → Joins {S = Unit {0}} IsStop id v other u (joined_marks v u) spent
 joins id v other u shared s h at two at' =

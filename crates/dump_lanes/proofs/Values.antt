@@ -58,7 +58,7 @@ ends = refl
 ends_still : still_after right (size_of 2 1) (one_item ++ Event.CutMark ∷ [] ++ mark_way 1) ≡ Some true
 ends_still = refl
 
--- the bound on moves is met where the cutter is shut with a credit in hand
+-- the bound on moves is reached if the cutter is closed with a credit in hand
 
 abbrev shut_with_a_credit : List Event
 shut_with_a_credit = Event.Draw ∷ Event.Shut ∷ Event.CutMark ∷ [] ++ mark_way 0
@@ -69,7 +69,7 @@ most_are_made = refl
 most_are_behind : option_map progress (play right (size_of 1 1) (opening (size_of 1 1)) shut_with_a_credit) ≡ Some 5
 most_are_behind = refl
 
--- under a stop one more item is cut; and two where a look behind the draw had to serve the next draw
+-- after a stop one more item is cut; two would be cut if a look after the draw also counted for the next draw
 
 abbrev cut_after : PoolSize → List Event → Option ℕ
 cut_after size events = option_map (λ (w : World). w.cut) (play right size (opening size) events)
@@ -120,7 +120,7 @@ worker_waits = refl
 worker_waits_undone : done_after a_mark_too_few (size_of 2 1) one_item ≡ Some false
 worker_waits_undone = refl
 
--- a writer that keeps the credit: the cutter waits for ever
+-- a writer that doesn't give the credit back: the cutter waits for ever
 
 abbrev first_item : List Event
 first_item = Event.Draw ∷ Event.Cut false ∷ [] ++ way
@@ -141,7 +141,7 @@ cutter_waits = refl
 cutter_waits_undone : done_after a_credit_kept (size_of 1 1) first_item ≡ Some false
 cutter_waits_undone = refl
 
--- a slot fewer than credits: two items share it
+-- one slot less than there are credits: two items share it
 
 abbrev with_a_credit_more : PoolSize → World
 with_a_credit_more size = record (opening size) { credits = size.window + 1 }

@@ -1,4 +1,4 @@
--- What all views of a table's seats have, after a change of one of them.
+-- Facts about all views of a table's seats, after one of them changes.
 use Rattle.dump_lanes.proofs.Prelude.{◌≡◌, ◌≢◌, ◌+◌, ◌<◌, ◌≤◌, ◌⊎◌, inl, inr, ℕ, zero, suc, List, [], ◌∷◌, ◌++◌, length, set, sum_by, sym, refl, ap, subst, ⊎_elim, arith, sum_by-cons}
 use mathlib.Core.Option.{some, some-injective, some-ne-none}
 use lib.ListN.{get_elem?}
@@ -9,7 +9,7 @@ module _ {V : Type 0} where
   abbrev pub AllViews : (ℕ → V → Type 0) → List V → Type 0
   AllViews F views = (pass : ℕ) (v : V) → get_elem? views pass ≡ some v → F pass v
 
-  -- a fact of each view stays, where the changed view has it and the others keep it
+  -- a fact of each view remains true if the changed view has it and the others are unchanged
   pub AllViews-set : (F : ℕ → V → Type 0) (views : List V) (pass : ℕ) (w : V) → F pass w
       → ((j : ℕ) (u : V) → j ≢ pass → get_elem? views j ≡ some u → F j u) → AllViews F (set views pass w)
   AllViews-set F views pass w mine others j u e =
@@ -29,7 +29,7 @@ module _ {V : Type 0} where
   at_new (x ∷ xs) w u zero e = inl e
   at_new (x ∷ xs) w u (suc j) e = ⊎_elim (λ t. inl t) (λ t. inr (ap suc t.0, t.1)) (at_new xs w u j e)
 
-  -- a fact of each view stays, where one more view has it
+  -- a fact of each view remains true if one more view has it
   pub AllViews-more : (F : ℕ → V → Type 0) (views : List V) (w : V) → AllViews F views → F (length views) w
       → AllViews F (views ++ w ∷ [])
   AllViews-more F views w old new j u e =
@@ -67,7 +67,8 @@ module _ {V : Type 0} where
   sum_by-least f (x ∷ xs) (suc pass) v e =
       let t = sum_by-least f xs pass v e in omega (arith, sum_by-cons {X = V})
 
-  -- where a sum over all views is nothing, another is that is nothing for each view without a share in the first
+  -- if a sum over all views is zero, another one is zero too, if each view without a share in the first has none in
+  -- the other
   pub sum_by-idle : (share f : V → ℕ) (views : List V)
       → AllViews (λ pass v. share v ≡ 0 → f v ≡ 0) views → sum_by share views ≡ 0 → sum_by f views ≡ 0
   sum_by-idle share f [] idle none = refl

@@ -27,7 +27,7 @@ pub struct LaneIn<T: Drop> {
     ghost puts: { IsPutting [] (view pass) },
 }
 
-/// A sending end that was closed. It keeps what was put, for `LaneOut::settle`.
+/// A closed sending end. It holds the record of what was put, for `LaneOut::settle`.
 #[derive(Drop)]
 pub struct Sent<T: Drop> {
     sender: RuledSender<Mark<T>, View<Mark<T>>, InOrder>,
@@ -47,7 +47,7 @@ pub struct LaneOut<T: Drop> {
     ghost takes: { IsTaking (mark_of told) (view pass) },
 }
 
-/// What a take gives.
+/// The result of a take.
 #[derive(Debug, PartialEq, Eq, Drop)]
 pub enum Taken<T> {
     Item(T),
@@ -55,11 +55,11 @@ pub enum Taken<T> {
     /// The lane was closed, and every item was taken.
     Closed,
 
-    /// The sending end went without a close.
+    /// The sending end was dropped without a close.
     Lost,
 }
 
-/// What the receiving end was last told.
+/// What the receiving end has found so far.
 #[derive(Clone, Copy)]
 enum Told {
     MayCome,
@@ -70,8 +70,8 @@ enum Told {
 impl<T: Drop> LaneIn<T> {
     ghost use Rattle.dump_lanes.specs.steps.LaneViews.{sending, sent};
 
-    /// Puts an item at the back, and waits for a place. An item that comes back was not put: so a put
-    /// ends once the receiving end is gone.
+    /// Puts an item at the back; waits while there is no place for it. The error holds an item that was not put. Once
+    /// the receiving end is dropped, each put returns its item.
     pub fn put<R: Wait>(&mut self, rt: &R, value: T) -> Result<(), T>
         ensures ok { OnOk result
             (sending self.new ≡ record (sending self.old) { put = (sending self.old).put ++ value ∷ [] }) }
@@ -88,8 +88,8 @@ impl<T: Drop> LaneIn<T> {
         }
     }
 
-    /// Puts the end mark, so that nothing can follow what was put, and waits for a place. Where the
-    /// receiving end is gone the mark is not put, and the list of items is final all the same.
+    /// Puts the end mark, after which nothing can be put; waits while there is no place for it. If the receiving end
+    /// is dropped, the mark isn't put, but the list of items is complete all the same.
     pub fn close<R: Wait>(self, rt: &R) -> Sent<T>
         ensures { sent result ≡ sending self }
     {
@@ -106,7 +106,8 @@ impl<T: Drop> LaneIn<T> {
 impl<T: Drop> LaneOut<T> {
     ghost use Rattle.dump_lanes.specs.steps.LaneViews.{receiving, sent, Settles, TakeStep};
 
-    /// Takes the item at the front, and waits for one. After `Closed` or `Lost` the answer stays.
+    /// Takes the item at the front; waits while there is none. After `Closed` or `Lost` it returns the same at each
+    /// call.
     pub fn take<R: Wait>(&mut self, rt: &R) -> Taken<T>
         ensures { TakeStep (receiving self.old) result (receiving self.new) }
     {
@@ -128,8 +129,9 @@ impl<T: Drop> LaneOut<T> {
         }
     }
 
-    /// Shows that what was taken is what was put, that the end was told only where its mark was put, and that
-    /// the ends together made just the steps of one history, and drops both ends.
+    /// Drops both ends. Its contract says that what was taken is a prefix of what was put, and all of it after the end
+    /// mark. It says too that the receiver found the end mark only if it was put, and that the two ends made exactly
+    /// the steps of one history.
     pub fn settle(self, other: Sent<T>)
         requires { (receiving self).lane ≡ (sent other).lane }
         ensures { Settles self other }

@@ -1,11 +1,11 @@
-//! What runs between threads: lanes, a pool of queues, a row of slots, and a stop flag.
+//! What threads share: lanes, a pool of queues, a row of slots, and a stop flag.
 //!
 //! # Lanes
 //!
-//! A lane carries items from one thread to another, in order, up to an end mark. `lane` makes its
-//! two ends. The sending end puts items and is then closed; the receiving end takes them. When both
-//! come together again, `settle` shows that what was taken is a prefix of what was put, and all of it
-//! if the receiving end has found the lane closed.
+//! A lane carries items from one thread to another, in order, up to an end mark. `lane` makes its two
+//! ends. The sending end puts items and is then closed; the receiving end takes them. When both ends are
+//! back in one thread, `settle` drops them. Its contract says that what was taken is a prefix of what
+//! was put. It is all of that if the receiving end has found the lane closed.
 //!
 //! ```
 //! let Ok((mut input, mut output)) = lane::<u32>(rt.alloc(), 2) else {
@@ -26,13 +26,14 @@
 //!
 //! # The pool
 //!
-//! A `Pool` has a queue of jobs from one cutter to many workers, a queue of dones from the workers
-//! to one sequencer, and a queue of credits from one writer back to the cutter. `ports` gives each of
-//! them its port. The cutter draws a credit before each item, and whoever finishes an item gives its
-//! credit back: if callers do so, no more items are under way than there are credits. The cutter
-//! closes its port, each worker then its own, and the sequencer sees when each has. When all ports
-//! come together again, `settle` shows that each job was taken as often as it was put, each done as
-//! often as it was given, and that no more credits were drawn than there were at first and came back.
+//! A `Pool` has a queue of jobs from one cutter to many workers, a queue of dones from the workers to
+//! one sequencer, and a queue of credits from one writer back to the cutter. `ports` returns a port for
+//! each of them. The cutter draws a credit before each item, and the writer gives the credit back when
+//! the item is finished: if callers do so, no more items are under way than there are credits. The
+//! cutter closes its port, then each worker closes its own, and the sequencer finds out when all have.
+//! When all ports are back in one thread, the contract of `settle` says that each job was taken as often
+//! as it was put, and each done as often as it was given. It says too that no more credits were drawn
+//! than there were at first and came back.
 //!
 //! ```
 //! let Drawn::Credit(credit) = cutter.draw(rt, word, &mut seat) else {
@@ -56,8 +57,8 @@
 //! Some(first == Some(8))
 //! ```
 //!
-//! `tests::pooling::pass_one` runs this for `tests::pooling::one_item_through_a_pool`, and in place of
-//! `// ..` each worker does this:
+//! `tests::pooling::pass_one` runs this for `tests::pooling::one_item_through_a_pool`. In place of `//
+//! ..` each worker does this:
 //!
 //! ```
 //! if port.take(rt) != Some(7) {
@@ -74,9 +75,9 @@
 //!
 //! # The stop flag
 //!
-//! A `StopWord` is raised and looked at from seats, one for each thread. A seat that raised the flag,
-//! or saw it raised, sees it again. A seat that holds the whole flag saw it raised only if it was, and
-//! shows so when seats are joined. None of its calls waits.
+//! Threads raise and read a `StopWord` from seats, one for each thread. A seat that raised the flag, or
+//! saw it raised, sees it raised from then on. If seats are joined, and one seat holds the whole flag,
+//! its contract says that it saw the flag raised only if a seat raised it. None of these calls waits.
 //!
 //! ```
 //! let (mut one, mut other) = word.split(seat);
@@ -92,8 +93,8 @@
 //!
 //! # Slots
 //!
-//! `Slots` is a row of places for items with rising numbers: an item is at its number modulo the
-//! length of the row. An item whose place is taken comes back.
+//! `Slots` is a row of places for items with rising numbers. The place of an item is its number modulo
+//! the length of the row. If the place is taken, `place` returns the item.
 //!
 //! ```
 //! let front = slots.place(0, 10) == Ok(()) && slots.place(2, 12) == Err(12);
@@ -102,20 +103,21 @@
 //! front && first && gone && slots.lift(1) == Some(11) && slots.lift(2) == Some(12)
 //! ```
 //!
-//! `slots::tests::pass_through` runs this, in a row of two places.
+//! `slots::tests::pass_through` runs this with a row of two places.
 //!
 //! # The laws of the pool
 //!
-//! [`laws`] speaks of the pool's events, without threads or queues. Whatever happens, each item is in
-//! one place, in order, and no two share a slot. Each event is a step that the rules of the queues, of
-//! the lane and of the stop flag allow: one entry joins or leaves, by the thread whose step it is.
+//! [`laws`] describes the events of the pool, without threads or queues. Whatever happens, each item is
+//! in one place, in order, and no two share a slot. Each event is a step that the rules of the queues,
+//! of the lane and of the stop flag allow: one entry is put or taken, by the thread that makes the step.
 //!
 //! # What is not promised
 //!
-//! Nothing is promised of waiting: not that a put, a close, a take or a draw returns, nor how soon,
-//! which worker takes what, or that a stop is ever seen. No contract says when a put on a lane hands its
-//! item back, when a close finds that nobody receives its mark, or when a take answers `Lost`, only what
-//! the ends have then put and taken. The items that are left when all ends or ports go are dropped.
+//! No contract says that a waiting call returns: not a put, a close, a take or a draw. None says when it
+//! returns, which worker takes what, or that a thread ever sees a stop. No contract says when a put on a
+//! lane returns its item, when a close finds that the receiver is gone, or when a take returns `Lost`;
+//! the contracts only say what the ends have then put and taken. Items that are left when all ends or
+//! ports are dropped are dropped too.
 #![tactic(auto)]
 
 mod ends;

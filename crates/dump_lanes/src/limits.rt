@@ -1,4 +1,4 @@
-//! How large a pool may be.
+//! How large a pool can be.
 
 /// The most workers that a pool has.
 pub const MOST_WORKERS: usize = 64;

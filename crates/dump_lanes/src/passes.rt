@@ -1,18 +1,21 @@
-//! What a pass knows, whichever queue or lane it is for, and how passes are cut and joined.
-//!
-//! 1. A queue has one history of steps, each of which is its part's share of one event of the pool, with one entry.
-//! 2. Each pass knows the steps that its threads made, of which the history has just those.
-//! 3. One pass leads: others are cut off it, each for one thread that has made no step, and it may take each in again.
-//! 4. A pass has parts, `PARTS` in all. A joined pass has the parts of both, and the steps of both.
-//! 5. A pass with all parts learns that it knows each thread's steps in the history.
+//! The passes of a queue or a lane. A pass is the value by which a thread calls a queue; this file says what a pass
+//! knows, and how passes are split and joined.
+//! 1. A queue has one history of steps. Each step belongs to one event of the pool, and puts or takes one entry.
+//! 2. Each pass knows exactly the steps of the history that its threads made.
+//! 3. One pass leads. Others are split off from it, each for one thread that has made no step yet, and it may join
+//!    each of them again.
+//! 4. A pass has parts, and all passes together have `PARTS` of them. A joined pass has the parts and the steps of
+//!    both.
+//! 5. A pass with all parts finds out that it knows all steps of each thread in the history.
 use crate::steps::Step;
 use crossbeam_queue::protocol::{Join, Split};
 use std::collections::LinkedList;
 
-/// How many parts all passes of a queue have together: one for each worker that there can be, and as many to spare.
+/// The number of parts that all passes of a queue have together: one for each worker that there can be, and as many in
+/// reserve.
 pub const PARTS: u64 = 128;
 
-/// What a pass may do and what it has seen. Only its type is used: no value of it is made.
+/// What a pass may do and which steps it knows. It is only used as a type; the program makes no value of it.
 pub struct View<E> {
     pub parts: u64,
     pub leads: bool,
@@ -23,7 +26,7 @@ pub struct View<E> {
     pub steps: LinkedList<Step<E>>,
 }
 
-/// A pass for one more thread is cut off the one that leads.
+/// Splits a pass for one more thread off the pass that leads.
 pub struct Roles;
 
 impl<E> Split<View<E>> for Roles {

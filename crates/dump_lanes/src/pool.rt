@@ -1,4 +1,4 @@
-//! A pool of threads: the queues between them, and their ports.
+//! A pool of threads: its queues and their ports.
 ghost use Rattle.std.specs.Option.{ForSome};
 ghost use Rattle.std.specs.Arc.{arc_value};
 ghost use Rattle.dump_lanes.specs.steps.PoolNames.{AreFirst};
@@ -44,7 +44,7 @@ pub struct Pool<J: Drop, D: Drop> {
     ghost first: { ForSome passes (λ p. AreFirst (arc_value queues) p) },
 }
 
-/// The ports of a pool. They share its queues, and may outlive it.
+/// The ports of a pool. They share its queues, and remain usable after the pool is dropped.
 #[derive(Drop)]
 pub struct Ports<J: Drop, D: Drop> {
     pub cutter: JobPort<J, D>,
@@ -102,8 +102,8 @@ impl<J: Drop, D: Drop> Pool<J, D> {
         })
     }
 
-    /// Makes the ports: one for the cutter, one for each worker, one for the sequencer and one for the
-    /// writer. Where memory is refused the pool is as before, and may be asked again.
+    /// Makes the ports: one for the cutter, one for each worker, one for the sequencer and one for the writer. If an
+    /// allocation fails, the pool is unchanged, and the caller may try again.
     pub fn ports(&mut self, alloc: Global) -> Result<Ports<J, D>, Memory>
         requires { (pool_state self.old).opened ≡ false }
         ensures cutter { IfOk result (λ ports. job_port ports.cutter ≡ new_cutter (pool_state self.old)) }

@@ -1,12 +1,14 @@
 //! The protocol of a lane, over a bounded channel.
 //!
 //! 1. The channel carries marks: each is an item, or the end mark.
-//! 2. There is one history of steps, each of which is the share of the pool's lane of pieces in one event, with one mark:
-//!    the sender is its sequencer, the receiver its writer. It leads from the empty channel to what the channel holds.
-//! 3. The sender's pass leads, and makes the puts; the other is the receiver's, and makes the takes.
-//! 4. The end mark is put by an end that is used up by it, so no mark comes after it.
-//! 5. Without the steps of the end mark, which is no item and no event of the pool, the history is one of the items.
-//! 6. Where the two passes meet again, what was taken is a prefix of what was put, and with the end mark all of it.
+//! 2. There is one history of steps. Each step belongs to an event of the pool that releases or writes a piece, and
+//!    has one mark. The sender is the pool's sequencer, and the receiver its writer. The history leads from the empty
+//!    channel to what the channel holds.
+//! 3. The sender's pass leads and makes the puts; the other pass is the receiver's and makes the takes.
+//! 4. The sending end is used up when it puts the end mark, so no mark comes after that.
+//! 5. The end mark is no item, and its steps are no events of the pool. Without them the history is one of the items.
+//! 6. When the two passes are joined, what was taken is a prefix of what was put, and all of it if the end mark was
+//!    taken.
 use crate::passes::View;
 use crossbeam_channel::protocol::{Lesson, Outcome, Protocol};
 
@@ -17,7 +19,7 @@ pub enum Mark<T> {
     End,
 }
 
-/// The rule: each step on the channel is its share of the event that its pass notes.
+/// The rule: each step on the channel belongs to the event that its pass stores.
 pub struct InOrder;
 
 impl<T> Protocol<Mark<T>, View<Mark<T>>> for InOrder {
@@ -30,7 +32,7 @@ impl<T> Protocol<Mark<T>, View<Mark<T>>> for InOrder {
     ghost first = { leading PARTS 0 };
 }
 
-/// A mark joins those that were put: with an item the event `Release`.
+/// The pass stores a mark that it has put; if the mark is an item, the event is `Release`.
 pub struct Puts;
 
 impl<T> Outcome<Mark<T>, View<Mark<T>>> for Puts {
@@ -45,7 +47,7 @@ impl<T> Lesson<Mark<T>, View<Mark<T>>> for Puts {
     ghost fact = { λ v items. Unit {0} };
 }
 
-/// A mark joins those that were taken: with an item the event `Write`.
+/// The pass stores a mark that it has taken; if the mark is an item, the event is `Write`.
 pub struct Takes;
 
 impl<T> Outcome<Mark<T>, View<Mark<T>>> for Takes {
@@ -60,7 +62,7 @@ impl<T> Lesson<Mark<T>, View<Mark<T>>> for Takes {
     ghost fact = { λ v items. Unit {0} };
 }
 
-/// What a pass with all parts learns.
+/// What a pass with all parts finds out.
 pub struct Total;
 
 impl<T> Lesson<Mark<T>, View<Mark<T>>> for Total {

@@ -1,9 +1,9 @@
 //! A row of places for items that arrive out of order.
 //!
-//! 1. There are as many places as the window is wide, and a number's place is its remainder by that.
-//! 2. Numbers less than a window apart have different places, so the items of one window all find room.
-//! 3. An item whose place is taken comes back: nothing in the row is overwritten.
-//! 4. A lift gives what stands in the place of its number, and leaves the place free.
+//! 1. There are as many places as the window is wide. The place of a number is its remainder modulo the window.
+//! 2. Numbers less than a window apart have different places, so there is room for all items of one window.
+//! 3. If the place of an item is taken, the caller gets the item back: nothing in the row is overwritten.
+//! 4. A lift returns what is in the place of its number, and frees the place.
 ghost use Rattle.std.specs.Prelude.{◌≡◌, ◌<◌, ◌≤◌, ◌↔◌, ◌%◌, Some, None, length, replicate, IsOk, IsNone, IfSome, IfOk, IfErr, OnOk, OnErr};
 ghost use Rattle.dump_lanes.specs.declared.limits.TheConstants.{MOST_WINDOW};
 ghost use Rattle.dump_lanes.specs.steps.SlotRow.{slot_item, with_slot_item};
@@ -14,7 +14,7 @@ use std::alloc::Global;
 #[cfg(test)]
 mod tests;
 
-/// A row of places, each shared by all numbers with one remainder.
+/// A row of places; numbers with the same remainder share a place.
 ///
 /// ```text
 /// slots.place(0, 10);     // Ok(()), in a row of two places
@@ -24,7 +24,7 @@ mod tests;
 /// slots.place(2, 12);     // Ok(())
 /// ```
 ///
-/// Neither `place` nor `lift` takes or gives back memory of the row.
+/// `place` and `lift` allocate and free nothing.
 #[derive(Drop)]
 pub struct Slots<T> {
     places: Vec<Option<T>>,
@@ -34,7 +34,7 @@ pub struct Slots<T> {
 impl<T: Drop> Slots<T> {
     ghost use Rattle.dump_lanes.specs.steps.SlotViews.{slot_places};
 
-    /// Makes the row, and takes all the memory that it ever has.
+    /// Makes the row, and allocates all the memory that it needs.
     pub fn new(alloc: Global, window: usize) -> Result<Slots<T>, Memory>
         requires some { 1 ≤ window }
         requires most { window ≤ MOST_WINDOW }
@@ -44,7 +44,7 @@ impl<T: Drop> Slots<T> {
         Ok(Slots { places })
     }
 
-    /// Puts an item in the place of its number. Where the place is taken the item comes back.
+    /// Puts an item in the place of its number. If the place is taken, the error is the item.
     pub fn place(&mut self, number: u64, value: T) -> Result<(), T>
         ensures free { IsOk result ↔ IsNone (slot_item (slot_places self.old) number) }
         ensures placed { OnOk result
@@ -60,7 +60,7 @@ impl<T: Drop> Slots<T> {
         Ok(())
     }
 
-    /// Takes what stands in the place of a number.
+    /// Takes what is in the place of a number.
     pub fn lift(&mut self, number: u64) -> Option<T>
         ensures value { result ≡ slot_item (slot_places self.old) number }
         ensures emptied { slot_places self.new ≡ with_slot_item (slot_places self.old) number None }
@@ -82,7 +82,7 @@ fn place_of(number: u64, window: usize) -> usize
     (number % window as u64) as usize
 }
 
-/// A row with nothing in it, unless memory runs out.
+/// A row of empty places, unless the allocation fails.
 fn empty_places<T: Drop>(alloc: Global, window: usize) -> Result<Vec<Option<T>>, Memory>
     ensures { IfOk result (λ places. places.items ≡ replicate window None) }
 {

@@ -1,4 +1,5 @@
-//! The steps on what the threads of a pool share, as their passes note them. Only the types are used: no value of them is made.
+//! The steps of a pool's threads on what they share, as their passes store them. They are only used as types; the
+//! program makes no values of them.
 
 /// The event of a step.
 pub enum Move {
@@ -13,7 +14,7 @@ pub enum Move {
     Write,
 }
 
-/// A step: its event, and the entry that joins or leaves the queue.
+/// A step: its event, and the entry that it puts or takes.
 pub struct Step<E> {
     pub event: Move,
     pub entry: E,

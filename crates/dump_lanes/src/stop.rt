@@ -12,7 +12,7 @@ mod protocol;
 
 use protocol::{Checks, Halves, Looks, Marks, Raises, UpWhereRaised};
 
-/// A word that tells threads to stop. It is raised and looked at from seats, one for each thread.
+/// A word that tells threads to stop. They raise and read it from seats, one for each thread.
 #[derive(Drop)]
 pub struct StopWord {
     table: Table<(), Marks, (), UpWhereRaised, Global>,
@@ -25,7 +25,7 @@ impl Model for StopWord {
     ghost view = { λ w. w.table.shared.table_id };
 }
 
-/// A seat from which one thread raises the stop word and looks at it.
+/// A seat from which one thread raises the stop word and reads it.
 #[derive(Drop)]
 pub struct StopSeat {
     seat: Seat<(), Marks>,
@@ -45,7 +45,7 @@ impl Model for StopSeat {
 }
 
 impl StopWord {
-    /// Makes a word that is not up, and its first seat.
+    /// Makes a word that is not raised, and its first seat.
     pub fn new(alloc: Global) -> Result<(StopWord, StopSeat), Memory>
         ensures { IfOk result (λ made. made.1 ≡ first_seat made.0) }
     {
@@ -53,7 +53,7 @@ impl StopWord {
         Ok((StopWord { table }, StopSeat { seat }))
     }
 
-    /// Makes two seats of one, so that two threads have one each.
+    /// Makes two seats of one, for two threads.
     pub fn split(&self, seat: StopSeat) -> (StopSeat, StopSeat)
         requires this_word { seat.word ≡ self.now }
         requires even { seat.share % 2 ≡ 0 }
@@ -65,7 +65,7 @@ impl StopWord {
         (StopSeat { seat }, StopSeat { seat: other })
     }
 
-    /// Makes one seat of two, once their threads have ended.
+    /// Makes one seat of two, after their threads have ended.
     pub fn join(&self, left: StopSeat, right: StopSeat) -> StopSeat
         requires left { left.word ≡ self.now }
         requires right { right.word ≡ self.now }
@@ -79,7 +79,7 @@ impl StopWord {
         StopSeat { seat }
     }
 
-    /// Raises the word. It is never taken down.
+    /// Raises the word. Nothing clears it.
     pub fn raise(&self, seat: &mut StopSeat)
         requires { seat.old.word ≡ self.now }
         ensures { seat.new ≡ record seat.old { raised = true } }
@@ -87,7 +87,7 @@ impl StopWord {
         self.table.shared.store::<Raises>(&mut seat.seat, 0, 1);
     }
 
-    /// Whether the word is up. Nothing says how soon a seat sees what another one raised.
+    /// Whether the word is raised. A seat that raised it sees this; no contract says how soon another seat does.
     pub fn look(&self, seat: &mut StopSeat) -> bool
         requires { seat.old.word ≡ self.now }
         ensures seen { seat.new ≡ record seat.old { seen = result } }

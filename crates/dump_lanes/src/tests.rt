@@ -51,7 +51,7 @@ fn the_output_is_dropped(rt: HostRuntime) -> Result<(), Fail> {
     Ok(())
 }
 
-/// Whichever allocation is refused, `lane` answers `Memory`: run under `--fail-alloc 1` to `8`.
+/// Run with each allocation failing in turn, under `--fail-alloc 1` to `8`: the error of `lane` is `Memory`.
 #[test]
 fn a_lane_or_no_memory(rt: HostRuntime) {
     match lane::<u32>(rt.alloc(), 4096) {
@@ -63,7 +63,7 @@ fn a_lane_or_no_memory(rt: HostRuntime) {
     }
 }
 
-/// Puts two items, and says whether both were taken.
+/// Puts two items, and returns whether the lane took both.
 fn put_two<R: Wait>(rt: &R, alloc: Global, input: &mut LaneIn<String>) -> Result<bool, Fail> {
     let first = String::from_str(alloc, "first")?;
     let second = String::from_str(alloc, "second")?;
@@ -77,7 +77,7 @@ fn is_next<R: Wait>(rt: &R, output: &mut LaneOut<String>, wanted: &str) -> bool 
     }
 }
 
-/// Whether an item comes back.
+/// Whether a put returns its item.
 fn is_refused<R: Wait>(rt: &R, alloc: Global, input: &mut LaneIn<String>) -> Result<bool, Fail> {
     let third = String::from_str(alloc, "third")?;
     match input.put(rt, third) {
@@ -93,7 +93,7 @@ fn items_that_own_memory(rt: HostRuntime) -> Result<(), Fail> {
     };
     let put = put_two(&rt, rt.alloc(), &mut input)?;
     let first = is_next(&rt, &mut output, "first");
-    // The second is dropped with the lane.
+    // The second item is dropped with the lane.
     drop(output);
     let refused = is_refused(&rt, rt.alloc(), &mut input)?;
     assert!(rt; put && first && refused);

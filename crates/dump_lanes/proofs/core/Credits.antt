@@ -1,4 +1,4 @@
--- Credits and items in flight add up to the window, after each event.
+-- The credits and the items under way add up to the window, after each event.
 use Rattle.dump_lanes.proofs.Prelude.{◌≡◌, ℕ, ◌+◌, ◌<◌, Bool, true, ◌&&◌, List, ◌++◌, length, Option, Some, None, is_some, option_to_list, if◌then◌else◌, ap, arith, and_parts, not-true, ltb-true, length_push, PoolSize, World, opening, Event, is_enabled, after_event}
 use Rattle.std.proofs.Common.{not, IsTrue}
 use Rattle.dump_lanes.proofs.core.FirstEntry.{by_job, by_done, by_piece}
@@ -29,7 +29,7 @@ pub may_cut : (size : PoolSize) (w : World) (last : Bool) → IsTrue (is_enabled
     → held w.holds_credit ≡ 1
 may_cut size w last e = ap held (and_parts w.holds_credit _ e).0
 
--- after an event that may happen credits and items in flight add up to the window
+-- after a possible event, credits and items under way add up to the window
 pub bounded_kept : (size : PoolSize) (w : World) (event : Event) → IsTrue (is_enabled size w event)
     → IsBounded size w → IsBounded size (after_event size w event)
 bounded_kept size w Event.Draw e h = let may = may_draw size w e in omega arith

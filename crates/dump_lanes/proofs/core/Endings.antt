@@ -1,4 +1,4 @@
--- In each state before the end the next move may be made; and the next moves in turn lead to the end.
+-- In each state before the end a next move is possible, and the next moves in turn lead to the end.
 use Rattle.dump_lanes.proofs.Prelude.{◌≡◌, ◌⊎◌, inl, inr, ℕ, zero, suc, ◌+◌, ◌-◌, ◌<◌, ◌≤◌, Bool, true, false, cond, List, [], ◌∷◌, ◌++◌, map, find, length, get_or, Option, Some, sym, refl, ap, ◌∙◌, subst, arith, unwrap_or, range_with_len, and_parts, not-true, cases_Bool, length-range_with_len, get_or-range_with_len, PoolSize, World, Event, is_enabled, after_event, IsRun, is_move, all_moves, next_move, IsAllDone, IsReached, StandsStill, NoDeadEnd, OnlyDoneStandsStill, ClosedKeepsNobody, progress, count_move, most_moves, AreNextMoves, EveryRunCanEnd, ⊎_elim}
 use Rattle.std.proofs.Common.{IsTrue}
 use Rattle.dump_lanes.proofs.core.FirstEntry.{by_job, by_done, by_piece}
@@ -7,7 +7,7 @@ use Rattle.dump_lanes.proofs.core.Progress.{reached_holds, step_counts, progress
 use Rattle.dump_lanes.proofs.core.Still.{IsStuck, done_where_stuck, still_where_done, may_take_once_closed}
 use Rattle.dump_lanes.proofs.core.Runs.{Holds, step_holds}
 
--- a move that may come next: no cut but the last
+-- a move that may come next: each move except a cut, and the last cut
 abbrev is_next : Event → Bool
 is_next (Event.Cut last) = last
 is_next event = is_move event
@@ -16,7 +16,7 @@ next_moves : (event : Event) → is_next event ≡ true → is_move event ≡ tr
 next_moves (Event.Cut last) e = refl
 next_moves event e = e
 
--- each event may come next, and none passes a test
+-- each of these events may come next; and none of them passes a test
 abbrev AreNext : List Event → Type 0
 AreNext [] = Unit {0}
 AreNext (event ∷ events) = (is_next event ≡ true) × AreNext events
@@ -79,7 +79,7 @@ find_first : (test : Event → Bool) (events : List Event) → AreNext events �
 find_first test [] a = inr tt
 find_first test (x ∷ xs) a = find_at test x xs a (cases_Bool (test x)) (find_first test xs a.1)
 
--- the next move may be made
+-- the next move is possible
 record MayMove (size : PoolSize) (w : World) : Type 0 where
   enabled : is_enabled size w (next_move size w) ≡ true
   next : is_next (next_move size w) ≡ true
@@ -166,7 +166,7 @@ no_dead_end = record {
   next = next_or_done;
 }
 
--- a pool stands still where all is done, and nowhere else
+-- no move of a pool is possible exactly if all is done
 pub only_done_stands_still : OnlyDoneStandsStill
 only_done_stands_still = record {
   done = λ size w r s. done_where_stuck size w (reached_holds size w r) (still_stuck size w s);
@@ -177,7 +177,7 @@ only_done_stands_still = record {
 pub closed_keeps_nobody : ClosedKeepsNobody
 closed_keeps_nobody size w worker r = may_take_once_closed size w worker (reached_holds size w r)
 
--- how many items are cut at most where the next cut is the last
+-- the largest number of items that are cut if the next cut is the last
 abbrev uncut : Bool → ℕ
 uncut ended = cond ended 0 1
 
@@ -200,7 +200,7 @@ limit_kept size w Event.Arrive m e =
 limit_kept size w Event.Write m e = by_piece (λ v. limit v ≡ limit w) size w w.lane refl (λ n rest. refl)
 limit_kept size w event m e = cc
 
--- the next moves up to the end, where at most so many are left
+-- the next moves up to the end, if at most this many are left
 record EndsWithin (size : PoolSize) (w : World) (left : ℕ) : Type 0 where
   events : List Event
   new : World

@@ -1,4 +1,4 @@
--- Where the end marks stand, after each event; so once all have arrived no item is on its way.
+-- Where the end marks are, after each event; so once all have arrived no item is on its way.
 use Rattle.dump_lanes.proofs.Prelude.{◌≡◌, ◌⊎◌, inl, inr, ℕ, ◌+◌, ◌<◌, ◌≤◌, Bool, true, false, List, [], ◌∷◌, ◌++◌, length, get_or, set, Option, Some, None, option_to_list, sym, refl, ap, ◌∙◌, arith, subst, true≢false, and_parts, not-true, ltb-true, cases_eq, cases_Bool, PoolSize, Entry, World, opening, hand_of, items_in_hands, items_on_the_way, Event, is_enabled, after_event, arrived, marks_in_hands}
 use Rattle.std.proofs.Common.{IsTrue, get_or-set_same, get_or-set_other, append-nil}
 use Rattle.dump_lanes.specs.PoolWorld.{items_of}
@@ -9,7 +9,7 @@ use Rattle.dump_lanes.specs.PoolProgress.{marks}
 use Rattle.dump_lanes.proofs.core.Marks.{count_taken, AreItemsFirst, AreMarkedAfter, marks-append, item_joins, mark_joins, closes, none_left, hand_set, taken_set, not_all, no_item_in_hands, no_marks_in_hands, none_taken, get_or_replicate, OwnLast}
 use Rattle.dump_lanes.proofs.core.Places.{IsSized, may_take, MayTake, hand_within}
 
--- the job queue, beside the marks that were put and taken
+-- the job queue, and the marks that were put and taken
 pub record HasJobs (workers : ℕ) (ended : Bool) (put : ℕ) (jobs : List Entry) (taken : List Bool) : Type 0 where
   pub after_end : ended ≡ false → put ≡ 0
   pub enough : put ≤ workers
@@ -17,14 +17,14 @@ pub record HasJobs (workers : ℕ) (ended : Bool) (put : ℕ) (jobs : List Entry
   pub items_first : AreItemsFirst jobs
   pub no_item : marks jobs < put → items_of jobs ≡ []
 
--- the hands and the done queue, beside the marks that were taken and that arrived
+-- the hands and the done queue, and the marks that were taken and that arrived
 pub record HasDones (workers : ℕ) (taken : List Bool) (hands : List (Option Entry)) (dones : List Entry)
     (arrived : ℕ) : Type 0 where
   pub on_the_way : count_taken taken ≡ marks_in_hands hands + marks dones + arrived
   pub own_last : OwnLast taken hands
   pub closed : marks dones + arrived ≡ workers → AreMarkedAfter dones
 
--- the end marks stand where they may, in the jobs, the hands and the dones of the state
+-- the end marks in the jobs, the hands and the dones are where they may be
 abbrev pub IsEnding : PoolSize → World → Type 0
 IsEnding size w = HasJobs size.workers w.cutter_ended w.marks_put w.jobs w.marks_taken
     × HasDones size.workers w.marks_taken w.hands w.dones w.marks_arrived
@@ -142,7 +142,7 @@ take_ending size w k [] may s h = h
 take_ending size w k (Entry.Item n ∷ rest) may s h = (item_taken h.0, item_in_hand size w k n may s h.1)
 take_ending size w k (Entry.Mark ∷ rest) may s h = (mark_taken size w k rest may s h.0, mark_in_hand size w k may s h.1)
 
--- a worker hands on what it has: one with an item has yet to take its mark
+-- a worker passes on what it has: if that is an item, it still has to take its mark
 item_closed : (size : PoolSize) (w : World) (k n : ℕ) → hand_of w k ≡ Some (Entry.Item n) → k < length w.hands
     → IsSized size w
     → HasDones size.workers w.marks_taken w.hands w.dones w.marks_arrived
@@ -196,7 +196,7 @@ arrive_ending size w (Entry.Mark ∷ rest) h = (
   },
 )
 
--- after an event that may happen the end marks stand where they may
+-- after an event that may happen the end marks are where they may
 pub ending_kept : (size : PoolSize) (w : World) (event : Event) → IsTrue (is_enabled size w event) → IsSized size w
     → IsEnding size w → IsEnding size (after_event size w event)
 ending_kept size w (Event.Cut last) e s h =
@@ -212,7 +212,7 @@ ending_kept size w Event.Look e s h = (end_jobs size w w.stop_up (not-true w.cut
 ending_kept size w Event.Shut e s h = (end_jobs size w true (not-true w.cutter_ended e) h.0, h.1)
 ending_kept size w event e s h = h
 
--- at first the end marks stand where they may, for none is put
+-- at first the end marks are where they may, for none is put
 pub ending_first : (size : PoolSize) → 0 < size.workers → IsEnding size (opening size)
 ending_first size some_worker = (
   record {

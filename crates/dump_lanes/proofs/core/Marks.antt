@@ -5,7 +5,7 @@ use Rattle.dump_lanes.specs.PoolWorld.{items_of}
 use Rattle.dump_lanes.specs.PoolProgress.{marks}
 use Rattle.dump_lanes.proofs.core.Weights.{items_of-append}
 
--- how many workers took theirs
+-- how many workers took their end marks
 abbrev bit : Bool → ℕ
 bit b = cond b 1 0
 
@@ -49,7 +49,7 @@ mark_joins [] h = refl
 mark_joins (Entry.Item m ∷ es) h = mark_joins es h
 mark_joins (Entry.Mark ∷ es) h = items_of-append es (Entry.Mark ∷ []) ∙ (append-nil (items_of es) ∙ h)
 
--- a mark closes a queue
+-- after a mark no item is in the queue
 pub closes : (es : List Entry) → AreMarkedAfter (es ++ Entry.Mark ∷ [])
 closes [] = tt
 closes (Entry.Item n ∷ es) = (omega (arith, marks-append es (Entry.Mark ∷ [])), closes es)
@@ -61,7 +61,8 @@ none_left [] h e = refl
 none_left (Entry.Item n ∷ es) h e = absurd (omega (arith, h.0))
 none_left (Entry.Mark ∷ es) h e = absurd (omega arith)
 
--- after a change of one hand, the hands have the new hand's end marks more and the old hand's less
+-- after a change of one hand, the number of end marks in hands rises by those of the new hand and falls by those of
+-- the old
 pub hand_set : (hands : List (Option Entry)) (k : ℕ) (hand : Option Entry) → k < length hands
     → marks_in_hands (set hands k hand) + marks (option_to_list (get_or hands k None)) ≡ marks_in_hands hands + marks
     (option_to_list hand)
@@ -89,7 +90,7 @@ not_all (t ∷ taken) zero lt e = let none : bit t ≡ 0 = ap bit e in omega (ar
 not_all (true ∷ taken) (suc k) lt e = let more = not_all taken k (omega arith) e in omega arith
 not_all (false ∷ taken) (suc k) lt e = let more = not_all taken k (omega arith) e in omega arith
 
--- where all took theirs and none has an item beside it, no hand has an item
+-- if all took theirs and none has an item in addition, no hand has an item
 pub no_item_in_hands : (hands : List (Option Entry)) (taken : List Bool) → length hands ≡ length taken
     → count_taken taken ≡ length taken → OwnLast taken hands → items_in_hands hands ≡ []
 no_item_in_hands [] taken l all own = refl
@@ -110,7 +111,7 @@ pub none_taken : (n : ℕ) → count_taken (replicate n false) ≡ 0
 none_taken zero = refl
 none_taken (suc n) = let more = none_taken n in omega arith
 
--- a place of a list of the same entries has that entry, as has a place behind it
+-- a place of a list of the same entries has that entry, as has a place after it
 pub get_or_replicate : {A : Type 0} (n k : ℕ) (x : A) → get_or (replicate n x) k x ≡ x
 get_or_replicate zero k x = refl
 get_or_replicate (suc n) zero x = refl

@@ -27,7 +27,7 @@ weight f w = weigh f (items_of w.jobs) + weigh f (items_in_hands w.hands) + weig
 abbrev pub IsEachOnce : World → Type 0
 IsEachOnce w = (f : ℕ → ℕ) → weight f w ≡ weigh f (range_with_len 0 w.cut)
 
--- an option that passes the test for nothing is nothing
+-- if an option passes the test for nothing, there is nothing in it
 pub is_none_from : {A : Type 0} (o : Option A) → is_none o ≡ true → o ≡ None
 is_none_from None e = refl
 is_none_from (Some x) e = cc
@@ -50,7 +50,7 @@ may_take size w k e =
       unmarked = not-true (slice_index_or w.marks_taken k false) b.1;
     }
 
--- a hand that holds something is a worker's
+-- only a worker of the pool holds something in its hand
 pub hand_within : (hands : List (Option Entry)) (k : ℕ) → is_some (get_or hands k None) ≡ true → k < length hands
 hand_within [] k e = cc
 hand_within (h ∷ hands) zero e = omega arith
@@ -68,7 +68,7 @@ take_once w k (Entry.Mark ∷ rest) lt free h f =
 pub slot_within : (size : PoolSize) (w : World) (n : ℕ) → IsSized size w → n % size.window < length w.slots
 slot_within size w n s = omega (arith, s.each_slot, mod-lt n s.some_slot)
 
--- after an item arrives the slots weigh what it weighs more
+-- after an item arrives, the weight of the slots rises by that of the item
 pub arrival_weight : (f : ℕ → ℕ) (size : PoolSize) (w : World) (n : ℕ) → IsSized size w
     → weigh f (concat (set w.slots (n % size.window) (slot_of size w n ++ n ∷ []))) ≡ weigh f (concat w.slots) + f n
 arrival_weight f size w n s = let lt = slot_within size w n s in omega (arith, slots_set, weigh-append)
@@ -84,12 +84,12 @@ write_once : (w : World) (lane : List ℕ) → w.writing ≡ None → IsEachOnce
 write_once w [] free h f = h f
 write_once w (n ∷ rest) free h f = omega (arith, h f, ap (λ (o : Option ℕ). weigh f (option_to_list o)) free)
 
--- the next item is cut, and stands in its slot once
+-- the next item is cut, and is in its slot once
 pub record IsNext (size : PoolSize) (w : World) : Type 0 where
   pub below : w.released < w.cut
   pub single : weigh (only w.released) (slot_of size w w.released) ≡ 1
 
--- where the sequencer finds the next item, that item is cut and stands in its slot once
+-- where the sequencer finds the next item, that item is cut and is in its slot once
 pub is_next : (size : PoolSize) (w : World) → IsEachOnce w → IsTrue (has_next size w) → IsNext size w
 is_next size w h e =
     let here = weighs w.released (slot_of size w w.released) e in
@@ -98,7 +98,7 @@ is_next size w h e =
     let below : w.released < w.cut = grind (arith, above_range w.released w.cut) in
     record { below = below; single = omega (arith, within_range w.released w.cut below) }
 
--- after the next item is released the slots weigh what it weighs less
+-- after the next item is released, the weight of the slots falls by that of the item
 pub release_weight : (f : ℕ → ℕ) (size : PoolSize) (w : World) → IsNext size w → IsSized size w
     → weigh f (concat (set w.slots (w.released % size.window) (without w.released (slot_of size w w.released)))) + f
     w.released ≡ weigh f (concat w.slots)

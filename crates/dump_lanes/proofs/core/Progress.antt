@@ -1,4 +1,4 @@
--- Each move counts, and nothing else does: the moves of a run are those that lie behind its state.
+-- Each move counts, and nothing else does: the state after a run says how many moves the run had.
 use Rattle.dump_lanes.proofs.Prelude.{◌≡◌, ℕ, ◌+◌, ◌-◌, ◌*◌, ◌<◌, ◌≤◌, Bool, true, false, nat_lt, List, [], ◌∷◌, length, count_by, Option, Some, None, is_some, option_to_list, sym, refl, ap, ◌∙◌, arith, concat, and_parts, ltb-true, length_push, sum_by-cons, PoolSize, Entry, World, opening, hand_of, items_in_hands, Event, is_enabled, after_event, arrived, written_next, IsRun, is_move, IsReached, marks_in_hands, progress, count_move, most_moves, moves_left, HasRoom, FindsPlace, NeverFull, EveryMoveCounts, NoEndlessWay}
 use Rattle.std.proofs.Common.{IsTrue}
 use Rattle.dump_lanes.specs.PoolWorld.{items_of}
@@ -10,7 +10,7 @@ use Rattle.dump_lanes.proofs.core.Places.{IsSized, may_take, hand_within, is_non
 use Rattle.dump_lanes.proofs.core.Credits.{held, one_longer, may_draw, may_cut}
 use Rattle.dump_lanes.proofs.core.Runs.{Holds, run_holds, step_holds, first_holds, range_each}
 
--- the moves behind a state, as its items weigh
+-- the number of moves so far, from the weights of the items
 abbrev pub weighed : World → ℕ
 weighed w =
     2 * weigh each (items_of w.jobs) + 3 * weigh each (items_in_hands w.hands) + 4 * weigh each (items_of w.dones)
@@ -77,7 +77,7 @@ step_weighs size w Event.Write e h =
 step_weighs size w Event.Give e h = omega (arith, weigh-append, one_in w.writing e)
 step_weighs size w event e h = omega arith
 
--- a move adds one to the moves behind a state, and another event none
+-- a move adds one to the number of moves, and another event adds none
 pub step_counts : (size : PoolSize) (w : World) (event : Event) → IsTrue (is_enabled size w event) → Holds size w
     → progress (after_event size w event) ≡ progress w + count_move event
 step_counts size w event e h =
@@ -123,7 +123,7 @@ counts_all size events w some_worker some_slot run =
     let h = first_holds size some_worker some_slot in
     omega (arith, none_behind size, run_counts size events (opening size) w run h)
 
--- the moves of a run are counted by the state that it leads to
+-- the state after a run says how many moves the run had
 pub every_move_counts : EveryMoveCounts
 every_move_counts = record {
   of_run = counts_all;
@@ -185,7 +185,7 @@ never_full = record {
       (has_room size (after_event size w event) (step_holds size w event e (reached_holds size w r)));
 }
 
--- no more moves lie behind a state than its items and end marks can make
+-- there are no more moves than the items and end marks of the state can make
 pub progress_within : (size : PoolSize) (w : World) → Holds size w → progress w ≤ most_moves w.cut size
 progress_within size w h =
     let t = totals size w h in
@@ -211,7 +211,7 @@ falls size w event cut r e le =
     fewer_left (most_moves cut size) (progress w) (progress (after_event size w event)) (count_move event)
     (step_counts size w event e h) (within_more size (after_event size w event) cut (step_holds size w event e h) le)
 
--- no run goes on without an end, but by cutting
+-- no run is endless unless items are cut for ever
 pub no_endless_way : NoEndlessWay
 no_endless_way = record {
   within = λ size w r. progress_within size w (reached_holds size w r);

@@ -31,7 +31,7 @@ sized_kept size w Event.Release s = as_sized s.each_hand s.each_mark (length-set
 sized_kept size w Event.Write s = by_piece (IsSized size) size w w.lane s (λ n rest. s)
 sized_kept size w event s = s
 
--- what each event keeps, and so each run
+-- what each event preserves, and so each run
 pub record Holds (size : PoolSize) (w : World) : Type 0 where
   pub some_worker : 0 < size.workers
   pub sized : IsSized size w
@@ -42,7 +42,7 @@ pub record Holds (size : PoolSize) (w : World) : Type 0 where
   pub ending : IsEnding size w
   pub stop : HasStopCause w
 
--- an event that may happen keeps what holds of a state
+-- a possible event preserves the facts about a state
 pub step_holds : (size : PoolSize) (w : World) (event : Event) → IsTrue (is_enabled size w event) → Holds size w
     → Holds size (after_event size w event)
 step_holds size w event e h = record {
@@ -56,14 +56,14 @@ step_holds size w event e h = record {
   stop = stop_kept size w event e h.stop;
 }
 
--- a run keeps what holds of a state
+-- a run preserves the facts about a state
 pub run_holds : (size : PoolSize) (events : List Event) (u w : World) → IsRun size events u w → Holds size u
     → Holds size w
 run_holds size [] u w run h = subst (Holds size) (sym run) h
 run_holds size (event ∷ events) u w run h = run_holds size events (after_event size u event) w run.1
     (step_holds size u event run.0 h)
 
--- at first all of it holds, where there is a worker and room for an item
+-- the facts are true at the beginning, if there is a worker and room for an item
 pub first_holds : (size : PoolSize) → 0 < size.workers → 0 < size.window → Holds size (opening size)
 first_holds size some_worker some_slot = record {
   some_worker = some_worker;
@@ -77,7 +77,7 @@ first_holds size some_worker some_slot = record {
   stop = stop_first size;
 }
 
--- what the lists of the facts weigh
+-- the weights of the lists that the facts mention
 way_weight : (f : ℕ → ℕ) (w : World) → weigh f (items_on_the_way w) ≡ weigh f (items_of w.jobs) + weigh f
     (items_in_hands w.hands) + weigh f (items_of w.dones)
 way_weight f w = omega (arith, weigh-append)
@@ -95,7 +95,7 @@ flight_weight : (f : ℕ → ℕ) (w : World)
     (items_on_the_way w ++ concat w.slots ++ w.lane ++ option_to_list w.writing) + weigh f w.finished ≡ weight f w
 flight_weight f w = omega (arith, weigh-append)
 
--- the numbers below n weigh n, where each weighs one
+-- the numbers below n weigh n if each of them weighs one
 pub range_each : (n : ℕ) → weigh each (range_with_len 0 n) ≡ n
 range_each n = sym (length_is (range_with_len 0 n)) ∙ length-range_with_len 0 n
 

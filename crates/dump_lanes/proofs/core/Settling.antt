@@ -1,4 +1,5 @@
--- Once the stop is up at most one item is cut, and none once the cutter has ended; and what settles stays.
+-- Once the stop is raised at most one item is cut, and none once the cutter has ended; and a fact that has settled
+-- stays true.
 use Rattle.dump_lanes.proofs.Prelude.{◌≡◌, ◌⊎◌, inl, inr, ℕ, ◌+◌, ◌<◌, ◌≤◌, Bool, true, false, ◌&&◌, ◌||◌, cond, List, [], ◌∷◌, ◌++◌, Option, Some, None, option_to_list, sym, refl, ap, ◌∙◌, subst, arith, true≢false, and_parts, not-true, not_from_true, or_right, PoolSize, World, opening, Event, is_enabled, after_event, IsRun, looks_before_draws, AfterAStop, EndedCutsNothing, is_signal, IdleEventsSettle}
 use Rattle.std.proofs.Common.{not, IsTrue}
 use Rattle.dump_lanes.proofs.core.FirstEntry.{by_job, by_done, by_piece}
@@ -6,14 +7,14 @@ use Rattle.dump_lanes.proofs.core.Progress.{totals}
 use Rattle.dump_lanes.proofs.core.Weights.{weigh, each}
 use Rattle.dump_lanes.proofs.core.Runs.{Holds, run_holds, first_holds}
 
--- what was noted, raised or ended
+-- the fact that a stop was seen, that it is raised, or that the cutter has ended
 abbrev Flags : Type 0
 Flags = Bool × Bool × Bool × Bool
 
 abbrev flags : World → Flags
 flags w = (w.sequencer_failed, w.writer_failed, w.stop_up, w.cutter_ended)
 
--- and stays so
+-- it stays true
 record AreKept (old new : Flags) : Type 0 where
   sequencer : IsTrue old.0 → IsTrue new.0
   writer : IsTrue old.1 → IsTrue new.1
@@ -26,7 +27,7 @@ Stays old new = AreKept (flags old) (flags new)
 same_stays : (w : World) → Stays w w
 same_stays w = record { sequencer = λ x. x; writer = λ x. x; up = λ x. x; ended = λ x. x }
 
--- a cutter that may cut, look or be shut hasn't ended
+-- a cutter that may cut, look or be closed hasn't ended
 going : (w : World) → not w.cutter_ended ≡ true → w.cutter_ended ≡ true → ⊥
 going w e x = true≢false (sym x ∙ not-true w.cutter_ended e)
 
@@ -66,7 +67,7 @@ run_stays size (event ∷ events) u w run =
       ended = λ x. more.ended (one.ended x);
     }
 
--- a note or a raise that came changes nothing where it comes again
+-- a look or a raise that comes again changes nothing
 again : (size : PoolSize) (w new : World) (event : Event) → IsTrue (is_signal event)
     → Stays (after_event size w event) new
     → after_event size new event ≡ new
@@ -162,7 +163,7 @@ cut_cuts size looked last w e =
     let a = and_parts w.holds_credit _ e in
     omega (arith, may_one w.cutter_ended looked w.holds_credit (not-true w.cutter_ended a.1) (inr a.0), cut_none last)
 
--- under a stop no event raises what may be cut
+-- after a stop no event raises the number of items that may be cut
 step_cuts : (size : PoolSize) (looked : Bool) (w : World) (event : Event) (events : List Event) → IsTrue w.stop_up
     → IsTrue (is_enabled size w event) → IsTrue (looks_before_draws looked (event ∷ events))
     → cut_most (then_looked looked event) (after_event size w event) ≤ cut_most looked w
@@ -193,7 +194,7 @@ run_cuts size looked (event ∷ events) w new up run l =
     run_cuts size (then_looked looked event) events v new still run.1 (looks_on looked event events l) in
     both_le new.cut (cut_most (then_looked looked event) v) (cut_most looked w) more step
 
--- in a run whose cutter looks before each draw, at most one item is cut once the stop is up
+-- in a run whose cutter looks before each draw, at most one item is cut once the stop is raised
 pub after_a_stop : AfterAStop
 after_a_stop size before after w new run up more l =
     let rest = looks_after false before after l in
@@ -237,6 +238,6 @@ shut_writes size events w some_worker some_slot run =
     omega (arith, (totals size w h).items, shut_cuts size events w run) in
     (no_piece w.lane (omega (arith, none)), no_writing w.writing (omega (arith, none)))
 
--- a pool whose cutter has ended cuts nothing more, and one that is shut at first cuts nothing ever
+-- a pool whose cutter has ended cuts nothing more, and one whose cutter is closed at the beginning never cuts an item
 pub ended_cuts_nothing : EndedCutsNothing
 ended_cuts_nothing = record { ended = run_ended; shut = shut_cuts; no_writer = shut_writes }

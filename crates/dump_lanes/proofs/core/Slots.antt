@@ -7,7 +7,7 @@ use Rattle.dump_lanes.proofs.core.Marks.{get_or_replicate}
 use Rattle.dump_lanes.proofs.core.Weights.{weigh, only, without, weigh-append, only_itself, without_le}
 use Rattle.dump_lanes.proofs.core.Places.{IsSized, slot_within}
 
--- what stands in a slot has that slot
+-- what is in a slot has that slot
 abbrev pub ArePlaced : ℕ → List (List ℕ) → Type 0
 ArePlaced window slots = (i m : ℕ) → 0 < weigh (only m) (get_or slots i []) → m % window ≡ i
 

@@ -26,7 +26,7 @@ credits_step size free Event.Give before may h = (
 )
 credits_step size free event before may h = h
 
--- one more step of a queue, behind those that led to what it held
+-- one more step of a queue, after those that led to what it held
 one_more : {E : Type 0} {part : Part E} {old new : List E} {events : List Event} (s : Step E) → IsStep part old s new
     → ((happened : List (Step E)) × AreSteps part happened old × (events_of happened ≡ events))
     → (happened : List (Step E)) × AreSteps part happened new × (events_of happened ≡ event_of s.event ∷ events)

@@ -1,4 +1,4 @@
--- A pool stands still where all is done, and nowhere else.
+-- No move of a pool is possible exactly if all is done.
 use Rattle.dump_lanes.proofs.Prelude.{◌≡◌, ℕ, zero, suc, ◌+◌, ◌<◌, ◌≤◌, ◌%◌, ◌==◌, Bool, true, false, ◌&&◌, cond, nat_lt, List, [], ◌∷◌, ◌++◌, length, get_or, Option, Some, None, is_some, option_to_list, sym, refl, ap, ◌∙◌, arith, true≢false, concat, list_any, range_with_len, and_from, and_cases, and_left, and_right, or_left, or_right, not-false, not_from_true, not_from_false, lt-ltb, le-ltb, ltb-false, cases_Bool, cases_lt, false_from_ne_true, PoolSize, Entry, World, hand_of, slot_of, items_in_hands, items_released, Event, is_enabled, has_next, IsAllDone, StandsStill, marks_in_hands, ⊎_elim, replicate}
 use Rattle.std.proofs.Common.{not, IsTrue, is_none, slice_index_or, append-nil}
 use Rattle.dump_lanes.specs.PoolWorld.{items_of}
@@ -48,7 +48,7 @@ none_taken_of (true ∷ taken) k le = absurd (omega (arith, le))
 none_taken_of (false ∷ taken) zero le = refl
 none_taken_of (false ∷ taken) (suc k) le = none_taken_of taken k (omega (arith, le))
 
--- a number that weighs something stands in one of the slots
+-- a number that weighs something is in one of the slots
 abbrev StandsIn : ℕ → List (List ℕ) → Type 0
 StandsIn n slots = (i : ℕ) × (0 < weigh (only n) (get_or slots i []))
 
@@ -101,7 +101,7 @@ module _ (size : PoolSize) (w : World) (h : Holds size w) where
       ap (λ (l : List ℕ). (w.finished ++ []) ++ l) q.lane in
       sym (append-nil w.finished) ∙ (sym (append-nil (w.finished ++ [])) ∙ (sym empty ∙ (sym free ∙ h.in_order)))
 
-  -- the next item would stand in its slot
+  -- the next item would be in its slot
   next_stands : IsQuiet size w → w.released < w.cut → 0 < weigh (only w.released) (concat w.slots)
   next_stands q lt =
       let jobs : weigh (only w.released) (items_of w.jobs) ≡ 0 = ap (weigh (only w.released)) q.jobs in
@@ -128,7 +128,7 @@ module _ (size : PoolSize) (w : World) (h : Holds size w) where
   all_finished : IsQuiet size w → w.finished ≡ range_with_len 0 w.cut
   all_finished q = all_written q ∙ ap (λ (n : ℕ). range_with_len 0 n) (sym (all_released q))
 
-  -- where no move may be made
+  -- if no move is possible
   module _ (s : IsStuck size w) where
     free : w.writing ≡ None
     free = none_from w.writing s.no_give
@@ -202,7 +202,7 @@ module _ (size : PoolSize) (w : World) (h : Holds size w) where
       items = all_finished (quiet (no_jobs e));
     }
 
-    -- the cutter hasn't ended: it would hold a credit, or could draw one
+    -- the cutter hasn't ended: then it would hold a credit, or could draw one
     not_held : w.cutter_ended ≡ false → w.holds_credit ≡ false
     not_held e =
         ⊎_elim (λ (f : w.holds_credit ≡ false). f)
@@ -234,7 +234,7 @@ module _ (size : PoolSize) (w : World) (h : Holds size w) where
         (totals size w h).flight in
         omega (arith, total, none, all, no_credit e, h.sized.some_slot)
 
-    -- where no move may be made all is done
+    -- if no move is possible, all is done
     pub done_where_stuck : IsAllDone size w
     done_where_stuck =
         ⊎_elim (λ (e : w.cutter_ended ≡ true). done_ended e) (λ (e : w.cutter_ended ≡ false). absurd (not_ended e))
@@ -253,9 +253,9 @@ nothing_in : (o : Option ℕ) → weigh each (option_to_list o) ≤ 0 → is_som
 nothing_in None le = refl
 nothing_in (Some n) le = absurd (omega (arith, le))
 
--- where all is done
+-- if all is done
 module _ (size : PoolSize) (w : World) (h : Holds size w) (d : IsAllDone size w) where
-  -- nothing is anywhere but with the finished
+  -- all items are finished, and no place holds one
   weighs_none : (f : ℕ → ℕ)
       → weigh f (items_of w.jobs) + weigh f (items_in_hands w.hands) + weigh f (items_of w.dones)
       + weigh f (concat w.slots) + weigh f (option_to_list w.writing) + weigh f w.lane ≡ 0
@@ -284,7 +284,7 @@ module _ (size : PoolSize) (w : World) (h : Holds size w) (d : IsAllDone size w)
       let here = weighs w.released (slot_of size w w.released) e in
       omega (arith, slot_le, weighs_none (only w.released))
 
-  -- where all is done no move may be made
+  -- if all is done, no move is possible
   pub still_where_done : StandsStill size w
   still_where_done Event.Draw m =
       and_left (not w.cutter_ended && not w.holds_credit) _

@@ -1,14 +1,14 @@
--- A stop that was seen is up, and one that is up has a cause, after each event.
+-- A stop that was seen is raised, and one that is raised has a cause, after each event.
 use Rattle.dump_lanes.proofs.Prelude.{◌⊎◌, inl, inr, ⊎_elim, Bool, refl, or_cases, PoolSize, World, opening, Event, is_enabled, after_event}
 use Rattle.std.proofs.Common.{IsTrue}
 use Rattle.dump_lanes.proofs.core.FirstEntry.{by_job, by_done, by_piece}
 
--- the stop word, and what was noted of it
+-- the stop word, and what was stored about it
 pub record HasCause (up seen sequencer writer : Bool) : Type 0 where
   pub seen_up : IsTrue seen → IsTrue up
   pub up_failed : IsTrue up → IsTrue sequencer ⊎ IsTrue writer
 
--- a stop that was seen in the state is up, and one that is up has a cause
+-- a stop that was seen in the state is raised, and one that is raised has a cause
 abbrev pub HasStopCause : World → Type 0
 HasStopCause w = HasCause w.stop_up w.stop_seen w.sequencer_failed w.writer_failed
 
@@ -28,6 +28,6 @@ stop_kept size w Event.Look e h = record {
 }
 stop_kept size w event e h = h
 
--- at first the stop isn't up, and wasn't seen
+-- at the beginning the stop isn't raised, and wasn't seen
 pub stop_first : (size : PoolSize) → HasStopCause (opening size)
 stop_first size = record { seen_up = λ seen. absurd (cc); up_failed = λ up. absurd (cc) }

@@ -1,4 +1,4 @@
--- What the items in a list weigh, where each number has a weight.
+-- What the items in a list weigh, if each number has a weight.
 use Rattle.dump_lanes.proofs.Prelude.{◌≡◌, ℕ, zero, suc, ◌+◌, ◌<◌, ◌≤◌, ◌==◌, Bool, true, false, cond, List, [], ◌∷◌, ◌++◌, length, get_or, set, replicate, filter, count_by, sum_by, Option, None, option_to_list, sym, refl, ap, ◌∙◌, arith, map-id, add-one, concat, list_any, range_with_len, cases_eq, map-range_with_len_more, sum_by-cons, Entry, items_in_hands, ⊎_elim, or_cases, cases_Bool}
 use Rattle.std.proofs.Common.{not}
 use Rattle.std.proofs.lemmas.Bool.{eqb-true, eq-eqb, ne_eqb}
@@ -28,7 +28,7 @@ pub weigh_is_sum : (f : ℕ → ℕ) (xs : List ℕ) → weigh f xs ≡ sum_by f
 weigh_is_sum f [] = refl
 weigh_is_sum f (x ∷ xs) = let more = weigh_is_sum f xs in omega (arith, sum_by-cons f x xs)
 
--- how often a number stands in a list is what it weighs there alone
+-- how often a number is in a list is what it weighs there alone
 pub times_is : (n : ℕ) (xs : List ℕ) → count_by (λ m. m == n) xs ≡ weigh (only n) xs
 times_is n xs = sym (weigh_is_sum (only n) xs)
 
@@ -58,7 +58,8 @@ weigh_entries f es fs = ap (weigh f) (items_of-append es fs) ∙ weigh-append f 
 abbrev pub weigh_hand : (ℕ → ℕ) → Option Entry → ℕ
 weigh_hand f hand = weigh f (items_of (option_to_list hand))
 
--- after a change of one hand, the items in hands weigh the new hand's more and the old hand's less
+-- after a change of one hand, the weight of the items in hands rises by that of the new hand and falls by that of the
+-- old
 pub hands_set : (f : ℕ → ℕ) (hands : List (Option Entry)) (k : ℕ) (hand : Option Entry) → k < length hands
     → weigh f (items_in_hands (set hands k hand)) + weigh_hand f (get_or hands k None) ≡ weigh f
     (items_in_hands hands) + weigh_hand f hand
@@ -91,7 +92,7 @@ pub no_slots : (n : ℕ) → concat (replicate n []) ≡ []
 no_slots zero = refl
 no_slots (suc n) = no_slots n
 
--- a list that a number stands in weighs something, where that number alone does
+-- if a number that alone has a weight is in a list, the list weighs something
 pub weighs : (n : ℕ) (xs : List ℕ) → list_any (λ m. m == n) xs ≡ true → 0 < weigh (only n) xs
 weighs n [] e = cc
 weighs n (x ∷ xs) e =
@@ -103,7 +104,7 @@ weighs n (x ∷ xs) e =
 abbrev pub without : ℕ → List ℕ → List ℕ
 without n xs = filter (λ m. not (m == n)) xs
 
--- a number that is n is left out, and another is kept
+-- a number that is n is removed, and another is kept
 without_itself : (f : ℕ → ℕ) (n x : ℕ) (xs : List ℕ) → (x == n) ≡ true
     → weigh f (without n (x ∷ xs)) ≡ weigh f (without n xs)
 without_itself f n x xs h = ap (λ (b : Bool). weigh f (cond (not b) (x ∷ without n xs) (without n xs))) h
@@ -120,7 +121,7 @@ without_none f n (x ∷ xs) e =
     (λ (h : (x == n) ≡ false).
     let more = without_none f n xs (omega arith) in omega (arith, without_other f n x xs h)) (cases_Bool (x == n))
 
--- where it stands there once, its own weight is lost
+-- if it is in the list once, exactly its own weight is lost
 pub without_one : (f : ℕ → ℕ) (n : ℕ) (xs : List ℕ) → weigh (only n) xs ≡ 1 → weigh f (without n xs) + f n ≡ weigh f xs
 without_one f n [] e = absurd (omega arith)
 without_one f n (x ∷ xs) e =
@@ -153,7 +154,7 @@ weigh_range f n = omega (arith, ap (weigh f) (range_next n), weigh-append f (ran
 weigh_range_at : (f : ℕ → ℕ) (n : ℕ) → weigh f (range_with_len 0 (suc n)) ≡ weigh f (range_with_len 0 n) + f n
 weigh_range_at f n = ap (λ (k : ℕ). weigh f (range_with_len 0 k)) (sym (add-one n)) ∙ weigh_range f n
 
--- a number doesn't stand among the numbers below one that isn't greater
+-- a number isn't among the numbers below one that isn't greater
 pub above_range : (n c : ℕ) → c ≤ n → weigh (only n) (range_with_len 0 c) ≡ 0
 above_range n zero le = refl
 above_range n (suc c) le =
@@ -163,7 +164,7 @@ above_range n (suc c) le =
     (range_with_len 0 c) + only n c = weigh_range_at (only n) c in
     omega arith
 
--- a number stands once among the numbers below a greater one
+-- a number occurs once among the numbers below a greater one
 pub within_range : (n c : ℕ) → n < c → weigh (only n) (range_with_len 0 c) ≡ 1
 within_range n zero lt = absurd (omega arith)
 within_range n (suc c) lt =

@@ -1,4 +1,4 @@
--- The rule that each call on the pool's credits keeps.
+-- The rule that each call on the pool's credits obeys.
 use Rattle.std.specs.Prelude.{◌≡◌, ◌≢◌, ℕ, ◌+◌, Bool, true, false, List, [], ◌∷◌, ◌++◌, length}
 use mathlib.Core.Option.{some}
 use lib.ListN.{get_elem?}
@@ -28,11 +28,11 @@ abbrev pub purse : Bool → Bool → ℕ → ℕ → ℕ → List CreditStep →
 purse draws gives first drawn back steps =
     record { draws = draws; gives = gives; first = first; drawn = drawn; back = back; steps = steps }
 
--- the pass that does both, before any credit was drawn: it knows how many were there at first
+-- the pass that draws and gives back, before any credit was drawn: it knows how many were there at first
 abbrev pub first_purse : ℕ → Purse
 first_purse first = purse true true first 0 0 []
 
--- one more credit is there at first; the cutter has drawn one, the writer has given one back
+-- the pass after one more credit was put at first, after the cutter drew one, and after the writer gave one back
 abbrev pub after_first : Purse → Purse
 after_first v = purse v.draws v.gives (v.first + 1) v.drawn v.back v.steps
 
@@ -42,7 +42,7 @@ after_draw v = purse v.draws v.gives v.first (v.drawn + 1) v.back (draw_step ∷
 abbrev pub after_back : Purse → Purse
 after_back v = purse v.draws v.gives v.first v.drawn (v.back + 1) (back_step ∷ v.steps)
 
--- the cutter's pass and the writer's, when the first one is cut in two; and the one that has taken in both
+-- the passes of the cutter and of the writer, after the first pass is split; and the pass that joins both
 abbrev pub cutter_purse : Purse → Purse
 cutter_purse v = purse true false 0 v.drawn 0 v.steps
 
@@ -55,16 +55,17 @@ joined_purse v w = purse true true w.first v.drawn w.back (w.steps ++ v.steps)
 abbrev pub spent_purse : Purse
 spent_purse = purse false false 0 0 0 []
 
--- a pass that may draw has all threads but the writer, and knows how many were drawn; one that gives back has the
--- writer, and knows how many there were at first and came back; and a pass knows just the steps of its threads
+-- a pass that may draw belongs to all threads except the writer, and knows how many credits were drawn; a pass that
+-- gives back belongs to the writer, and knows how many were there at first and how many came back; each pass knows
+-- exactly the steps of its threads
 pub record Fits (owner : Thread → ℕ) (first : ℕ) (happened : List CreditStep) (pass : ℕ) (v : Purse) : Type 0 where
   pub draws : v.draws ≡ true → ((thread : Thread) → thread ≢ Thread.Writer → owner thread ≡ pass)
       × (v.drawn ≡ drawn_in happened)
   pub gives : v.gives ≡ true → (owner Thread.Writer ≡ pass) × (v.first ≡ first) × (v.back ≡ back_in happened)
   pub knows : Knows owner happened pass v.steps
 
--- there is one history: its steps are the credits' share of their events, and lead from the credits that were put at
--- first to those that are free; each thread's steps in it are those that its pass knows
+-- there is one history: its steps are those of the pool's events on the credits, and lead from the credits that were
+-- put at first to those that are free; each pass knows exactly the steps of its threads
 pub record IsCreditQueue {T : Type 0} (items : List T) (views : List Purse) : Type 0 where
   pub owner : Thread → ℕ
   pub first : ℕ
@@ -72,7 +73,7 @@ pub record IsCreditQueue {T : Type 0} (items : List T) (views : List Purse) : Ty
   pub steps : AreSteps first happened (length items)
   pub fits : (pass : ℕ) (v : Purse) → get_elem? views pass ≡ some v → Fits owner first happened pass v
 
--- what a pass that both draws and gives back learns: all steps of each thread, and so how many were drawn
+-- what a pass that both draws and gives back finds out: all steps of each thread, and so how many credits were drawn
 pub record KnowsSteps (v : Purse) (free : ℕ) : Type 0 where
   pub happened : List CreditStep
   pub steps : AreSteps v.first happened free

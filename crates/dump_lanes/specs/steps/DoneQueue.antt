@@ -1,4 +1,4 @@
--- The rule that each call on a pool's queue of dones keeps.
+-- The rule that each call on a pool's queue of dones obeys.
 use Rattle.std.specs.Prelude.{List}
 use Rattle.dump_lanes.specs.declared.pool.dones.Note.{Note}
 use Rattle.dump_lanes.specs.declared.steps.Move.TheVariants as move
@@ -8,7 +8,7 @@ use Rattle.dump_lanes.specs.PoolParts.{Thread}
 use Rattle.dump_lanes.specs.steps.QueueRule.{Crew, IsQueueOf}
 use Rattle.dump_lanes.specs.DoneRule.{dones_part}
 
--- the threads at the dones
+-- the threads that use the dones
 abbrev pub sequencer_crew : Crew
 sequencer_crew = record { leader = Thread.Sequencer; other = Thread.Worker }
 

@@ -1,4 +1,4 @@
--- The rule that each call on a pool's queue of jobs keeps.
+-- The rule that each call on a pool's queue of jobs obeys.
 use Rattle.std.specs.Prelude.{ℕ, List, ◌++◌, replicate}
 use Rattle.dump_lanes.specs.declared.protocol.Mark.{Mark}
 use Rattle.dump_lanes.specs.declared.protocol.Mark.TheVariants.{Item, End}
@@ -10,7 +10,7 @@ use Rattle.dump_lanes.specs.PoolParts.{Thread}
 use Rattle.dump_lanes.specs.steps.QueueRule.{Crew, after_take, IsQueueOf}
 use Rattle.dump_lanes.specs.JobRule.{jobs_part}
 
--- the threads at the jobs
+-- the threads that use the jobs
 abbrev pub cutter_crew : Crew
 cutter_crew = record { leader = Thread.Cutter; other = Thread.Worker }
 
@@ -30,10 +30,10 @@ module _ {T : Type 0} where
   abbrev pub IsJobQueue : List (Mark T) → List (View (Mark T)) → Type 0
   IsJobQueue = IsQueueOf jobs_part cutter_crew
 
-  -- a worker has taken a mark
+  -- the pass after a worker has taken a mark
   abbrev pub after_job : View (Mark T) → Mark T → View (Mark T)
   after_job v x = after_take v (take_step v.from x)
 
-  -- the cutter has put so many end marks
+  -- the pass after the cutter has put this many end marks
   abbrev pub after_ends : View (Mark T) → ℕ → View (Mark T)
   after_ends v n = record v { put = v.put ++ replicate n End; steps = replicate n (put_step End) ++ v.steps }

@@ -5,23 +5,23 @@ use Rattle.atomic_table.specs.declared.badge.Badge.{Badge}
 use Rattle.crossbeam_channel.specs.declared.flavors.array.Key.{Key}
 use Rattle.dump_lanes.specs.declared.protocol.Mark.{Mark}
 
--- which lane: no two channels have the same
+-- the identity of a lane: no two channels have the same
 pub record LaneName (T : Type 0) : Type 0 where
   pub table : TableId
   pub key : Badge (Key (Mark T))
 
--- what the receiver was last told: items may come, the end mark came, or the sender went without one
+-- what the receiver has found: items may come, the end mark came, or the sender was dropped without one
 pub data LaneEnd : Type 0 where
   MayCome : LaneEnd
   Ended : LaneEnd
   SenderGone : LaneEnd
 
--- the sending end, or what is left of it after its close: the lane's name, and the items that were put
+-- the sending end, before or after its close: the lane, and the items that were put
 pub record Sending (T : Type 0) : Type 0 where
   pub lane : LaneName T
   pub put : List T
 
--- the receiving end: the lane's name, the items that were taken, and what it was last told
+-- the receiving end: the lane, the items that were taken, and what the end has found
 pub record Receiving (T : Type 0) : Type 0 where
   pub lane : LaneName T
   pub taken : List T

@@ -33,12 +33,12 @@ module _ {T : Type 0} where
     pub nothing_put : v.put ≡ []
     pub marks : AreItemsThen last v.taken
 
-  -- the end mark, where it was put
+  -- the end mark, if it was put
   abbrev pub mark_if : Bool → List (Mark T)
   mark_if true = End ∷ []
   mark_if false = []
 
-  -- the end mark, where it was taken
+  -- the end mark, if it was taken
   abbrev pub mark_of : Told → List (Mark T)
   mark_of MayCome = []
   mark_of Ended = End ∷ []

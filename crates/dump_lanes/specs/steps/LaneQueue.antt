@@ -1,4 +1,4 @@
--- The rule that each call on the lane of pieces keeps.
+-- The rule that each call on the lane of pieces obeys.
 use Rattle.std.specs.Prelude.{ℕ, zero, suc, List, [], ◌∷◌, ◌++◌}
 use Rattle.dump_lanes.specs.declared.passes.View.{View}
 use Rattle.dump_lanes.specs.declared.protocol.Mark.{Mark}
@@ -10,7 +10,7 @@ use Rattle.dump_lanes.specs.PoolParts.{Thread}
 use Rattle.dump_lanes.specs.steps.QueueRule.{Crew, IsQueueOf}
 use Rattle.dump_lanes.specs.LaneRule.{lane_part}
 
--- the threads at a lane: the sequencer sends and the writer receives; no worker is ever at it
+-- the threads that use a lane: the sequencer sends and the writer receives; no worker ever uses it
 abbrev pub receiver_first : ℕ → Thread
 receiver_first zero = Thread.Writer
 receiver_first (suc k) = Thread.Worker k
@@ -26,7 +26,7 @@ module _ {T : Type 0} where
   abbrev pub take_step : Mark T → Step (Mark T)
   take_step m = record { event = move.Write; entry = m }
 
-  -- the steps of the lane of pieces among these: the end mark is no item, and its steps are none of them
+  -- the steps of the lane of pieces among these: the end mark is no item, so its steps are excluded
   abbrev pub item_step : Move → Mark T → List (Step T)
   item_step event (Item x) = record { event = event; entry = x } ∷ []
   item_step event End = []

@@ -1,4 +1,4 @@
--- What the contracts see of a lane's ends.
+-- What contracts say of a lane's ends.
 use Rattle.std.specs.Prelude.{◌≡◌, ◌≢◌, ℕ, Bool, true, List, [], ◌∷◌, ◌++◌}
 use Rattle.std.specs.Result.{is_ok}
 use Rattle.crossbeam_channel.specs.Claims.{Pass, view}
@@ -21,14 +21,14 @@ use Rattle.dump_lanes.specs.PoolParts.{Thread}
 use Rattle.dump_lanes.specs.PartSteps.{AreSteps, all_put, all_taken}
 use Rattle.dump_lanes.specs.steps.OwnSteps.{steps_of}
 
--- what the receiver was last told
+-- what the receiver has found
 abbrev pub told : Told → LaneEnd
 told tells.MayCome = LaneEnd.MayCome
 told tells.Ended = LaneEnd.Ended
 told tells.SenderGone = LaneEnd.SenderGone
 
 module _ {T : Type 0} where
-  -- the lane that a pass is for
+  -- the lane to which a pass belongs
   abbrev pub lane_of : Pass (Mark T) (View (Mark T)) → LaneName T
   lane_of pass = record { table = pass.table_id; key = pass.me.0.of }
 
@@ -36,7 +36,7 @@ module _ {T : Type 0} where
   abbrev pub sending_of : Pass (Mark T) (View (Mark T)) → Sending T
   sending_of pass = record { lane = lane_of pass; put = items_of (view pass).put }
 
-  -- what the pass of a receiving end says, with what the end was last told
+  -- what the pass of a receiving end says, with what the end has found
   abbrev pub receiving_of : Pass (Mark T) (View (Mark T)) → Told → Receiving T
   receiving_of pass end = record { lane = lane_of pass; taken = items_of (view pass).taken; told = told end }
 
@@ -61,7 +61,7 @@ module _ {T : Type 0} where
   receiving l = receiving_of l.pass l.told
 
 module _ {T : Type 0} (end : LaneOut T) (other : Sent T) where
-  -- the two ends together made just the steps of one history of the lane, which leads to the items that are left
+  -- the two ends made exactly the steps of one history of the lane, which leads to the items that are left
   pub record HaveLaneSteps : Type 0 where
     pub happened : List (Step T)
     pub left : List T
@@ -71,19 +71,19 @@ module _ {T : Type 0} (end : LaneOut T) (other : Sent T) where
     pub put_is : (sent other).put ≡ all_put lane_part happened
     pub taken_is : (receiving end).taken ≡ all_taken lane_part happened
 
-  -- what was taken is a prefix of what was put, and after the end mark all of it; and the end mark came only where it
-  -- was put
+  -- what was taken is a prefix of what was put, and all of it after the end mark; and the receiver found the end mark
+  -- only if it was put
   pub record Settles : Type 0 where
     pub in_order : (rest : List T) × ((sent other).put ≡ (receiving end).taken ++ rest)
     pub whole : IsWholeAtEnd (receiving end).told (sent other).put (receiving end).taken
     pub told : (receiving end).told ≡ LaneEnd.Ended → is_marked other ≡ true
     pub steps : HaveLaneSteps
 
--- an end that was told is told again
+-- once the end has been found, each call returns the same
 abbrev pub ComesAgain : LaneEnd → LaneEnd → Type 0
 ComesAgain old new = (old ≢ LaneEnd.MayCome) → old ≡ new
 
--- one call of the receiver: an item joins the taken ones, or the end is told; after an end the same is told again
+-- one call of the receiver: it takes one more item, or finds the end; after an end it returns the same again
 abbrev pub TakeStep : {T : Type 0} → Receiving T → Taken T → Receiving T → Type 0
 TakeStep old (takes.Item value) new =
     (old.told ≡ LaneEnd.MayCome) × (new ≡ record old { taken = old.taken ++ value ∷ [] })

@@ -1,4 +1,4 @@
--- Whose steps a pass knows.
+-- Which steps a pass knows.
 use Rattle.std.specs.Prelude.{◌≡◌, ◌≢◌, ℕ, ◌==◌, Bool, true, false, List, [], filter}
 use Rattle.dump_lanes.specs.declared.steps.Step.{Step}
 use Rattle.dump_lanes.specs.PoolParts.{Thread, thread_of}
@@ -17,7 +17,7 @@ module _ {E : Type 0} where
   abbrev pub steps_of : Thread → List (Step E) → List (Step E)
   steps_of thread steps = filter (λ (s : Step E). is_thread thread (thread_of (event_of s.event))) steps
 
-  -- the steps that a pass knows of a thread whose pass it is are all of that thread's, and it knows none of another's
+  -- a pass knows all steps of the threads to which it belongs, and none of other threads
   pub record Knows (owner : Thread → ℕ) (happened : List (Step E)) (pass : ℕ) (steps : List (Step E)) : Type 0 where
     pub own : (thread : Thread) → owner thread ≡ pass → steps_of thread steps ≡ steps_of thread happened
     pub others : (thread : Thread) → owner thread ≢ pass → steps_of thread steps ≡ []

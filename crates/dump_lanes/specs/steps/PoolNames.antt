@@ -11,7 +11,7 @@ use Rattle.dump_lanes.specs.steps.QueueRule.{leading}
 use Rattle.dump_lanes.specs.steps.PortSides.{PoolName, PoolState}
 
 module _ {J D : Type 0} where
-  -- the pool that these queues are of
+  -- the name of the pool with these queues
   abbrev pub name_of : Queues J D → PoolName
   name_of q = record {
     jobs = q.jobs.table.shared.table_id;
@@ -19,11 +19,11 @@ module _ {J D : Type 0} where
     credits = q.credits.table.shared.table_id;
   }
 
-  -- a pool of these queues whose ports weren't given
+  -- a pool with these queues whose ports weren't made yet
   abbrev pub state_of : Queues J D → PoolState
   state_of q = record { name = name_of q; workers = q.workers; window = q.window; opened = false }
 
-  -- the first passes of the queues, with the credits put
+  -- the first passes of the queues, after the credits were put
   pub record AreFirst (q : Queues J D) (p : Passes J D) : Type 0 where
     pub of_jobs : IsPassOf q.jobs p.jobs
     pub of_dones : IsPassOf q.dones p.dones
@@ -32,7 +32,7 @@ module _ {J D : Type 0} where
     pub dones : view p.dones ≡ leading PARTS 0
     pub credits : view p.credits ≡ first_purse q.window
 
-  -- the queues, once for each port
+  -- references to the queues, one for each port
   pub record AreShares (q : Queues J D) (s : Shares J D) : Type 0 where
     pub cutter : arc_value s.cutter ≡ q
     pub workers : All (λ a. arc_value a ≡ q) s.workers.items

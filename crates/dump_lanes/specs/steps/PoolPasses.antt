@@ -22,7 +22,7 @@ module _ {T : Type 0} where
   abbrev pub marks_in : List (Note T) → List (Mark T)
   marks_in notes = map (λ (n : Note T). n.mark) notes
 
-  -- the mark in the last of these steps on the dones, which comes first, or an end mark where there is none
+  -- the mark in the first step of this list, which is the last one made; an end mark if the list is empty
   abbrev pub last_mark : List (Step (Note T)) → Mark T
   last_mark [] = End
   last_mark (s ∷ before) = s.entry.mark
@@ -31,14 +31,14 @@ module _ {T : Type 0} where
   abbrev pub EndsLast : List (Step (Note T)) → Type 0
   EndsLast steps = last_mark steps ≡ End
 
-  -- the cutter's: it has put jobs and then end marks, and each worker has one of the parts
+  -- the cutter's pass: it has put jobs and then end marks, and each worker has one of its parts
   pub record IsCutting (workers : ℕ) (v : View (Mark T)) : Type 0 where
     pub leads : v.leads ≡ true
     pub parts : v.parts + workers ≡ PARTS
     pub nothing_taken : v.taken ≡ []
     pub marks : AreItemsThen (replicate (count_ends v.put) End) v.put
 
-  -- a worker's for the jobs: it has taken jobs, and then its end mark, if that came
+  -- a worker's pass for the jobs: it has taken jobs, and then its end mark if `ended` says so
   pub record IsWorking (worker : ℕ) (ended : Bool) (v : View (Mark T)) : Type 0 where
     pub follows : v.leads ≡ false
     pub from : v.from ≡ worker
@@ -46,7 +46,7 @@ module _ {T : Type 0} where
     pub nothing_put : v.put ≡ []
     pub marks : AreItemsThen (mark_if ended) v.taken
 
-  -- a worker's for the dones: it has put items, and then its end mark, if it is closed
+  -- a worker's pass for the dones: it has put items, and then its end mark if `closed` says so
   pub record IsGiving (worker : ℕ) (closed : Bool) (v : View (Note T)) : Type 0 where
     pub follows : v.leads ≡ false
     pub from : v.from ≡ worker
@@ -56,7 +56,7 @@ module _ {T : Type 0} where
     pub own : (other : ℕ) → other ≢ worker → steps_of (Thread.Worker other) v.steps ≡ []
     pub last : closed ≡ true → EndsLast (steps_of (Thread.Worker worker) v.steps)
 
-  -- the sequencer's: so many workers' end marks are still to come
+  -- the sequencer's pass: this many workers' end marks are still to come
   pub record IsSequencing (workers left : ℕ) (v : View (Note T)) : Type 0 where
     pub leads : v.leads ≡ true
     pub parts : v.parts + workers ≡ PARTS
@@ -65,7 +65,7 @@ module _ {T : Type 0} where
     pub puts_none : (worker : ℕ) → steps_of (Thread.Worker worker) v.steps ≡ []
     pub marks : count_ends (marks_in v.taken) + left ≡ workers
 
-  -- the sequencer's after it has taken notes with these items
+  -- the sequencer's pass after it has taken notes with these items
   pub record HasRead (items : List T) (old new : View (Note T)) : Type 0 where
     pub leads : new.leads ≡ true
     pub parts : new.parts ≡ old.parts
@@ -74,7 +74,7 @@ module _ {T : Type 0} where
     pub puts_none : (worker : ℕ) → steps_of (Thread.Worker worker) new.steps ≡ steps_of (Thread.Worker worker) old.steps
     pub taken : items_of (marks_in new.taken) ≡ items_of (marks_in old.taken) ++ items
 
--- the writer's
+-- the writer's pass
 pub record IsGivingBack (window : ℕ) (v : Purse) : Type 0 where
   pub may_give : v.gives ≡ true
   pub first : v.first ≡ window

@@ -1,22 +1,22 @@
--- What the ports of a pool have done.
+-- What the ports of a pool have put and taken.
 use Rattle.std.specs.Prelude.{◌≡◌, ℕ, ◌<◌, Bool, true, false, List, [], length, All, Contains, map, flat_map}
 use Rattle.atomic_table.specs.Seated.{TableId}
 
--- which pool: its queues, of which no two pools share one
+-- the identity of a pool: its queues; no two pools have a queue in common
 pub record PoolName : Type 0 where
   pub jobs : TableId
   pub dones : TableId
   pub credits : TableId
 
--- a pool: its name, how many workers it has, how many items may be in flight, and whether its ports were given
+-- a pool: its name, how many workers it has, how many items may be under way, and whether its ports were made
 pub record PoolState : Type 0 where
   pub name : PoolName
   pub workers : ℕ
   pub window : ℕ
   pub opened : Bool
 
--- the cutter's port: its pool and that pool's workers, the jobs and the end marks that it put, and how many credits it
--- drew
+-- the cutter's port: its pool and the number of that pool's workers, the jobs and the end marks that it put, and how
+-- many credits it drew
 pub record CutterSide (J : Type 0) : Type 0 where
   pub pool : PoolName
   pub workers : ℕ
@@ -40,34 +40,34 @@ pub record SequencerSide (D : Type 0) : Type 0 where
   pub taken : List D
   pub ended : Bool
 
--- the writer's port: its pool, how many items may be in flight, and how many credits it gave back
+-- the writer's port: its pool, how many items may be under way, and how many credits it gave back
 pub record WriterSide : Type 0 where
   pub pool : PoolName
   pub window : ℕ
   pub back : ℕ
 
--- the cutter's port at first
+-- the cutter's port before the first call
 abbrev pub new_cutter : {J : Type 0} → PoolState → CutterSide J
 new_cutter pool = record { pool = pool.name; workers = pool.workers; put = []; marks = 0; drawn = 0 }
 
--- a worker's port at first
+-- a worker's port before the first call
 abbrev pub new_worker : {J D : Type 0} → PoolState → ℕ → WorkerSide J D
 new_worker pool index =
     record { pool = pool.name; index = index; taken = []; ended = false; given = []; closed = false }
 
--- the sequencer's port at first
+-- the sequencer's port before the first call
 abbrev pub new_sequencer : {D : Type 0} → PoolState → SequencerSide D
 new_sequencer pool = record { pool = pool.name; taken = []; ended = false }
 
--- the writer's port at first
+-- the writer's port before the first call
 abbrev pub new_writer : PoolState → WriterSide
 new_writer pool = record { pool = pool.name; window = pool.window; back = 0 }
 
--- a worker that took its end mark, and put its own
+-- a worker's port that has taken its end mark and has put its own
 abbrev pub IsDone : {J D : Type 0} → WorkerSide J D → Type 0
 IsDone worker = (worker.ended ≡ true) × (worker.closed ≡ true)
 
--- the workers' ports are those of this pool, each of them once, in any order
+-- these are the ports of this pool's workers, each once, in any order
 pub record AreWorkersOf {J D : Type 0} (pool : PoolName) (count : ℕ) (workers : List (WorkerSide J D)) : Type 0 where
   pub same_pool : All (λ (worker : WorkerSide J D). worker.pool ≡ pool) workers
   pub as_many : length workers ≡ count

@@ -1,4 +1,4 @@
--- What the ports of a pool together show of the steps on its queues.
+-- What the ports of a pool together say about the steps on its queues.
 use Rattle.std.specs.Prelude.{◌≡◌, ℕ, List, ◌++◌}
 use Rattle.crossbeam_queue.specs.Passes.{view}
 use Rattle.dump_lanes.specs.declared.pool.Ports.{Ports}
@@ -15,8 +15,8 @@ use Rattle.dump_lanes.specs.JobRule.{jobs_part}
 use Rattle.dump_lanes.specs.steps.PortViews.{job_port, credit_port, job_steps, done_steps}
 
 module _ {J D : Type 0} (ports : Ports J D) where
-  -- one history of the jobs leads to those that are left: it has what the cutter put, and of each thread just the steps
-  -- that the ports made
+  -- a history of the jobs leads to those that are left: it has what the cutter put, and of each thread exactly the
+  -- steps that the ports made
   pub record HaveJobSteps : Type 0 where
     pub happened : List (Step (Mark J))
     pub left : List (Mark J)
@@ -25,7 +25,7 @@ module _ {J D : Type 0} (ports : Ports J D) where
         (job_steps ports.workers.items ++ (view ports.cutter.jobs).steps) ≡ steps_of thread happened
     pub put_is : (view ports.cutter.jobs).put ≡ all_put jobs_part happened
 
-  -- one of the dones: it has what the sequencer took
+  -- the same of the dones: the history has what the sequencer took
   pub record HaveDoneSteps : Type 0 where
     pub happened : List (Step (Note D))
     pub left : List (Note D)
@@ -34,7 +34,7 @@ module _ {J D : Type 0} (ports : Ports J D) where
         (done_steps ports.workers.items ++ (view ports.sequencer.dones).steps) ≡ steps_of thread happened
     pub taken_is : (view ports.sequencer.dones).taken ≡ all_taken dones_part happened
 
-  -- one of the credits: it leads from those that the pool had at first to those that are free
+  -- the same of the credits: the history leads from those that the pool had at first to those that are free
   pub record HaveCreditSteps : Type 0 where
     pub happened : List CreditStep
     pub free : ℕ
@@ -44,7 +44,7 @@ module _ {J D : Type 0} (ports : Ports J D) where
     pub drawn_is : (job_port ports.cutter).drawn ≡ drawn_in happened
     pub back_is : (credit_port ports.writer).back ≡ back_in happened
 
-  -- the ports together made just the steps of one history of each queue, of each thread in order
+  -- the ports together made exactly the steps of one history of each queue, in the order of each thread
   pub record HaveSteps : Type 0 where
     pub jobs : HaveJobSteps
     pub dones : HaveDoneSteps

@@ -1,4 +1,4 @@
--- What the contracts see of a pool and its ports.
+-- What contracts say of a pool and its ports.
 use Rattle.std.specs.Prelude.{◌≡◌, ◌+◌, ◌==◌, true, false, List, [], ◌∷◌, ◌++◌, map, flat_map, length, Option, Some, None, is_none}
 use Rattle.std.specs.Arc.{arc_value}
 use Rattle.crossbeam_queue.specs.Passes.{view}
@@ -69,12 +69,12 @@ module _ {J D : Type 0} where
   worker_ports ports = map (λ (p : WorkerPort J D). worker_port p) ports.workers.items
 
 module _ {P E : Type 0} (pass_of : P → View E) where
-  -- the steps that the passes of these ports made, the last ones first
+  -- the steps that the passes of these ports made, the last one first
   abbrev pub steps_by : List P → List (Step E)
   steps_by [] = []
   steps_by (p ∷ ports) = steps_by ports ++ (pass_of p).steps
 
-  -- the pass that leads, after it has taken in those of these ports
+  -- the pass that leads, after it has joined those of these ports
   pub record HasTakenIn (ports : List P) (old new : View E) : Type 0 where
     pub leads : new.leads ≡ true
     pub parts : new.parts ≡ old.parts + length ports
@@ -90,24 +90,24 @@ module _ {J D : Type 0} where
   abbrev pub done_steps : List (WorkerPort J D) → List (Step (Note D))
   done_steps = steps_by (λ (p : WorkerPort J D). view p.dones)
 
-  -- the cutter's pass for the jobs, and the sequencer's for the dones, after it has taken in these workers'
+  -- the cutter's pass for the jobs, and the sequencer's for the dones, after it has joined those of these workers
   abbrev pub HasJobsOf : List (WorkerPort J D) → View (Mark J) → View (Mark J) → Type 0
   HasJobsOf = HasTakenIn (λ (p : WorkerPort J D). view p.jobs)
 
   abbrev pub HasDonesOf : List (WorkerPort J D) → View (Note D) → View (Note D) → Type 0
   HasDonesOf = HasTakenIn (λ (p : WorkerPort J D). view p.dones)
 
--- one call of a worker: a job joins the taken ones, or its end mark came, now or before
+-- one call of a worker: it takes one more job, or its end mark came in this call or earlier
 abbrev pub JobStep : {J D : Type 0} → WorkerSide J D → Option J → WorkerSide J D → Type 0
 JobStep old None new = new ≡ record old { ended = true }
 JobStep old (Some job) new = (old.ended ≡ false) × (new ≡ record old { taken = old.taken ++ job ∷ [] })
 
--- one call of the sequencer: an item joins the taken ones, or each worker's mark came, now or before
+-- one call of the sequencer: it takes one more item, or each worker's mark came in this call or earlier
 abbrev pub DoneStep : {D : Type 0} → SequencerSide D → Option D → SequencerSide D → Type 0
 DoneStep old None new = new ≡ record old { ended = true }
 DoneStep old (Some done) new = (old.ended ≡ false) × (new ≡ record old { taken = old.taken ++ done ∷ [] })
 
--- one call for a credit: one of this pool is drawn, or the stop was seen and none is
+-- one call that asks for a credit: it draws one of this pool, or sees the stop and draws none
 abbrev pub DrawStep : {J : Type 0} → CutterSide J → Drawn → CutterSide J → Type 0
 DrawStep old (draws.Credit credit) new = (credit_pool credit ≡ old.pool.credits)
     × (new ≡ record old { drawn = old.drawn + 1 })

@@ -1,4 +1,4 @@
--- The rule that each call on a queue of the pool keeps, whichever of its parts the queue is.
+-- The rule that each call on a queue of the pool obeys, for each of the parts that are queues.
 use Rattle.std.specs.Prelude.{◌≡◌, ◌≢◌, ◌≤◌, ◌<◌, ◌+◌, ◌-◌, ◌⊎◌, ℕ, true, false, List, [], ◌∷◌, ◌++◌, length, sum_by}
 use mathlib.Core.Option.{some}
 use lib.ListN.{get_elem?}
@@ -9,13 +9,13 @@ use Rattle.dump_lanes.specs.PoolParts.{Thread}
 use Rattle.dump_lanes.specs.PartSteps.{Part, AreSteps, all_put, all_taken}
 use Rattle.dump_lanes.specs.steps.OwnSteps.{steps_of, Knows}
 
--- the threads at a queue: the one whose pass leads, and those whose passes are cut off it, in this order
+-- the threads that use a queue: the one whose pass leads, and those whose passes are split off it, in this order
 pub record Crew : Type 0 where
   pub leader : Thread
   pub other : ℕ → Thread
 
 module _ {E : Type 0} where
-  -- the pass that leads, which has cut off so many others
+  -- the pass that leads, from which this many others were split off
   abbrev pub leading : ℕ → ℕ → View E
   leading parts made =
       record { parts = parts; leads = true; made = made; from = 0; put = []; taken = []; steps = [] }
@@ -28,14 +28,14 @@ module _ {E : Type 0} where
   abbrev pub spent : View E
   spent = record { parts = 0; leads = false; made = 0; from = 0; put = []; taken = []; steps = [] }
 
-  -- a step has put its entry, or taken it
+  -- the pass after a step that put its entry, or took it
   abbrev pub after_put : View E → Step E → View E
   after_put v s = record v { put = v.put ++ s.entry ∷ []; steps = s ∷ v.steps }
 
   abbrev pub after_take : View E → Step E → View E
   after_take v s = record v { taken = v.taken ++ s.entry ∷ []; steps = s ∷ v.steps }
 
-  -- the pass that leads when another is cut off, and when it takes one in
+  -- the pass that leads, after another was split off, and after it has joined one
   abbrev pub after_fork : View E → View E
   after_fork v = record v { parts = v.parts - 1; made = v.made + 1 }
 
@@ -53,8 +53,8 @@ module _ {E : Type 0} where
       ⊎ ((v.leads ≡ false) × (0 < v.parts) × (thread ≡ crew.other v.from))
 
 module _ {E : Type 0} (part : Part E) (crew : Crew) where
-  -- a pass knows just the steps of the threads whose it is, and what they put and took
-  -- the one that leads has its thread, and all those whose passes aren't cut off; another that has parts has its own
+  -- a pass knows exactly the steps of the threads to which it belongs, and what they put and took; the one that leads has its
+  -- own thread, and all those whose passes aren't split off; another pass with parts has one thread
   pub record Fits (owner : Thread → ℕ) (happened : List (Step E)) (pass : ℕ) (v : View E) : Type 0 where
     pub knows : Knows owner happened pass v.steps
     pub put_is : v.put ≡ all_put part v.steps
@@ -65,8 +65,8 @@ module _ {E : Type 0} (part : Part E) (crew : Crew) where
     pub follows : v.leads ≡ false → 0 < v.parts → owner (crew.other v.from) ≡ pass
     pub spends : v.parts ≡ 0 → (v.steps ≡ []) × ((thread : Thread) → owner thread ≢ pass)
 
-  -- there is one history: its steps are the part's share of their events, and lead to what the queue holds
-  -- each thread's steps in it are those that its pass knows; and the passes together made its steps, each as often
+  -- there is one history: its steps are those of the pool's events on this part, and lead to what the queue holds;
+  -- each pass knows the steps of its threads in it; and the passes together made its steps, each as often
   pub record IsQueueOf (items : List E) (views : List (View E)) : Type 0 where
     pub owner : Thread → ℕ
     pub happened : List (Step E)
@@ -76,7 +76,7 @@ module _ {E : Type 0} (part : Part E) (crew : Crew) where
     pub owned : (thread : Thread) → owner thread < length views
     pub fits : (pass : ℕ) (v : View E) → get_elem? views pass ≡ some v → Fits owner happened pass v
 
-  -- what a pass with all parts learns: it knows each thread's steps, and each step as often
+  -- what a pass with all parts finds out: it knows each thread's steps, and each step as often as the history has it
   pub record KnowsSteps (v : View E) (items : List E) : Type 0 where
     pub happened : List (Step E)
     pub steps : AreSteps part happened items

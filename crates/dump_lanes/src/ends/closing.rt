@@ -11,13 +11,13 @@ use crate::protocol::{InOrder, Mark, Puts};
 use crossbeam_channel::{Pass, RuledSender};
 use std::sync::Wait;
 
-/// The end mark was not put, since the receiving end is gone. `put_end` alone makes one.
+/// The end mark was not put, since the receiving end is dropped. Only `put_end` makes one.
 #[derive(Drop)]
 pub struct Unheard {
     _made_here: (),
 }
 
-/// Puts the end mark, and waits for a place.
+/// Puts the end mark; waits while there is no place for it.
 pub fn put_end<T: Drop, R: Wait>(
     rt: &R,
     sender: &RuledSender<Mark<T>, View<Mark<T>>, InOrder>,

@@ -10,8 +10,8 @@ use crate::protocol::{InOrder, Mark};
 use crossbeam_channel::bounded_with;
 use std::alloc::{AllocError, AllocFailed, Global};
 
-/// Makes a lane. Its channel has `capacity` places and one more, so that the end mark has room where
-/// no more than `capacity` items are ever in the lane at once.
+/// Makes a lane. Its channel has one more place than `capacity`. So there is room for the end mark if no more than
+/// `capacity` items are ever in the lane at once.
 pub fn lane<T: Drop>(alloc: Global, capacity: usize) -> Result<(LaneIn<T>, LaneOut<T>), Memory>
     requires some { 1 ≤ capacity }
     requires most { capacity ≤ MOST_WINDOW }
@@ -37,7 +37,7 @@ pub fn lane<T: Drop>(alloc: Global, capacity: usize) -> Result<(LaneIn<T>, LaneO
     ))
 }
 
-/// Memory ran out.
+/// An allocation failed.
 #[derive(Clone, Copy, Debug, PartialEq, Eq)]
 pub struct Memory;
 

@@ -11,10 +11,11 @@ use crossbeam_channel::{Pass, RecvError, RuledReceiver, TryRecvError};
 use std::sync::Wait;
 use std::thread;
 
-/// How often a thread that finds nothing gives its turn away before it sleeps: as long as waking it would take.
+/// How often a thread that finds nothing yields its turn before it sleeps. This takes about as long as to wake it.
 const TURNS: u32 = 400;
 
-/// Takes the mark at the front, and waits for one. An error: none is there, and the sending end is gone.
+/// Takes the mark at the front; waits while there is none. The error says that there is none and the sending end is
+/// dropped.
 pub fn receive<T: Drop, R: Wait>(
     rt: &R,
     receiver: &RuledReceiver<Mark<T>, View<Mark<T>>, InOrder>,

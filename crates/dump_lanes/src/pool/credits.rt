@@ -1,11 +1,13 @@
 //! The protocol of the queue of credits, from the writer back to the cutter.
 //!
 //! 1. The queue holds a token for each free credit; at first as many are put as the window is wide.
-//! 2. There is one history of steps, each of which is the credits' share of one event of the pool, with one credit. It
+//! 2. There is one history of steps. Each step belongs to one event of the pool, and moves one credit. The history
 //!    leads from the credits that were put at first to those that are free.
-//! 3. The cutter's pass knows the draws, of which the history has just those; the writer's those that it gave back.
-//! 4. So those that were there at first and came back are those that were drawn and those that are free.
-//! 5. Where the two passes meet again, they know all steps, and no more were drawn than were there and came back.
+//! 3. The cutter's pass knows exactly the draws in the history, and the writer's pass exactly the credits that it gave
+//!    back.
+//! 4. So the credits that were there at first or came back are those that were drawn or are free.
+//! 5. When the two passes are joined, they know all steps: no more credits were drawn than were there at first and
+//!    came back.
 use crate::steps::Step;
 use crossbeam_queue::RuledArrayQueue;
 use crossbeam_queue::protocol::{Join, Lesson, Outcome, Protocol, Split};
@@ -18,7 +20,7 @@ pub type CreditQueue = RuledArrayQueue<Token, Purse, CreditShares>;
 #[derive(Drop)]
 pub struct Token;
 
-/// What a pass may do and what it has seen. Only its type is used: no value of it is made.
+/// What a pass may do and which steps it knows. It is only used as a type; the program makes no value of it.
 pub struct Purse {
     pub draws: bool,
     pub gives: bool,
@@ -28,7 +30,7 @@ pub struct Purse {
     pub steps: LinkedList<Step<()>>,
 }
 
-/// The rule: each step on the queue is its share of the event that its pass notes.
+/// The rule: each step on the queue belongs to the event that its pass stores.
 pub struct CreditShares;
 
 impl Protocol<Token, Purse> for CreditShares {
@@ -39,7 +41,7 @@ impl Protocol<Token, Purse> for CreditShares {
     ghost first = { first_purse 0 };
 }
 
-/// The first pass is cut in two: the left one draws, the right one gives back.
+/// The first pass is split into two: the left one draws, and the right one gives back.
 pub struct CreditRoles;
 
 impl Split<Purse> for CreditRoles {
@@ -58,7 +60,7 @@ impl Join<Purse> for CreditRoles {
     ghost spent = { spent_purse };
 }
 
-/// One more credit is there at first, which is no event.
+/// Adds a credit at the beginning, which is no event.
 pub struct AddsFirst;
 
 impl Outcome<Token, Purse> for AddsFirst {
@@ -72,7 +74,7 @@ impl Lesson<Token, Purse> for AddsFirst {
     ghost fact = { λ v items. Unit {0} };
 }
 
-/// A credit is drawn: the event `Draw`.
+/// Draws a credit. The event is `Draw`.
 pub struct Draws;
 
 impl Outcome<Token, Purse> for Draws {
@@ -86,7 +88,7 @@ impl Lesson<Token, Purse> for Draws {
     ghost fact = { λ v items. Unit {0} };
 }
 
-/// A credit is given back: the event `Give`.
+/// Gives a credit back. The event is `Give`.
 pub struct Gives;
 
 impl Outcome<Token, Purse> for Gives {
@@ -100,7 +102,7 @@ impl Lesson<Token, Purse> for Gives {
     ghost fact = { λ v items. Unit {0} };
 }
 
-/// What a pass that both draws and gives back learns.
+/// What a pass that both draws and gives back finds out.
 pub struct AllCredits;
 
 impl Lesson<Token, Purse> for AllCredits {

@@ -35,7 +35,7 @@ impl<J: Drop, D: Drop> JobPort<J, D> {
     ghost use Rattle.dump_lanes.specs.steps.CreditViews.{is_stop};
     ghost use Rattle.dump_lanes.specs.steps.PortViews.{job_port, DrawStep};
 
-    /// Puts a job at the back, and waits for a place.
+    /// Puts a job at the back; waits while there is no place for it.
     pub fn put<R: Wait>(&mut self, rt: &R, job: J)
         requires { (job_port self.old).marks ≡ 0 }
         ensures { job_port self.new ≡ record (job_port self.old) { put = (job_port self.old).put ++ job ∷ [] } }
@@ -49,7 +49,7 @@ impl<J: Drop, D: Drop> JobPort<J, D> {
         );
     }
 
-    /// Puts an end mark for each worker, behind all jobs, and waits for places.
+    /// Puts an end mark for each worker, after all jobs; waits while there is no place for one.
     pub fn close<R: Wait>(&mut self, rt: &R)
         requires { (job_port self.old).marks ≡ 0 }
         ensures { job_port self.new ≡ record (job_port self.old) { marks = (job_port self.old).workers } }
@@ -63,7 +63,7 @@ impl<J: Drop, D: Drop> JobPort<J, D> {
         );
     }
 
-    /// Draws a credit, and waits for one. It looks at the stop word before each try.
+    /// Draws a credit; waits while there is none. It reads the stop word before each try.
     pub fn draw<R: Wait>(&mut self, rt: &R, word: &StopWord, seat: &mut StopSeat) -> Drawn
         requires open { (job_port self.old).marks ≡ 0 }
         requires this_word { seat.old.word ≡ word.now }
@@ -82,7 +82,7 @@ impl<J: Drop, D: Drop> JobPort<J, D> {
     }
 }
 
-/// Puts so many end marks.
+/// Puts this many end marks.
 fn put_ends<J: Drop, R: Wait>(
     rt: &R,
     queue: &JobQueue<J>,

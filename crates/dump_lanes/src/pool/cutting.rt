@@ -1,4 +1,4 @@
-//! How the first passes of a pool's queues are cut into those of its ports.
+//! How the first passes of a pool's queues are split into those of its ports.
 ghost use Rattle.std.specs.Prelude.{◌≡◌, ◌-◌, ◌≤◌, [], true, length, map, All, vec_capacity};
 ghost use Rattle.std.specs.List.{range_with_len};
 ghost use Rattle.std.specs.Arc.{arc_value};
@@ -23,7 +23,7 @@ use crate::protocol::Mark;
 use crossbeam_queue::Pass;
 use std::sync::Arc;
 
-/// Makes all ports. `room` is where the workers' go.
+/// Makes all ports. The workers' ports are put in `room`.
 pub fn cut<J: Drop, D: Drop>(
     queues: &Queues<J, D>,
     passes: Passes<J, D>,
@@ -70,7 +70,7 @@ pub fn cut<J: Drop, D: Drop>(
     }
 }
 
-/// Makes the workers' ports, each with a share of the queues and passes of its own.
+/// Makes the workers' ports, each with its own reference to the queues and its own passes.
 fn cut_workers<J: Drop, D: Drop>(
     queues: &Queues<J, D>,
     jobs: &mut Pass<Mark<J>, View<Mark<J>>>,

@@ -1,9 +1,10 @@
 //! The protocol of the queue of dones, from the workers to the sequencer.
 //!
-//! 1. The queue carries notes: a mark, which is an item or a worker's end mark, with that worker's index.
-//! 2. There is one history of steps, each of which is the dones' share of one event of the pool, with one note. It leads
-//!    from the empty queue to what the queue holds, and has of each thread just the steps that its pass made.
-//! 3. The sequencer's pass leads, and makes the takes; the others are the workers', and make the puts.
+//! 1. The queue carries notes. A note is a mark, which is an item or a worker's end mark, and the index of that
+//!    worker.
+//! 2. There is one history of steps. Each step belongs to one event of the pool, and has one note. The history leads
+//!    from the empty queue to what the queue holds, and has of each thread exactly the steps that its pass made.
+//! 3. The sequencer's pass leads and makes the takes; the others are the workers' and make the puts.
 use crate::passes::View;
 use crate::protocol::Mark;
 use crossbeam_queue::RuledArrayQueue;
@@ -19,7 +20,7 @@ pub struct Note<T> {
     pub mark: Mark<T>,
 }
 
-/// The rule: each step on the queue is its share of the event that its pass notes.
+/// The rule: each step on the queue belongs to the event that its pass stores.
 pub struct DoneShares;
 
 impl<T> Protocol<Note<T>, View<Note<T>>> for DoneShares {
@@ -32,7 +33,7 @@ impl<T> Protocol<Note<T>, View<Note<T>>> for DoneShares {
     ghost first = { leading PARTS 0 };
 }
 
-/// A note joins those that were put.
+/// The pass stores a note that it has put.
 pub struct PutsNote;
 
 impl<T> Outcome<Note<T>, View<Note<T>>> for PutsNote {
@@ -47,7 +48,7 @@ impl<T> Lesson<Note<T>, View<Note<T>>> for PutsNote {
     ghost fact = { λ v items. Unit {0} };
 }
 
-/// A note joins those that were taken.
+/// The pass stores a note that it has taken.
 pub struct TakesNote;
 
 impl<T> Outcome<Note<T>, View<Note<T>>> for TakesNote {
@@ -62,7 +63,7 @@ impl<T> Lesson<Note<T>, View<Note<T>>> for TakesNote {
     ghost fact = { λ v items. Unit {0} };
 }
 
-/// What a pass with all parts learns.
+/// What a pass with all parts finds out.
 pub struct AllNotes;
 
 impl<T> Lesson<Note<T>, View<Note<T>>> for AllNotes {

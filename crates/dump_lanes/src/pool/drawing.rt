@@ -1,4 +1,4 @@
-//! Credits, and how they are drawn.
+//! Credits, and how the cutter draws them.
 ghost use Rattle.std.specs.Prelude.{◌≡◌, true, []};
 ghost use Rattle.crossbeam_queue.specs.Passes.{view, IsSamePass, IsPassOf};
 ghost use Rattle.dump_lanes.specs.steps.CreditQueue.{first_purse};
@@ -14,16 +14,16 @@ use std::snapshot::Snapshot;
 use std::sync::Wait;
 use std::time::Duration;
 
-/// How many milliseconds the cutter sleeps before it looks at the stop word again, which has no bell.
+/// How many milliseconds the cutter sleeps before it reads the stop word again, since no bell rings for the stop.
 const LOOK_AGAIN: u64 = 2;
 
-/// A place in the window, for one item. `JobPort::draw` alone makes one, and `CreditPort::back` takes it.
+/// A place in the window, for one item. Only `JobPort::draw` makes one, and `CreditPort::back` takes it back.
 #[derive(Drop)]
 pub struct Credit {
     drawn_by: Snapshot<Pass<Token, Purse>>,
 }
 
-/// What the cutter is told when it asks for a credit.
+/// The result of a draw.
 #[derive(Drop)]
 pub enum Drawn {
     Credit(Credit),
@@ -32,7 +32,7 @@ pub enum Drawn {
     Stop,
 }
 
-/// Puts the credits that are there at first.
+/// Puts the credits that are there at the beginning.
 pub fn put_first<R: Wait>(
     rt: &R,
     queue: &CreditQueue,
@@ -50,7 +50,7 @@ pub fn put_first<R: Wait>(
     }
 }
 
-/// Draws a credit, unless the stop is seen first.
+/// Draws a credit, unless it sees the stop first.
 pub fn draw_from<R: Wait>(
     rt: &R,
     queue: &CreditQueue,

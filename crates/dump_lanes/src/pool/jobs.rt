@@ -1,9 +1,9 @@
 //! The protocol of the queue of jobs, from the cutter to the workers.
 //!
-//! 1. The queue carries marks: each is a job, or an end mark, of which the cutter puts one for each worker.
-//! 2. There is one history of steps, each of which is the jobs' share of one event of the pool, with one mark. It leads
+//! 1. The queue carries marks. A mark is a job or an end mark, and the cutter puts one end mark for each worker.
+//! 2. There is one history of steps. Each step belongs to one event of the pool, and has one mark. The history leads
 //!    from the empty queue to what the queue holds.
-//! 3. The cutter's pass leads, and makes the puts; the others are the workers', and make the takes.
+//! 3. The cutter's pass leads and makes the puts; the others are the workers' and make the takes.
 use crate::passes::View;
 use crate::protocol::Mark;
 use crossbeam_queue::RuledArrayQueue;
@@ -12,7 +12,7 @@ use crossbeam_queue::protocol::{Lesson, Outcome, Protocol};
 /// The queue of jobs.
 pub type JobQueue<J> = RuledArrayQueue<Mark<J>, View<Mark<J>>, JobShares>;
 
-/// The rule: each step on the queue is its share of the event that its pass notes.
+/// The rule: each step on the queue belongs to the event that its pass stores.
 pub struct JobShares;
 
 impl<T> Protocol<Mark<T>, View<Mark<T>>> for JobShares {
@@ -25,7 +25,7 @@ impl<T> Protocol<Mark<T>, View<Mark<T>>> for JobShares {
     ghost first = { leading PARTS 0 };
 }
 
-/// A mark is put: the event `Cut`, or `CutMark`.
+/// The pass stores a mark that it has put. The event is `Cut` or `CutMark`.
 pub struct PutsJob;
 
 impl<T> Outcome<Mark<T>, View<Mark<T>>> for PutsJob {
@@ -40,7 +40,7 @@ impl<T> Lesson<Mark<T>, View<Mark<T>>> for PutsJob {
     ghost fact = { λ v items. Unit {0} };
 }
 
-/// A mark is taken: the event `Take` of this worker.
+/// The pass stores a mark that it has taken. The event is `Take` of this worker.
 pub struct TakesJob;
 
 impl<T> Outcome<Mark<T>, View<Mark<T>>> for TakesJob {
@@ -54,7 +54,7 @@ impl<T> Lesson<Mark<T>, View<Mark<T>>> for TakesJob {
     ghost fact = { λ v items. Unit {0} };
 }
 
-/// What a pass with all parts learns.
+/// What a pass with all parts finds out.
 pub struct AllJobs;
 
 impl<T> Lesson<Mark<T>, View<Mark<T>>> for AllJobs {

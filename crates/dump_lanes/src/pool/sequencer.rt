@@ -26,8 +26,8 @@ pub struct DonePort<J: Drop, D: Drop> {
 impl<J: Drop, D: Drop> DonePort<J, D> {
     ghost use Rattle.dump_lanes.specs.steps.PortViews.{done_port, DoneStep};
 
-    /// Takes the item at the front, and waits for one. `None`: each worker has closed its port, and the
-    /// answer stays.
+    /// Takes the item at the front; waits while there is none. `None` if each worker has closed its port; each later
+    /// call then returns the same.
     pub fn take<R: Wait>(&mut self, rt: &R) -> Option<D>
         ensures { DoneStep (done_port self.old) result (done_port self.new) }
     {
@@ -41,7 +41,7 @@ impl<J: Drop, D: Drop> DonePort<J, D> {
     }
 }
 
-/// Takes the next item, and waits for one; none once each worker has put its end mark.
+/// Takes the next item; waits while there is none. `None` once each worker has put its end mark.
 fn take_from<D: Drop, R: Wait>(
     rt: &R,
     queue: &DoneQueue<D>,

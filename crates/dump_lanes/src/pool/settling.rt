@@ -1,4 +1,4 @@
-//! How the ports of a pool come together again.
+//! How the ports of a pool are joined at the end.
 ghost use Rattle.std.specs.Prelude.{◌≡◌, ◌+◌, ◌<◌, ◌≤◌, true, false, All};
 ghost use Rattle.crossbeam_queue.specs.Passes.{view, IsPassOf};
 ghost use Rattle.dump_lanes.specs.steps.PoolNames.{name_of};
@@ -21,8 +21,8 @@ use crate::protocol::Mark;
 use crossbeam_queue::Pass;
 
 impl<J: Drop, D: Drop> Ports<J, D> {
-    /// Shows that what was taken is what was put, and that the ports together made just the steps of one
-    /// history of each queue, and drops all ports. The workers' may come in any order.
+    /// Drops all ports. Its contract says that what was taken is what was put, and that the ports made exactly the
+    /// steps of one history of each queue. The workers' ports may be in any order.
     pub fn settle(self)
         requires workers { AreWorkersOf (job_port self.cutter).pool (job_port self.cutter).workers (worker_ports self) }
         requires sequencer { (done_port self.sequencer).pool ≡ (job_port self.cutter).pool }
@@ -64,7 +64,7 @@ impl<J: Drop, D: Drop> Ports<J, D> {
     }
 }
 
-/// Takes in the passes of the workers.
+/// Joins the passes of the workers to the two passes that lead.
 fn gather<J: Drop, D: Drop>(
     queues: &Queues<J, D>,
     jobs: &mut Pass<Mark<J>, View<Mark<J>>>,

@@ -1,4 +1,4 @@
-//! The queues of a pool, shared by its ports.
+//! References to the queues of a pool for its ports.
 ghost use Rattle.std.specs.Prelude.{◌≡◌, length, All, IfOk};
 ghost use Rattle.std.specs.Arc.{arc_value};
 ghost use Rattle.dump_lanes.specs.steps.PoolNames.{AreShares};
@@ -8,7 +8,7 @@ use crate::ends::Memory;
 use std::alloc::Global;
 use std::sync::Arc;
 
-/// The queues, once for each port.
+/// The references to the queues, one for each port.
 #[derive(Drop)]
 pub struct Shares<J: Drop, D: Drop> {
     pub cutter: Arc<Queues<J, D>>,
@@ -17,7 +17,7 @@ pub struct Shares<J: Drop, D: Drop> {
     pub writer: Arc<Queues<J, D>>,
 }
 
-/// Shares the queues among as many ports as there will be, unless memory runs out.
+/// Makes a reference for each port, unless an allocation fails.
 pub fn share<J: Drop, D: Drop>(
     alloc: Global,
     queues: &Arc<Queues<J, D>>,
@@ -33,7 +33,7 @@ pub fn share<J: Drop, D: Drop>(
     })
 }
 
-/// Shares them with the workers.
+/// Makes a reference for each worker.
 fn share_with_workers<J: Drop, D: Drop>(
     alloc: Global,
     queues: &Arc<Queues<J, D>>,

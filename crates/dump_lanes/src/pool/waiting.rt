@@ -1,4 +1,4 @@
-//! How a port waits for a queue that is full or empty.
+//! How a port waits while a queue is full or empty.
 ghost use Rattle.crossbeam_queue.specs.Fifo.{Pushes, Pops, Learns};
 ghost use Rattle.crossbeam_queue.specs.Passes.{view, IsSamePass, IsPassOf, ruled_capacity};
 
@@ -7,7 +7,7 @@ use crossbeam_queue::protocol::{Lesson, Outcome, Protocol};
 use crossbeam_queue::{Pass, RuledArrayQueue};
 use std::sync::Wait;
 
-/// Puts an item at the back, once there is a place.
+/// Puts an item at the back, as soon as there is a place.
 pub fn push<M: Outcome<T, V> + Lesson<T, V>, T, V, P: Protocol<T, V>, R: Wait>(
     rt: &R,
     queue: &RuledArrayQueue<T, V, P>,
@@ -38,7 +38,7 @@ pub fn push<M: Outcome<T, V> + Lesson<T, V>, T, V, P: Protocol<T, V>, R: Wait>(
     unreachable!()
 }
 
-/// Takes the item at the front, once there is one.
+/// Takes the item at the front, as soon as there is one.
 pub fn pop<M: Outcome<T, V> + Lesson<T, V>, T, V, P: Protocol<T, V>, R: Wait>(
     rt: &R,
     queue: &RuledArrayQueue<T, V, P>,

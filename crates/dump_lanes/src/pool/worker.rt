@@ -14,7 +14,7 @@ use crate::protocol::Mark;
 use crossbeam_queue::Pass;
 use std::sync::{Arc, Wait};
 
-/// A worker's port: it takes jobs, and gives what it made of them.
+/// A worker's port: it takes jobs, and gives their results.
 #[derive(Drop)]
 pub struct WorkerPort<J: Drop, D: Drop> {
     pub(super) queues: Arc<Queues<J, D>>,
@@ -57,8 +57,8 @@ impl<J: Drop, D: Drop> WorkerPort<J, D> {
         }
     }
 
-    /// Takes the job at the front, and waits for one. `None`: the cutter has closed its port, and the
-    /// answer stays.
+    /// Takes the job at the front; waits while there is none. `None` if the cutter has closed its port; each later
+    /// call then returns the same.
     pub fn take<R: Wait>(&mut self, rt: &R) -> Option<J>
         ensures { JobStep (worker_port self.old) result (worker_port self.new) }
     {
@@ -79,7 +79,7 @@ impl<J: Drop, D: Drop> WorkerPort<J, D> {
         }
     }
 
-    /// Puts an item at the back of the dones, and waits for a place.
+    /// Puts an item at the back of the dones; waits while there is no place for it.
     pub fn give<R: Wait>(&mut self, rt: &R, done: D)
         requires { (worker_port self.old).closed ≡ false }
         ensures { worker_port self.new ≡ record (worker_port self.old) { given = (worker_port self.old).given ++ done ∷ [] } }
@@ -97,7 +97,7 @@ impl<J: Drop, D: Drop> WorkerPort<J, D> {
         );
     }
 
-    /// Puts this worker's end mark behind what it gave, and waits for a place.
+    /// Puts this worker's end mark after all that it gave; waits while there is no place for it.
     pub fn close<R: Wait>(&mut self, rt: &R)
         requires ended { (worker_port self.old).ended ≡ true }
         requires once { (worker_port self.old).closed ≡ false }

@@ -23,8 +23,8 @@ pub struct CreditPort<J: Drop, D: Drop> {
 impl<J: Drop, D: Drop> CreditPort<J, D> {
     ghost use Rattle.dump_lanes.specs.steps.PortViews.{credit_port};
 
-    /// Gives a credit of this pool back, so that the cutter can draw it again. (One of another pool counts
-    /// here as well, and is gone there.)
+    /// Gives a credit of this pool back, so that the cutter can draw it again. A credit of another pool is accepted
+    /// and counted here too, and that pool has then one less.
     pub fn back<R: Wait>(&mut self, rt: &R, credit: Credit)
         ensures { credit_port self.new ≡ record (credit_port self.old) { back = (credit_port self.old).back + 1 } }
     {

@@ -20,7 +20,7 @@ fn three_items_in_two_places(rt: HostRuntime) -> Result<(), Fail> {
     Ok(())
 }
 
-/// Whether two items of the greatest numbers pass through one place.
+/// Whether two items with the largest numbers pass through one place.
 fn pass_alone(slots: &mut Slots<u32>) -> bool {
     let first = slots.place(u64::MAX, 1) == Ok(()) && slots.place(u64::MAX - 1, 2) == Err(2);
     first && slots.lift(0) == Some(1) && slots.place(u64::MAX - 1, 2) == Ok(())
@@ -35,7 +35,7 @@ fn the_greatest_numbers_and_one_place(rt: HostRuntime) -> Result<(), Fail> {
     Ok(())
 }
 
-/// Places two items of which the second is out of place at first, and says whether it came back then.
+/// Places two items, the second at first where the place is taken; returns whether `place` returned it then.
 fn place_two(slots: &mut Slots<String>, alloc: Global) -> Result<bool, Fail> {
     let first = String::from_str(alloc, "first")?;
     let second = String::from_str(alloc, "second")?;
@@ -52,7 +52,7 @@ fn items_that_own_memory(rt: HostRuntime) -> Result<(), Fail> {
         return Err(AllocError.into());
     };
     let placed = place_two(&mut slots, rt.alloc())?;
-    // The second is dropped with the row.
+    // The second item is dropped with the row.
     let lifted = match slots.lift(7) {
         Some(text) => text.as_str() == "first",
         None => false,
@@ -61,7 +61,7 @@ fn items_that_own_memory(rt: HostRuntime) -> Result<(), Fail> {
     Ok(())
 }
 
-/// Where the one allocation is refused, `new` answers `Memory`: run under `--fail-alloc 1`.
+/// Run with the only allocation failing, under `--fail-alloc 1`: the error of `new` is `Memory`.
 #[test]
 fn a_row_or_no_memory(rt: HostRuntime) {
     match Slots::<u32>::new(rt.alloc(), 4096) {

@@ -1,22 +1,24 @@
 //! The protocol of the stop word, over a table of one word.
 //!
-//! 1. The word is 0 at first, and 1 once some seat has raised it: then it stays.
-//! 2. Each seat notes whether it raised the word, and whether it saw the word up.
-//! 3. The word is up exactly where some seat notes that it raised it, and a seat notes that it saw it only where it is.
-//! 4. There is one history of steps, each of which is the word's share of one event of the pool: a raise, or a look with
-//!    what it found. It leads to what the word is, and the seats together made just its steps.
-//! 5. Each seat has a share, and the shares add up to 4: a split cuts a share in two, a join adds two.
-//! 6. A seat with the whole share has the marks of all, so for it a stop that was seen was raised.
+//! 1. The word is 0 at first. It is 1 once a seat has raised it, and then stays 1.
+//! 2. Each seat stores whether it raised the word, and whether it saw the word raised.
+//! 3. The word is 1 exactly if some seat stores that it raised it. A seat stores that it saw the word raised only if
+//!    the word is 1.
+//! 4. There is one history of steps. Each step belongs to one event of the pool: a raise, or a look with its result.
+//!    The history leads to the present value of the word, and consists of exactly the steps that the seats made.
+//! 5. Each seat has a share, and the shares add up to 4. A split halves a share, and a join adds two.
+//! 6. A seat with the whole share has the marks of all seats. So if it stores that the word was seen raised, it stores
+//!    that the word was raised.
 use atomic_table::{Join, Play, Split, TableRule};
 use std::collections::LinkedList;
 
-/// A step on the word. Only its type is used: no value of it is made.
+/// A step on the word. It is only used as a type; the program makes no value of it.
 pub enum WordStep {
     Raise,
     Look(bool),
 }
 
-/// What a seat knows of the word. Only its type is used: no value of it is made.
+/// What a seat stores about the word. It is only used as a type; the program makes no value of it.
 pub struct Marks {
     pub share: u64,
     pub raised: bool,
@@ -24,7 +26,7 @@ pub struct Marks {
     pub steps: LinkedList<WordStep>,
 }
 
-/// The rule: the word is up exactly where some seat raised it, and each step is its share of an event.
+/// The rule: the word is raised exactly if some seat raised it, and each step belongs to an event.
 pub struct UpWhereRaised;
 
 impl TableRule<(), Marks, ()> for UpWhereRaised {
@@ -36,7 +38,7 @@ impl TableRule<(), Marks, ()> for UpWhereRaised {
     ghost first = { λ _. marks 4 false false [] };
 }
 
-/// A seat raises the word: the event `SequencerRaises` or `WriterRaises`.
+/// A seat raises the word. The event is `SequencerRaises` or `WriterRaises`.
 pub struct Raises;
 
 impl Play<(), Marks> for Raises {
@@ -46,7 +48,7 @@ impl Play<(), Marks> for Raises {
     ghost then = { λ step old n new. new ≡ (after_raise old.0, old.1) };
 }
 
-/// A seat looks at the word, and notes whether it is up: the event `Look`.
+/// A seat reads the word, and stores whether it is raised. The event is `Look`.
 pub struct Looks;
 
 impl Play<(), Marks> for Looks {
@@ -55,7 +57,7 @@ impl Play<(), Marks> for Looks {
     ghost then = { λ step old n new. HasLooked old n new };
 }
 
-/// A seat is told what its share says of its marks and steps. It notes nothing.
+/// A seat finds out what its share says about its marks and steps. It stores nothing.
 pub struct Checks;
 
 impl Play<(), Marks> for Checks {
@@ -64,7 +66,7 @@ impl Play<(), Marks> for Checks {
     ghost then = { λ step old n new. HasChecked old new };
 }
 
-/// A seat is split in two, each with half the share.
+/// A seat is split into two, each with half the share.
 pub struct Halves;
 
 impl Split<Marks> for Halves {

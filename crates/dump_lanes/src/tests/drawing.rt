@@ -1,4 +1,4 @@
-//! A draw that finds no credit looks at the stop word before it tries again.
+//! A draw that finds no credit reads the stop word before it tries again.
 ghost use Rattle.std.specs.Prelude.{◌≡◌};
 ghost use Rattle.dump_lanes.specs.steps.PortViews.{job_port};
 
@@ -10,7 +10,7 @@ use std::thread;
 use std::thread::{Threads, join};
 use std::time::{Clock, Duration};
 
-/// Draws the only credit, and then waits for another one: whether it was told of the stop.
+/// Draws the only credit, and then tries to draw another one. Returns whether the second call returned the stop.
 fn draw_twice<R: Wait>(
     rt: &R,
     mut port: JobPort<u32, u32>,
@@ -26,7 +26,7 @@ fn draw_twice<R: Wait>(
     }
 }
 
-/// Raises the stop when the other thread has long looked at it.
+/// Raises the stop after the other thread has read it many times.
 fn raise_later<R: Clock>(rt: &R, word: &StopWord, mut seat: StopSeat)
     requires { seat.word ≡ word.now }
 {

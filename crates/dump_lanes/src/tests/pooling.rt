@@ -1,4 +1,4 @@
-//! One item through a pool of one worker, and memory that is refused.
+//! One item through a pool of one worker, and allocations that fail.
 ghost use Rattle.std.specs.Prelude.{◌≡◌, All, map, true, false, IfSome};
 ghost use Rattle.dump_lanes.specs.steps.PortSides.{AreWorkersOf, IsDone};
 ghost use Rattle.dump_lanes.specs.steps.PortViews.{job_port, worker_port, worker_ports, done_port, credit_port};
@@ -99,8 +99,8 @@ fn one_item_through_a_pool(rt: HostRuntime) -> Result<(), Fail> {
     Ok(())
 }
 
-/// Whichever allocation is refused, `new` answers `Memory`, or `ports` does and gives the ports when it is
-/// asked again: run under `--fail-alloc 1` to `32`.
+/// Run with each allocation failing in turn, under `--fail-alloc 1` to `32`: the error of `new` is `Memory`, or that
+/// of `ports` is, and a second call of `ports` then returns the ports.
 #[test]
 fn a_pool_or_no_memory(rt: HostRuntime) {
     let answered = match Pool::<u32, u32>::new(&rt, rt.alloc(), 2, 4) {

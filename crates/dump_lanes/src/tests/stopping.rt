@@ -17,7 +17,7 @@ fn one_seat_raises_and_the_other_sees(rt: HostRuntime) -> Result<(), Fail> {
     Ok(())
 }
 
-/// Whichever allocation is refused, `new` answers `Memory`: run under `--fail-alloc 1` to `4`.
+/// Run with each allocation failing in turn, under `--fail-alloc 1` to `4`: the error of `new` is `Memory`.
 #[test]
 fn a_word_or_no_memory(rt: HostRuntime) {
     match StopWord::new(rt.alloc()) {

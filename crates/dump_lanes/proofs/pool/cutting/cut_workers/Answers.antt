@@ -9,7 +9,7 @@ use Rattle.dump_lanes.proofs.pool.cutting.cut_workers.Given.{Over}
 use Rattle.dump_lanes.proofs.pool.cutting.cut_workers.Goals.{In-Some, In-None}
 use Rattle.dump_lanes.proofs.pool.cutting.cut_workers.Goals as goal
 
--- the next share is at its place
+-- the next reference to the queues is at its place
 turn : (g : Over) (c : In-Some g) → (length c.loop-share.yielded < length c.args.shares.items)
     × (c.in-Some.share ≡ slice_index_or c.args.shares.items (length c.loop-share.yielded) c.in-Some.share)
 turn g c =
@@ -17,7 +17,7 @@ turn g c =
     (search rules)) c.loop-share.yielded c.loop-share.share-iterator c.loop-share.yielded_by c.next.result
     c.next.new.self c.in-Some.share c.in-Some.is c.next.ensures.steps
 
--- and it is one of these queues
+-- and it refers to these queues
 same_share : (g : Over) (c : In-Some g) → arc_value c.in-Some.share ≡ c.args.queues.now
 same_share g c =
     subst (λ a. arc_value a ≡ c.args.queues.now) (sym (turn g c).1)
