@@ -1,5 +1,5 @@
--- Which record has a number, and how the list of records ends, is known as soon as it is known that it is known: a dump
--- has one list.
+-- Truncated proofs of which record has a number, and of how the list of records ends, give the facts, since a dump has
+-- only one list.
 use Rattle.dump_pipeline.proofs.Prelude.{◌≡◌, ℕ, List, length, sym, ap, ◌∙◌, subst, Result, Ok, Err, ◌++◌, ◌∷◌, [], take, arith, ForErr, ∥∥₁_elim, props, Coded-set, coded_ℕ, DumpRecord, length-take-le, Ending, HasRecords, BeginsWithRecords, EndsAfter, IsRecordOf, whole_front, one_more, within, each_dump_has_one_list}
 use Rattle.std.proofs.lemmas.List.{length-append}
 
@@ -9,7 +9,7 @@ same_count m n = Coded-set coded_ℕ m n
 same_ending : (a b : Ending) → IsProp (a ≡ b)
 same_ending a b = hlevel props
 
--- a list of records that is merely known to end so ends so
+-- a truncated proof that a list of records ends in this way gives the proof
 pub ends_once : (dump : List ℕ) (count : ℕ) (ending : Ending) → ∥ EndsAfter dump count ending ∥₁
     → EndsAfter dump count ending
 ends_once dump count ending t =
@@ -28,7 +28,7 @@ pub for_err : {T E : Type 0} (P : E → Type 0) (e : E) → P e → ForErr {T = 
 unfolding from_err
 for_err {T} {E} P e p x is = subst P (ap (from_err {T = T} e) is) p
 
--- which record has a number needs no witness
+-- a truncated proof of which record has a number gives the proof
 pub record_once : (dump : List ℕ) (number : ℕ) (r : DumpRecord) → ∥ IsRecordOf dump number r ∥₁
     → IsRecordOf dump number r
 record_once dump number r t =

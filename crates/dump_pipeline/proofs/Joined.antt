@@ -1,4 +1,4 @@
--- What the threads brought back, put together.
+-- What the threads returned, together.
 use Rattle.dump_pipeline.proofs.Prelude.{◌≡◌, ◌≢◌, ◌⊎◌, inl, inr, ◌∙◌, ℕ, suc, ◌+◌, ◌≤◌, Bool, true, false, ◌||◌, List, [], ◌∷◌, ◌++◌, length, Option, Some, None, refl, sym, ap, subst, arith, map, sum_by, All, MatchBool, false≢true, or_left, or_cases, map-append, Appends-nil, first_numbers, Clash, IsWaiting, WeighsSame, CutterSide, WorkerSide, all_taken, all_given, Seat, joined_seat, SeesOnlyRaised, no_clash, none_waits, within, Settings, IsPrefixOf, first_state, Answer, Failure, Ghosts, Job, Checked, NumberedPiece, End, job_number, job_numbers, checked_number, checked_numbers, text_of, end_answer, HasCut, HasWorked, HasEndedWith, HasSequenced, HasReceived, IsEndOf, IsFilterPrefix, RunLeaves, ThreadsFailFirst, ⊎_elim, cases_Bool}
 use Rattle.dump_pipeline.specs.declared.answer.Answer.TheVariants as answers
 use Rattle.dump_pipeline.specs.declared.answer.Failure.TheVariants as failures
@@ -25,7 +25,7 @@ module _ {D : Type 0} {run : Ghosts D} where
       ∙ (ap (λ (l : List ℕ). job_numbers w.taken ++ l) (worked_numbers ws (λ k d lt. h (suc k) d (omega arith)))
       ∙ sym (map-append job_number w.taken (all_taken ws))))
 
-  -- what the threads of a run brought back, put together
+  -- what the threads of a run returned, together
   pub record AreJoined (settings : Settings) (dump : List ℕ) (cutter : CutterSide (Job D run))
       (ws : List (WorkerSide (Job D run) (Checked D run))) (window : ℕ) (taken : List (Checked D run))
       (put : List NumberedPiece) (end : Option End) (stray seen : Bool) : Type 0 where
@@ -40,7 +40,7 @@ module _ {D : Type 0} {run : Ghosts D} where
       {ws : List (WorkerSide (Job D run) (Checked D run))} {window : ℕ} {taken : List (Checked D run)}
       {put : List NumberedPiece} {end : Option End} {stray seen : Bool}
       (h : AreJoined settings dump cutter ws window taken put end stray seen) where
-    -- what arrived are the first so many items, each once
+    -- what arrived are this many of the first items, each once
     arrived : WeighsSame (checked_numbers taken) (first_numbers h.cut.count)
     arrived f =
         weighs_numbers checked_number taken (all_given ws) h.dones f
@@ -53,7 +53,7 @@ module _ {D : Type 0} {run : Ghosts D} where
     order b e = subst (λ (b : Bool). MatchBool b (Clash window (length put) (checked_numbers taken))
         (IsWaiting (length put) (checked_numbers taken))) e h.sequenced.order
 
-    -- the sequencer met no item that was astray
+    -- the sequencer found each item where it should be
     pub none_astray : stray ≡ false
     none_astray =
         ⊎_elim (λ (astray : stray ≡ true).
@@ -65,7 +65,7 @@ module _ {D : Type 0} {run : Ghosts D} where
     all_released : length put ≡ h.cut.count
     all_released = none_waits (length put) h.cut.count (checked_numbers taken) arrived (order false none_astray)
 
-    -- where the cutter saw no stop, the last item was released
+    -- if the cutter saw no stop, the last item was released
     pub nothing_missing : end ≡ None → seen ≡ false → ⊥
     nothing_missing going unseen =
         let all = all_released in
@@ -90,7 +90,7 @@ stop_was_raised cuts sequences writes all is only shares c e =
     or_cases sequences.raised writes.raised
     (sym (ap (λ (b : Bool). (b || sequences.raised) || writes.raised) c) ∙ raised)
 
--- so where neither raised it, the cutter saw none
+-- so if neither raised it, the cutter saw none
 pub unseen : (cuts sequences writes all : Seat) → all ≡ joined_seat (joined_seat cuts sequences) writes
     → SeesOnlyRaised all
     → cuts.share + sequences.share + writes.share ≡ 4 → cuts.raised ≡ false → sequences.raised ≡ false
@@ -105,7 +105,7 @@ unseen cuts sequences writes all is only shares c s w = by cuts.seen refl
         neither (inl up) = absurd (false≢true (sym s ∙ up))
         neither (inr up) = absurd (false≢true (sym w ∙ up))
 
--- a cutter that nobody shut isn't shut
+-- if neither seat raised the word that makes the cutter cut nothing, the cutter didn't see it raised
 pub unshut : (shut shuts all : Seat) → all ≡ joined_seat shut shuts → SeesOnlyRaised all → shut.share + shuts.share ≡ 4
     → shut.raised ≡ false → shuts.raised ≡ false → shut.seen ≡ false
 unshut shut shuts all is only shares a b = by shut.seen refl
@@ -119,7 +119,7 @@ unshut shut shuts all is only shares a b = by shut.seen refl
     by true e = absurd (false≢true (sym not_raised ∙ only (ap (λ (x : Seat). x.share) is ∙ shares)
         (ap (λ (x : Seat). x.seen) is ∙ or_left shut.seen shuts.seen e)))
 
--- what was released begins the filter's text of the dump
+-- what was released is the beginning of the filter's text of the dump
 pub begins_text : (settings : Settings) (dump : List ℕ) (end : Option End) (released : ℕ) (text received : List ℕ)
     → HasEndedWith settings dump end released text
     → IsPrefixOf received text → IsFilterPrefix settings dump received
@@ -137,7 +137,7 @@ module _ {D : Type 0} {run : Ghosts D} {settings : Settings} {dump : List ℕ} {
     {put got : List NumberedPiece} {end : Option End} {stray failed : Bool} {first now : Option (List ℕ)} {count : ℕ}
     (h : HasSequenced settings dump window taken put end stray) (same : got ≡ put)
     (r : HasReceived failed (text_of got) first now count) where
-  -- after a failure of the sink
+  -- after the sink failed
   pub sink_failed : failed ≡ true → RunLeaves settings dump first now (answers.Failed failures.Sink count)
   sink_failed is = record {
     received = r.received;
@@ -151,7 +151,7 @@ module _ {D : Type 0} {run : Ghosts D} {settings : Settings} {dump : List ℕ} {
     );
   }
 
-  -- where the sink took all
+  -- if the sink took all
   all_received : (last : End) → end ≡ Some last → failed ≡ false → IsEndOf settings dump last r.received
   all_received last at is =
       subst (IsEndOf settings dump last)
@@ -159,7 +159,7 @@ module _ {D : Type 0} {run : Ghosts D} {settings : Settings} {dump : List ℕ} {
       ∙ ap (λ (l : List NumberedPiece). text_of l) same))
       (subst (λ (e : Option End). HasEndedWith settings dump e (length put) (text_of put)) at h.text)
 
-  -- where the writer took all that was put and the sink didn't fail, the run leaves what its end says
+  -- if the writer took all that was put and the sink didn't fail, the run's result is what the sequencer's end says
   pub ended_so : (last : End) → end ≡ Some last → failed ≡ false
       → RunLeaves settings dump first now (end_answer last count)
   ended_so (ends.Clean report) at is =
@@ -181,7 +181,7 @@ nothing_written settings dump old failure = record {
   answered = (memory settings dump (first_state settings) 0 [] (begins settings dump), refl);
 }
 
--- where the threads ended, none was refused
+-- if the threads ended, each of them could be started
 pub threads_fail : (answer : Answer) → ((written : ℕ) → answer ≢ answers.Failed failures.Threads written)
     → ThreadsFailFirst answer
 threads_fail (answers.Clean report) h = tt

@@ -10,7 +10,7 @@ written_once settings ended rs ss x y same a b = outputs_once settings ended (ke
     (subst (λ (l : List DumpRecord). IsWrittenText settings ended l y) (sym same) b)
 
 module _ (settings : Settings) (dump : List ℕ) where
-  -- a record with a fault doesn't stand among records that have none
+  -- a record with a fault isn't among records that have none
   passes : (before : List DumpRecord) (r : DumpRecord) (kind : FaultKind) (all : List DumpRecord)
       → BeginsWithRecords dump (before ++ r ∷ []) → IsRecordFault settings before r kind
       → BeginsWithRecords dump all → AreFaultFree settings all → length (before ++ r ∷ []) ≤ length all → ⊥
@@ -30,7 +30,7 @@ module _ (settings : Settings) (dump : List ℕ) where
       split = sym listed ∙ ap (λ (l : List DumpRecord). l ++ drop n all) (sym front)
           ∙ append_assoc before (r ∷ []) (drop n all)
 
-  -- nor in a dump of which no record has one
+  -- it isn't in a dump either of which no record has one
   refused : (before : List DumpRecord) (r : DumpRecord) (kind : FaultKind) (all : List DumpRecord) (ending : Ending)
       → BeginsWithRecords dump (before ++ r ∷ []) → IsRecordFault settings before r kind
       → HasRecords dump all ending → AreFaultFree settings all → ⊥
@@ -80,7 +80,7 @@ module _ (settings : Settings) (dump : List ℕ) where
       let ending = same.1 in
       (same.0, cc, cc)
 
-  -- a dump with a fault isn't clean
+  -- a dump with a fault isn't a dump without one
   not_both : (records before : List DumpRecord) (kind : FaultKind) (place : ℕ) → HasRecords dump records Ending.Whole
       → AreFaultFree settings records → HasFirstFault settings dump before kind place → ⊥
   not_both records before kind place has free (free', inl (r, a, fault, at)) =
@@ -88,7 +88,7 @@ module _ (settings : Settings) (dump : List ℕ) where
   not_both records before kind place has free (free', inr broken) =
       let ending = (records_once dump records before Ending.Whole (Ending.Broken kind place) has broken).1 in cc
 
-  -- nor has it two answers, or two texts
+  -- it doesn't have two answers, or two texts
   answer_once : (text other_text : List ℕ) (answer other : Answer) → IsFilterAnswer settings dump text answer
       → IsFilterAnswer settings dump other_text other → (text ≡ other_text) × (answer ≡ other)
   answer_once x y (Clean report) (Clean report') (records, clean, counts) (records', clean', counts') =

@@ -1,8 +1,8 @@
--- What the sink received of the pieces so far, where it fails within one.
+-- What the sink received of the pieces so far, if it fails within one.
 use Rattle.dump_pipeline.proofs.Prelude.{◌≡◌, ◌∙◌, ℕ, Bool, true, false, List, ◌++◌, take, drop, Option, sym, ap, subst, arith, append_assoc, MatchBool, take-append-drop, length-take, Appends-trans, IsPrefixOf, HasReceived, StopsShort}
 use Rattle.std.proofs.Common.{length-append}
 
--- only its first bytes were taken
+-- it took only the first bytes of the piece
 pub part_received : (failed : Bool) (text piece : List ℕ) (first old new : Option (List ℕ)) (count more : ℕ)
     → failed ≡ false
     → HasReceived failed text first old count → StopsShort old new piece count more

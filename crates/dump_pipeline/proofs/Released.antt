@@ -1,4 +1,5 @@
--- The steps of a sequencer, by those of a run on one thread: its sink is the text that it has released.
+-- The steps of a sequencer, seen as those of a run on one thread whose sink is the text that the sequencer has
+-- released.
 use Rattle.dump_pipeline.proofs.Prelude.{◌≡◌, ◌∙◌, ℕ, ◌+◌, List, [], ◌++◌, length, Option, Some, None, refl, sym, ap, subst, arith, append-nil, FaultKind, Record, DumpRecord, record_dump, record_number, record_item, CutterState, Ending, EndsAfter, IsRecordOf, Settings, capped, report_of, FilterState, first_state, AreAccepted, Accepts, Refuses, Finishes, Report, IsFilterAnswer, NumberedPiece, End, ending_of, text_of, HasFiltered, IsEndOf, IsFilterPrefix}
 use Rattle.std.proofs.lemmas.List.{length-append}
 use Rattle.dump_pipeline.specs.declared.answer.Answer.TheVariants as answers
@@ -38,7 +39,7 @@ fault settings dump filter next text r kind h is refuses =
     subst (λ (t : List ℕ). IsFilterAnswer settings dump t (answers.Fault kind next r.place))
     (sym leaves.appended) leaves.answered
 
--- no record stands where the next would begin
+-- no record is where the next would begin
 pub broken_off : (settings : Settings) (dump : List ℕ) (filter : FilterState) (next place : ℕ) (text : List ℕ)
     (kind : FaultKind)
     → HasFiltered settings dump filter next text → EndsAfter dump next (Ending.Broken kind place)
@@ -67,7 +68,7 @@ whole settings dump filter next text piece report h ends finishes reports =
     (Some (text ++ piece)) (answers.Clean report) ends (piece, finishes, refl, reports) in
     subst (λ (t : List ℕ). IsFilterAnswer settings dump t (answers.Clean report)) (sym leaves.appended) leaves.answered
 
--- behind an end nothing more is released
+-- after an end nothing more is released
 pub ended_with_nothing : (settings : Settings) (dump : List ℕ) (end : End) (text piece : List ℕ) → piece ≡ []
     → IsEndOf settings dump end text
     → IsEndOf settings dump end (text ++ piece)
@@ -103,7 +104,7 @@ last_end settings dump filter number text piece report last is known h finishes 
     (ends_once dump number Ending.Whole (subst (λ (l : Option (FaultKind × ℕ)). ∥ EndsAfter dump number
     (ending_of l) ∥₁) is known)) finishes reports
 
--- a record's fault, with its number and place as they are read off it
+-- a record's fault, with its number and place
 pub record_fault : (settings : Settings) (dump : List ℕ) (filter : FilterState) (number place : ℕ) (text : List ℕ)
     (r same : Record) (kind : FaultKind)
     → record_dump r ≡ dump → same ≡ r → number ≡ record_number same → place ≡ (record_item same).place
@@ -117,7 +118,7 @@ record_fault settings dump filter number place text r same kind of is number_is 
     (sym (place_is ∙ ap (λ (x : Record). (record_item x).place) is))
     (fault settings dump filter (record_number r) text (record_item r) kind h (record_is dump r of) refuses))
 
--- at first
+-- before the first step
 pub begins_with : (settings options : Settings) (dump : List ℕ) (filter : FilterState) (put : List NumberedPiece)
     → options ≡ settings
     → filter ≡ first_state options → put ≡ [] → HasFiltered settings dump filter 0 (text_of put)

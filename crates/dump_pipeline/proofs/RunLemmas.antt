@@ -5,11 +5,11 @@ use Rattle.dump_records.specs.declared.cutter.Cut.TheVariants as cuts
 use Rattle.dump_pipeline.specs.declared.answer.Answer.TheVariants as answers
 use Rattle.dump_pipeline.specs.declared.answer.Failure.TheVariants as failures
 
--- what begins the beginning of a text begins the text
+-- the beginning of the beginning of a text is a beginning of the text
 pub prefix_trans : (a b c : List ℕ) → IsPrefixOf a b → IsPrefixOf b c → IsPrefixOf a c
 prefix_trans a b c (x, is) (y, at) = (x ++ y, at ∙ ap (λ t. t ++ y) is ∙ append_assoc a x y)
 
--- what was written of records without a fault begins the filter's text of the dump
+-- what was written for records without a fault is the beginning of the filter's text of the dump
 pub goes_on : (settings : Settings) (dump : List ℕ) (before : List DumpRecord) (text : List ℕ)
     → BeginsWithRecords dump before → AreFaultFree settings before → IsWrittenText settings false before text
     → IsFilterPrefix settings dump text
@@ -155,7 +155,7 @@ module _ (settings : Settings) (dump : List ℕ) (cutter : CutterState) (filter 
       ((accepts p.before p.accepted).1 p.text (subst (λ (s : Settings). IsWrittenText s false p.before p.text)
       (sym p.settings_is) p.out))
 
-  -- the count of the bytes behind a part of a piece
+  -- the count of the bytes after a part of a piece
   part_sized : (part : ℕ) (piece : List ℕ) (count : ℕ) → part < length piece → count ≡ capped (written + part)
       → count ≡ capped (length (p.text ++ take part piece))
   part_sized part piece count short is =
@@ -188,7 +188,7 @@ module _ (settings : Settings) (dump : List ℕ) (cutter : CutterState) (filter 
         (sym p.settings_is) p.out));
   }
 
-  -- a run behind the last record of a whole dump leaves the filter's answer, or why its end couldn't be written
+  -- a run after the last record of a whole dump leaves the filter's answer, or why its end couldn't be written
   pub finished : (new : Option (List ℕ)) (answer : Answer) → EndsAfter cutter.dump cutter.number Ending.Whole
       → EndsRun filter mid new written answer → RunLeaves settings dump old new answer
   finished new (answers.Clean report) ends (piece, finishes, appended, reports) = record {
@@ -221,7 +221,7 @@ module _ (settings : Settings) (dump : List ℕ) (cutter : CutterState) (filter 
   finished new (answers.Failed failures.Threads count) ends is = absurd is
   finished new (answers.Fault fault number place) ends is = absurd is
 
-  -- where no further record stands in the dump, for a fault, the run leaves that fault
+  -- if no further record is in the dump, because of a fault, the run leaves that fault
   pub broken : (kind : FaultKind) (place number : ℕ) → EndsAfter cutter.dump cutter.number (Ending.Broken kind place)
       → number ≡ count_up_to filter.last → RunLeaves settings dump old mid (answers.Fault kind number place)
   broken kind place number ends is = record {
@@ -230,7 +230,7 @@ module _ (settings : Settings) (dump : List ℕ) (cutter : CutterState) (filter 
     answered = (p.before, (p.free, inr (ends_here (Ending.Broken kind place) ends)), p.out, is ∙ p.next ∙ sym p.count);
   }
 
-  -- where the next record has a fault, the run leaves that fault
+  -- if the next record has a fault, the run leaves that fault
   pub refused : (r : DumpRecord) (kind : FaultKind) (place number : ℕ) → IsRecordOf cutter.dump cutter.number r
       → Refuses filter r kind
       → number ≡ cutter.number → place ≡ r.place → RunLeaves settings dump old mid (answers.Fault kind number place)
@@ -255,7 +255,7 @@ module _ (settings : Settings) (dump : List ℕ) (cutter : CutterState) (filter 
     );
   }
 
-  -- a run that lacks memory leaves what it has written so far
+  -- a run that runs out of memory leaves what it has written so far
   pub no_memory : RunLeaves settings dump old mid (answers.Failed failures.Memory written)
   no_memory = record {
     received = p.text;
@@ -263,7 +263,7 @@ module _ (settings : Settings) (dump : List ℕ) (cutter : CutterState) (filter 
     answered = (goes_on settings dump p.before p.text p.begins p.free p.out, p.sized);
   }
 
-  -- where the sink fails in a record's piece, the run leaves what it received up to there
+  -- if the sink fails in a record's piece, the run leaves what the sink received up to there
   pub sink_failed : (r : DumpRecord) (piece : List ℕ) (new : Option (List ℕ)) (count : ℕ)
       → IsRecordOf cutter.dump cutter.number r
       → Accepts filter r piece → StopsShort mid new piece written count → RunLeaves settings dump old new
@@ -321,7 +321,7 @@ module _ (settings : Settings) (dump : List ℕ) (cutter : CutterState) (filter 
         sized = let total = length-append p.text piece in let sized = p.sized in let sum = sends.count_is in omega arith;
       }
 
-  -- no more records than bytes are taken
+  -- no more records are taken than the dump has bytes
   pub smaller : (r : Record) (cutter' : CutterState) → CutStep cutter (cuts.Item r) cutter'
       → length dump - cutter'.number < length dump - cutter.number
   smaller r cutter' (of, number, is, next) =

@@ -14,14 +14,14 @@ pub cut_number : (old new : CutterState) (dump : List ℕ) (number : ℕ) (r : R
     → CutStep old (cuts.Item r) new → record_number r ≡ number
 cut_number old new dump number r is (of, same, item, next) = same ∙ ap (λ (c : CutterState). c.number) is
 
--- behind the next record the cutter has given one more of the same dump
+-- after the next record the cutter has given one more of the same dump
 pub cut_next : (old new : CutterState) (dump : List ℕ) (number : ℕ) (r : Record)
     → old ≡ record { dump = dump; number = number }
     → CutStep old (cuts.Item r) new → new ≡ record { dump = dump; number = number + 1 }
 cut_next old new dump number r is (of, same, item, next) =
     next ∙ ap (λ (c : CutterState). record c { number = c.number + 1 }) is
 
--- the end that a cutter tells is that of its dump
+-- the end that a cutter gives is that of its dump
 pub cut_end : (old : CutterState) (dump : List ℕ) (number : ℕ) (ending : Ending)
     → old ≡ record { dump = dump; number = number }
     → EndsAfter old.dump old.number ending → EndsAfter dump number ending
@@ -79,14 +79,14 @@ module _ {D : Type 0} {run : Ghosts D} where
       → checked_numbers (taken ++ done ∷ []) ≡ checked_numbers taken ++ checked_number done ∷ []
   numbers_more taken done = map-append checked_number taken (done ∷ [])
 
-  -- nothing was lifted
+  -- nothing was in the place of the next item
   pub row_unlifted : (w r : ℕ) (arrived : List ℕ) (old new : List (Option (Checked D run))) (o : Option (Checked D run))
       → Row checked_number w r arrived old
       → o ≡ slot_item old r → o ≡ None → new ≡ with_slot_item old r None → Row checked_number w r arrived new
   row_unlifted w r arrived old new o h is none set = subst (Row checked_number w r arrived) (sym set)
       (same_row checked_number w r arrived old h (sym is ∙ none))
 
-  -- the next was lifted
+  -- the next item was in its place
   pub row_lifted : (w r : ℕ) (arrived : List ℕ) (old new : List (Option (Checked D run))) (o : Option (Checked D run))
       (done : Checked D run) → 0 < length old
       → Row checked_number w r arrived old → o ≡ slot_item old r → o ≡ Some done → checked_number done ≡ r
@@ -96,7 +96,7 @@ module _ {D : Type 0} {run : Ghosts D} where
       subst (Row checked_number w (r + 1) arrived) (sym set)
       (released_more checked_number w r arrived old done some h (sym is ∙ stands) same)
 
-  -- another than the next was lifted
+  -- another item was in the place of the next one
   pub lifted_wrong : (w r : ℕ) (arrived : List ℕ) (old : List (Option (Checked D run))) (o : Option (Checked D run))
       (done : Checked D run) → 0 < length old
       → Row checked_number w r arrived old → o ≡ slot_item old r → o ≡ Some done → checked_number done ≢ r → Clash w r arrived
@@ -137,13 +137,13 @@ module _ {D : Type 0} {run : Ghosts D} where
       subst (Clash w r) (sym (ap (λ (t : List (Checked D run)). checked_numbers t) more ∙ numbers_more taken done))
       (taken_place checked_number w r (checked_numbers taken) old done stands.0 some h stands.1)
 
-  -- the next isn't there
+  -- the next item isn't in its place
   pub none_lifted : (w r : ℕ) (arrived : List ℕ) (old : List (Option (Checked D run))) (o : Option (Checked D run))
       → Row checked_number w r arrived old
       → o ≡ slot_item old r → o ≡ None → IsWaiting r arrived
   none_lifted w r arrived old o h is none = next_is_missing checked_number w r arrived old h (sym is ∙ none)
 
-  -- what the sequencer gives back
+  -- what the sequencer returns
   pub sequenced_so : (settings : Settings) (dump : List ℕ) (w next : ℕ) (taken : List (Checked D run))
       (put : List NumberedPiece) (end : Option End) (stray : Bool)
       → HasEndedWith settings dump end next (text_of put) → piece_numbers put ≡ first_numbers next → length put ≡ next
@@ -156,7 +156,7 @@ module _ {D : Type 0} {run : Ghosts D} where
         (sym count) order;
   }
 
-  -- what still comes is taken
+  -- the items that still come are taken
   pub sequenced_more : (settings : Settings) (dump : List ℕ) (w : ℕ) (taken taken' : List (Checked D run))
       (put : List NumberedPiece) (end : Option End) (stray : Bool) → stray ≡ true
       → HasSequenced settings dump w taken put end stray → (more : List ℕ)
@@ -215,7 +215,7 @@ numbers_released next old new piece put is h =
     ∙ (ap (λ (l : List ℕ). l ++ piece.number.value ∷ []) h
     ∙ (ap (λ (n : ℕ). first_numbers next ++ n ∷ []) is ∙ sym (range_next next))))
 
--- how far it has come tells what it ended with
+-- how far it has come says what it ended with
 pub ended_so : (settings : Settings) (dump : List ℕ) (stage : Stage) (end : Option End) (next : ℕ) (text : List ℕ)
     → end ≡ stage_end stage
     → HasReleased settings dump stage next text → HasEndedWith settings dump end next text
@@ -233,7 +233,7 @@ map_push {X} {Y} {Z} f g xs xs' x ys y more same at =
     ∙ (ap (λ (l : List Z). l ++ f x ∷ []) same
     ∙ (ap (λ (z : Z). map g ys ++ z ∷ []) at ∙ sym (map-append g ys (y ∷ [])))))
 
--- what holds of each item holds of them all with one more of which it holds
+-- if something is true of each item and of one more, it is true of all with this one
 pub all_push : {X : Type 0} (P : X → Type 0) (xs xs' : List X) (x : X) → xs' ≡ xs ++ x ∷ [] → All P xs → P x → All P xs'
 all_push {X} P xs xs' x more h p = subst (λ (l : List X). All P l) (sym more) (all_then P xs x h p)
 

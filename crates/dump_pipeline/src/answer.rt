@@ -1,19 +1,19 @@
-//! What a run answers.
+//! The result of a run.
 use dump_filter::Report;
 use dump_text::FaultKind;
 
-/// Why a run was not brought to its end.
+/// Why a run stopped before its end.
 #[derive(Clone, Copy, Debug, PartialEq, Eq)]
 pub enum Failure {
     /// The sink failed.
     Sink,
-    /// Memory ran out.
+    /// An allocation failed.
     Memory,
     /// A thread wasn't started.
     Threads,
 }
 
-/// What a run answers.
+/// The result of a run.
 #[derive(Clone, Copy, Debug, PartialEq, Eq)]
 pub enum Answer {
     /// The dump has no fault.
@@ -24,7 +24,7 @@ pub enum Answer {
         number: u64,
         place: usize,
     },
-    /// The run was broken off; so many bytes were written. The count stays at `u64::MAX`.
+    /// The run was stopped after it had written this many bytes. The count doesn't go above `u64::MAX`.
     Failed {
         failure: Failure,
         written: u64,

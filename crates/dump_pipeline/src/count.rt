@@ -1,10 +1,10 @@
-//! How long a piece is.
+//! The length of a piece.
 ghost use Rattle.std.specs.Prelude.{◌≡◌, length};
 ghost use Rattle.dump_writer.specs.SinkWords.{capped};
 
 use dump_writer::Piece;
 
-/// How many bytes a piece has; the count stays at `u64::MAX`.
+/// How many bytes a piece has; the count doesn't go above `u64::MAX`.
 pub(crate) fn piece_len(piece: &Piece<'_>) -> u64
     ensures { result ≡ capped (length piece.now) }
 {

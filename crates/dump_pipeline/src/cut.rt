@@ -12,7 +12,7 @@ use std::sync::Wait;
 /// The cutter's port.
 pub type CutterPort<'a, D> = JobPort<Job<'a, D>, Checked<'a, D>>;
 
-/// The cutter's ends: its port, and its seats at the word that stops it and at the one that shuts it.
+/// The cutter's ends: its port, and its seats at the word that stops it and at the one that tells it to cut nothing.
 #[derive(Drop)]
 pub struct CutterEnds<J: Drop, D: Drop> {
     pub port: JobPort<J, D>,
@@ -20,10 +20,10 @@ pub struct CutterEnds<J: Drop, D: Drop> {
     pub shut: StopSeat,
 }
 
-/// The ends that a run's cutter is given, and gives back.
+/// The ends that the cutter of a run gets and returns.
 pub type Cutting<'a, D> = CutterEnds<Job<'a, D>, Checked<'a, D>>;
 
-/// A credit, unless the stop is seen.
+/// Draws a credit, unless it sees the stop.
 fn draw<'a, D: Run, R: Wait>(
     rt: &R,
     port: &mut CutterPort<'a, D>,
@@ -43,7 +43,7 @@ fn draw<'a, D: Run, R: Wait>(
     }
 }
 
-/// How many bytes there are: fewer than a count of 64 bits can tell.
+/// The length of the dump, which is less than 2^63.
 fn count_bytes(dump: &[u8]) -> usize
     ensures { (result ≡ length dump.now) × (result < 2 ^ 63) }
 {
@@ -94,7 +94,7 @@ fn cut_all<'a, D: Run, R: Wait>(
     unreachable!()
 }
 
-/// Puts the jobs of the dump, and the end marks; only the end marks where it was shut before it began.
+/// Puts the jobs of the dump, and then the end marks; only the end marks if it was told before to cut nothing.
 pub fn cut<'a, D: Run, R: Wait>(
     rt: &R,
     dump: &'a [u8],

@@ -1,8 +1,8 @@
-//! What the workers pass on their way.
+//! A hook that the workers call; tests use it to delay or count records.
 
-/// What a worker passes before it checks the record with this number.
+/// A hook that a worker calls before it checks the record with this number.
 pub trait Gate: Sync {
-    /// Returns when the record may be checked.
+    /// Returns as soon as the worker may check the record.
     fn pass(&self, number: u64);
 }
 

@@ -1,4 +1,4 @@
-//! The end of a run: its threads are joined, and what they brought back is put together.
+//! The end of a run: its threads are joined, and the answer is made from what they returned.
 ghost use Rattle.std.specs.Prelude.{◌≡◌, ◌≢◌, ◌⊎◌, ◌+◌, ◌≤◌, ℕ, List, Option, length, map, true, false, All, vec_capacity};
 ghost use Rattle.dump_lanes.specs.steps.LaneEnds.{LaneEnd};
 ghost use Rattle.dump_lanes.specs.steps.LaneViews.{sending, sent, receiving};
@@ -24,10 +24,11 @@ use dump_lanes::{LaneOut, Ports, Sent, StopSeat};
 use std::snapshot::Snapshot;
 use std::thread::Threads;
 
-/// What the writer gives back.
+/// What the writer returns.
 pub type WriterEnd<'a, D> = Written<Job<'a, D>, Checked<'a, D>, NumberedPiece<'a>>;
 
-/// What the threads brought back. The lane of pieces is settled; what its ends had is kept.
+/// What the threads returned. The two ends of the lane of pieces are dropped, but the contracts still say what they
+/// had.
 #[derive(Drop)]
 pub struct Joined<'a, D: Run> {
     pub cutter: Cutting<'a, D>,
@@ -45,7 +46,7 @@ pub struct Joined<'a, D: Run> {
     pub taken: Snapshot<LaneOut<NumberedPiece<'a>>>,
 }
 
-/// Joins the threads, with room for the workers' ports, and settles the lane of pieces.
+/// Joins the threads, puts the workers' ports in `room`, and settles the lane of pieces.
 pub fn join_threads<'a, D: Run, R: Threads>(
     rt: &R,
     started: Started<'a, D>,
@@ -112,7 +113,7 @@ pub fn join_threads<'a, D: Run, R: Threads>(
     }
 }
 
-/// The answer, once all threads have ended.
+/// The answer, after all threads have ended.
 pub fn conclude<'a, D: Run>(words: &Words, joined: Joined<'a, D>) -> Answer
     requires workers { AreWorkersOf (job_port joined.cutter.port).pool (job_port joined.cutter.port).workers (map (λ p. worker_port p) joined.workers.items) }
     requires worked { All (λ p. HasWorked (worker_port p)) joined.workers.items }

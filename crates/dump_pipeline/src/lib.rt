@@ -1,17 +1,17 @@
 //! A whole run of the filter: from a dump to a sink and an answer.
 //!
 //! [`run_plain`] cuts a dump into its records, filters them and writes what is kept, on one thread;
-//! [`run`] does so over the threads of a [`Plan`]. The [`Answer`] is the counts of a clean run, or the
-//! first fault with its record's number and place, or the failure that stopped the run and how many
-//! bytes the sink took.
+//! [`run`] does this with the threads of a [`Plan`]. The [`Answer`] is the counts of a run without a
+//! fault, or the first fault with its record's number and place. If a failure stopped the run, the
+//! answer is the failure and the number of bytes that the sink took.
 //!
 //! ```
 //! let mut sink = MemorySink::new(alloc, 1000, Trouble::Never);
 //! let answer = run_plain(alloc, DUMP, &options, &mut sink);
 //! ```
 //!
-//! `tests::runs::out_of_memory_leaves_a_first_part` of `dump_cli` runs this. It compares the answer
-//! and the bytes that the sink took with those of a clean run:
+//! `tests::runs::out_of_memory_leaves_a_first_part` of `dump_cli` runs this. It compares the answer and
+//! the bytes that the sink took with those of a run without a failure:
 //!
 //! ```
 //! match answer {
@@ -24,7 +24,7 @@
 //! }
 //! ```
 //!
-//! `tests::runs::is_first_part` of `dump_cli`, which has the tests of whole runs, runs this.
+//! `tests::runs::is_first_part` of `dump_cli` runs this. The tests of whole runs are in `dump_cli`.
 #![tactic(auto)]
 
 mod answer;

@@ -1,4 +1,4 @@
-//! What a run needs, made before any thread is started.
+//! Makes all that a run needs, before it starts any thread.
 ghost use Rattle.std.specs.Prelude.{◌≡◌, ◌≤◌, ◌+◌, IfOk, [], length, map, replicate, false, None, vec_capacity};
 ghost use Rattle.std.specs.List.{range_with_len};
 ghost use Rattle.dump_lanes.specs.steps.LaneViews.{places, sending, receiving};
@@ -20,7 +20,7 @@ use dump_lanes::{LaneIn, LaneOut, Memory, Pool, Ports, Slots, StopSeat, StopWord
 use std::alloc::Global;
 use std::sync::Wait;
 
-/// The ends that the threads and the writer are given, with room for what the workers give back.
+/// The ends that the threads and the writer get, with room for what the workers return.
 #[derive(Drop)]
 pub struct Ends<'a, D: Run> {
     pub pool: Pool<Job<'a, D>, Checked<'a, D>>,
@@ -44,7 +44,7 @@ pub struct Ends<'a, D: Run> {
     pub ghost of_shuts: { (threads.shuts.word ≡ threads.cutter.shut.word) × (threads.shuts.raised ≡ false) × (threads.shuts.share ≡ 2) },
 }
 
-/// The words of a run, and what its threads are given.
+/// The words of a run, and the ends that its threads get.
 #[derive(Drop)]
 pub struct Given<'a, D: Run> {
     pub words: Words,
@@ -53,7 +53,7 @@ pub struct Given<'a, D: Run> {
     pub ghost this_shut: { ends.threads.cutter.shut.word ≡ words.shut },
 }
 
-/// The words of a run, and the seats at them.
+/// The words of a run, and the seats of its threads.
 #[derive(Drop)]
 struct Seats {
     words: Words,
@@ -64,7 +64,8 @@ struct Seats {
     shuts: StopSeat,
 }
 
-/// Makes both words. The cutter's seat at the stop has half of it, the sequencer's and the writer's a quarter each.
+/// Makes both words. Of the stop word, the cutter's seat has half, and the sequencer's and the writer's a quarter
+/// each.
 fn make_seats(alloc: Global) -> Result<Seats, Memory>
     ensures cuts { IfOk result (λ seats. seats.cuts ≡ half_seat (first_seat seats.words.stop)) }
     ensures sequences { IfOk result (λ seats. seats.sequences ≡ half_seat (half_seat (first_seat seats.words.stop))) }
@@ -91,14 +92,14 @@ fn make_seats(alloc: Global) -> Result<Seats, Memory>
     })
 }
 
-/// Room for the workers' threads, and for the ports that they give back.
+/// Room for the workers' threads, and for the ports that they return.
 #[derive(Drop)]
 struct Room<'a, D: Run> {
     threads: Vec<WorkerThread<'a, D>>,
     ports: Vec<CheckerPort<'a, D>>,
 }
 
-/// Makes room for so many workers.
+/// Makes room for this many workers.
 fn make_room<'a, D: Run>(alloc: Global, workers: usize) -> Result<Room<'a, D>, Memory>
     ensures threads { IfOk result (λ room. (length room.threads.items ≡ 0) × (workers ≤ vec_capacity room.threads)) }
     ensures ports { IfOk result (λ room. (length room.ports.items ≡ 0) × (workers ≤ vec_capacity room.ports)) }
@@ -209,7 +210,7 @@ fn share_out<'a, D: Run>(seats: Seats, room: Room<'a, D>, queues: Queues<'a, D>)
     }
 }
 
-/// Makes the queues, the slots and the words, and all the room that the run takes of its own.
+/// Makes the queues, the slots and the words, and allocates what the run itself needs.
 pub fn make<'a, D: Run, R: Wait>(rt: &R, alloc: Global, plan: Plan) -> Result<Given<'a, D>, Memory>
     ensures workers { IfOk result (λ given. (pool_state given.ends.pool).workers ≡ worker_count plan) }
     ensures window { IfOk result (λ given. (pool_state given.ends.pool).window ≡ window_size plan) }

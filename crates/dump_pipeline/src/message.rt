@@ -1,8 +1,8 @@
-//! The messages between a run's threads, and what each keeps.
+//! The messages between a run's threads, and what the type of each says.
 //!
-//! What comes out of a queue may come from anywhere, so a message keeps in its type that it is of this run:
-//! a job is an item of this dump, a checked one has its verdict under these options. No message has a number beside a
-//! record, which has its own.
+//! A contract of a queue doesn't say where an entry comes from. So the type of a message says that it belongs to this
+//! run: a job is an item of this dump, and a checked item has its verdict under these options. No message has a number
+//! in addition to a record, which has its own.
 ghost use Rattle.std.specs.Prelude.{◌≡◌, ◌+◌, ◌<◌, ◌≤◌, ◌^◌, ℕ, List, length, Ok, Err};
 ghost use Rattle.std.specs.Result.{ForOk, ForErr};
 ghost use Rattle.dump_records.specs.steps.CutRecords.{EndsAfter};
@@ -21,7 +21,7 @@ use dump_writer::Piece;
 use std::marker::{Brand, PhantomData};
 use std::snapshot::Snapshot;
 
-/// What all messages of one run speak of.
+/// The dump and the options of a run, to which all of its messages belong.
 pub trait Run {
     /// The dump.
     ghost dump: { List ℕ };
@@ -47,17 +47,17 @@ impl Run for Brand {
     } };
 }
 
-/// The cutter's last word: the fault that ends the list of records and its place, or none where the dump ends it.
+/// How the list of records ends: the fault and its place, or `None` if it ends with the dump.
 pub type Last = Option<(FaultKind, usize)>;
 
-/// The cutter's last word behind so many records.
+/// The last item of a run: how the list of records ends, after this many of them.
 #[derive(Clone, Copy)]
 pub struct LastWord {
     pub number: u64,
     pub end: Last,
 }
 
-/// An item of this run on its way to a worker: a record, or the cutter's last word behind all of them.
+/// An item of this run on its way to a worker: a record, or the last item after all records.
 #[derive(Drop)]
 pub struct Job<'a, D: Run> {
     pub what: Result<Record<'a>, LastWord>,
@@ -68,7 +68,7 @@ pub struct Job<'a, D: Run> {
     pub ghost counted: { ForErr what (λ word. word.number + 1 < 2 ^ 64) },
 }
 
-/// The same item on its way to the sequencer, the record checked.
+/// The same item on its way to the sequencer, with its record checked.
 #[derive(Drop)]
 pub struct Checked<'a, D: Run> {
     pub what: Result<Done<'a>, LastWord>,
@@ -79,7 +79,7 @@ pub struct Checked<'a, D: Run> {
     pub ghost counted: { ForErr what (λ word. word.number + 1 < 2 ^ 64) },
 }
 
-/// What is written of an item, on its way to the writer, which knows its number from its type alone.
+/// What is written for an item, on its way to the writer. Only its type says its number.
 #[derive(Drop)]
 pub struct NumberedPiece<'a> {
     pub number: Snapshot<u64>,
@@ -102,7 +102,7 @@ impl<'a, D: Run> Job<'a, D> {
         }
     }
 
-    /// The job of the last word, behind so many records.
+    /// The job of the last item, after this many records.
     pub fn last(number: u64, end: Last, credit: Credit) -> Job<'a, D>
         requires ends { ∥ EndsAfter D.dump number (ending_of end) ∥₁ }
         requires few { number + 1 < 2 ^ 64 }
@@ -130,7 +130,7 @@ impl<'a, D: Run> Checked<'a, D> {
         }
     }
 
-    /// Checks the record of a job behind the gate. The last word needs no check.
+    /// Calls the gate, and then checks the record of a job. The last item needs no check.
     pub fn of<G: Gate>(job: Job<'a, D>, options: &'a Options, gate: &G) -> Checked<'a, D>
         requires { options.now ≡ D.settings }
         ensures { checked_number result ≡ job_number job.entry }

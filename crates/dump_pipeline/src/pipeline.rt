@@ -1,11 +1,12 @@
-//! A run over threads: a cutter, workers, a sequencer, and the caller as writer.
+//! A run with threads: a cutter, workers, a sequencer, and the caller as writer.
 //!
-//! 1. The cutter draws a credit for each item, and puts its job. A worker checks it. The sequencer filters the
-//!    items in the dump's order, and the writer hands their pieces to the sink and gives each credit back.
-//! 2. There are as many slots as credits: so the sequencer finds the slot of each arrival free, and in the slot of
-//!    the next number that item and no other.
-//! 3. A fault, a failure or a broken sink raises the stop. The cutter then cuts no more, and what is under way ends.
-//! 4. When all have ended, what they brought back is put together, and the answer follows.
+//! 1. The cutter draws a credit for each item, and puts its job. A worker checks it. The sequencer filters the items
+//!    in the dump's order, and the writer passes their pieces to the sink and gives each credit back.
+//! 2. There are as many slots as credits. So the sequencer finds the slot of each arriving item free, and in the slot
+//!    of the next number it finds that item or none.
+//! 3. A fault, a failure or a broken sink raises the stop. The cutter then cuts no more, and the items under way are
+//!    finished.
+//! 4. When all threads have ended, the answer is made from what they returned.
 ghost use Rattle.std.specs.Prelude.{◌≡◌};
 ghost use Rattle.dump_pipeline.specs.RunAnswer.{RunLeaves, SinkFailsOnly, ThreadsFailFirst};
 ghost use Rattle.dump_pipeline.specs.steps.Parts.{HasRun};
@@ -27,21 +28,21 @@ use std::sync::Wait;
 use std::thread;
 use std::thread::{Scope, Threads};
 
-/// What a run writes into, and its answer. (A reference that a scope's closure borrows has no value for its caller: it
-/// is moved in, and given back.)
+/// The sink of a run, and its answer. A contract says nothing of a reference that the closure of a scope borrows. So
+/// the sink is moved in and returned.
 #[derive(Drop)]
 struct Held<'b, S: Sink> {
     sink: &'b mut S,
     answer: Answer,
 }
 
-/// The answer where a thread wasn't started.
+/// The answer if a thread couldn't be started.
 const REFUSED: Answer = Answer::Failed {
     failure: Failure::Threads,
     written: 0,
 };
 
-/// Runs all threads to their ends.
+/// Runs all threads to their end.
 fn run_in<
     's,
     'a: 's,
@@ -84,7 +85,7 @@ fn run_in<
     Held { sink, answer }
 }
 
-/// The scope of a run's threads.
+/// Runs the threads in a scope.
 fn run_scoped<'s, 'a, 'b, D: Run + Send + Sync, S: Sink, G: Gate, R: Threads + Wait + Sync>(
     rt: &R,
     alloc: Global,
@@ -114,7 +115,7 @@ fn run_scoped<'s, 'a, 'b, D: Run + Send + Sync, S: Sink, G: Gate, R: Threads + W
     )
 }
 
-/// Runs a task by a plan: makes all that it needs, and runs its threads.
+/// Runs a task with a plan: makes all that it needs, and runs its threads.
 fn run_of<'a, D: Run + Send + Sync, S: Sink, G: Gate, R: Threads + Wait + Sync>(
     rt: &R,
     alloc: Global,
@@ -142,10 +143,10 @@ fn run_of<'a, D: Run + Send + Sync, S: Sink, G: Gate, R: Threads + Wait + Sync>(
     held.answer
 }
 
-/// Filters a dump into a sink, over threads: a cutter, the plan's workers, a sequencer, and the caller as writer.
+/// Filters a dump into a sink, with threads: a cutter, the plan's workers, a sequencer, and the caller as writer.
 ///
-/// Each worker passes the gate with a record's number before it checks it. The queues are made first, and then the
-/// threads are started. All have ended when it returns; whether it returns is not promised.
+/// Each worker calls the gate with a record's number before it checks the record. The queues are made first, and then
+/// the threads are started. When `run` returns, all threads have ended. No contract says that it returns.
 pub fn run<'a, S: Sink, G: Gate, R: Threads + Wait + Sync>(
     rt: &R,
     alloc: Global,

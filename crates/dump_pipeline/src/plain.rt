@@ -13,7 +13,7 @@ use dump_rules::Options;
 use dump_writer::{Piece, Sink, write_piece};
 use std::alloc::Global;
 
-/// Writes a piece behind so many bytes; gives the new count of bytes, also where the sink fails.
+/// Writes a piece after this many bytes. Returns the new count of bytes; the error is the count too.
 pub fn send<S: Sink>(sink: &mut S, piece: Piece<'_>, written: u64) -> Result<u64, u64>
     ensures sent { IfOk result (λ count. Sends (S.taken sink.old) (S.taken sink.new) piece.entry written count) }
     ensures cut { IfErr result (λ count. StopsShort (S.taken sink.old) (S.taken sink.new) piece.entry written count) }
@@ -27,7 +27,7 @@ pub fn send<S: Sink>(sink: &mut S, piece: Piece<'_>, written: u64) -> Result<u64
     }
 }
 
-/// Writes what the filter gives where the dump ends.
+/// Writes the last piece of the filter, at the end of the dump.
 fn write_end<S: Sink>(alloc: Global, filter: Filter<'_, '_>, sink: &mut S, written: u64) -> Answer
     requires { IsTrue filter.active }
     ensures answer { EndsRun filter.entry (S.taken sink.old) (S.taken sink.new) written result }

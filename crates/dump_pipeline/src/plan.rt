@@ -1,10 +1,10 @@
-//! How a run is spread over threads.
+//! How many threads a run has.
 ghost use Rattle.std.specs.Prelude.{◌≡◌, ◌↔◌, ◌≤◌, IsSome, IfSome};
 ghost use Rattle.dump_lanes.specs.declared.limits.TheConstants.{MOST_WORKERS, MOST_WINDOW};
 
 use dump_lanes::{MOST_WINDOW, MOST_WORKERS};
 
-/// How many workers there are, and how many records are in flight at most.
+/// How many workers there are, and how many records are under way at most.
 #[derive(Clone, Copy, Debug, PartialEq, Eq)]
 pub struct Plan {
     workers: usize,

@@ -27,7 +27,7 @@ use std::sync::Wait;
 /// The sequencer's port.
 pub type SequencerPort<'a, D> = DonePort<Job<'a, D>, Checked<'a, D>>;
 
-/// The sequencer's ends: its port, the row of slots, the lane to the writer, and its seat at the stop.
+/// The sequencer's ends: its port, the row of slots, the lane to the writer, and its seat at the stop word.
 #[derive(Drop)]
 pub struct SequencerEnds<J: Drop, D: Drop, T: Drop> {
     pub port: DonePort<J, D>,
@@ -36,21 +36,21 @@ pub struct SequencerEnds<J: Drop, D: Drop, T: Drop> {
     pub seat: StopSeat,
 }
 
-/// The ends that a run's sequencer is given.
+/// The ends that the sequencer of a run gets.
 pub type Sequencing<'a, D> = SequencerEnds<Job<'a, D>, Checked<'a, D>, NumberedPiece<'a>>;
 
-/// What the sequencer gives back.
+/// What the sequencer returns.
 #[derive(Drop)]
 pub struct Sequenced<J: Drop, D: Drop, T: Drop> {
     pub port: DonePort<J, D>,
     pub sent: Sent<T>,
     pub seat: StopSeat,
     pub end: Option<End>,
-    /// A slot was taken, or had another item than the next.
+    /// Whether an item found its slot taken, or a slot had another item than the next one.
     pub stray: bool,
 }
 
-/// What the filter makes of the next record: a piece, or the end that it has come to.
+/// Filters the next record: returns its piece, or how the sequencer ends.
 fn filter_record<'o, 'a, D: Run>(
     alloc: Global,
     filter: &mut Filter<'o, 'a>,
@@ -78,7 +78,7 @@ fn filter_record<'o, 'a, D: Run>(
     }
 }
 
-/// What the filter makes of the end of the records.
+/// Filters the end of the records.
 fn filter_end<'o, 'a, D: Run>(
     alloc: Global,
     filter: Filter<'o, 'a>,
@@ -104,7 +104,7 @@ fn filter_end<'o, 'a, D: Run>(
     }
 }
 
-/// What is written of the next record.
+/// The piece of the next record.
 fn step_record<'o, 'a, D: Run>(
     alloc: Global,
     stage: &mut Stage<'o, 'a>,
@@ -128,7 +128,7 @@ fn step_record<'o, 'a, D: Run>(
     Piece::new(alloc)
 }
 
-/// What is written where the records end.
+/// The piece that is written when the records end.
 fn step_end<'o, 'a, D: Run>(
     alloc: Global,
     stage: &mut Stage<'o, 'a>,
@@ -148,7 +148,7 @@ fn step_end<'o, 'a, D: Run>(
     piece
 }
 
-/// Raises the stop where the sequencer ended with a fault or a failure of its own.
+/// Raises the stop if the sequencer ended with a fault or a failure of its own.
 fn raise_at_failure(stage: &Stage<'_, '_>, word: &StopWord, seat: &mut StopSeat)
     requires this_word { seat.old.word ≡ word.now }
     requires unraised { seat.old.raised ≡ false }
@@ -160,7 +160,7 @@ fn raise_at_failure(stage: &Stage<'_, '_>, word: &StopWord, seat: &mut StopSeat)
     }
 }
 
-/// What is written of the next item: nothing once the sequencer has ended.
+/// The piece of the next item; empty once the sequencer has ended.
 fn step<'o, 'a, D: Run>(
     alloc: Global,
     stage: &mut Stage<'o, 'a>,
@@ -198,7 +198,7 @@ fn step<'o, 'a, D: Run>(
     }
 }
 
-/// Puts a piece. One that comes back is put again.
+/// Puts a piece. If the lane returns it, it is put again.
 fn release<'a, R: Wait>(rt: &R, to: &mut LaneIn<NumberedPiece<'a>>, piece: NumberedPiece<'a>)
     ensures { sending to.new ≡ record (sending to.old) { put = (sending to.old).put ++ piece.entry ∷ [] } }
 {
@@ -212,7 +212,7 @@ fn release<'a, R: Wait>(rt: &R, to: &mut LaneIn<NumberedPiece<'a>>, piece: Numbe
     unreachable!()
 }
 
-/// Takes and drops what still comes.
+/// Takes and drops the items that still come.
 fn drain<'a, D: Run, R: Wait>(rt: &R, port: &mut SequencerPort<'a, D>)
     ensures pool { (done_port port.new).pool ≡ (done_port port.old).pool }
     ensures ended { (done_port port.new).ended ≡ true }
@@ -227,7 +227,8 @@ fn drain<'a, D: Run, R: Wait>(rt: &R, port: &mut SequencerPort<'a, D>)
     unreachable!()
 }
 
-/// Releases the items in order, until no more come or one is astray. One that is the next doesn't wait in the row.
+/// Releases the items in order, until no more come or an item isn't where it should be. The next item isn't put in the
+/// row.
 fn release_all<'a, D: Run, R: Wait>(
     rt: &R,
     alloc: Global,
@@ -274,7 +275,8 @@ fn release_all<'a, D: Run, R: Wait>(
     unreachable!()
 }
 
-/// Filters all items in order, and releases what is written of them. Where one was astray it takes what still comes.
+/// Filters all items in order, and releases their pieces. If an item wasn't where it should be, it takes and drops the
+/// items that still come.
 pub fn sequence<'a, D: Run, R: Wait>(
     rt: &R,
     alloc: Global,

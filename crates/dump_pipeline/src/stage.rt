@@ -1,4 +1,4 @@
-//! How far the sequencer has come.
+//! The state of the sequencer.
 ghost use Rattle.std.specs.Prelude.{◌≡◌};
 ghost use Rattle.dump_pipeline.specs.steps.Parts.{end_answer, stage_end};
 
@@ -6,10 +6,10 @@ use crate::answer::{Answer, Failure};
 use dump_filter::{Filter, Report};
 use dump_text::FaultKind;
 
-/// What the sequencer ended with.
+/// How the sequencer ended.
 #[derive(Clone, Copy)]
 pub enum End {
-    /// The last item was taken, and the dump has no fault.
+    /// It took the last item, and the dump has no fault.
     Clean(Report),
     /// The first record with a fault.
     Fault {
@@ -17,12 +17,12 @@ pub enum End {
         number: u64,
         place: usize,
     },
-    /// Memory ran out.
+    /// An allocation failed.
     Memory,
 }
 
 impl End {
-    /// The answer of a run that ended so, where the sink took all of its bytes.
+    /// The answer of a run whose sequencer ended in this way, if the sink took all of its bytes.
     pub fn answer(self, written: u64) -> Answer
         ensures { result ≡ end_answer self written }
     {
@@ -45,7 +45,7 @@ impl End {
     }
 }
 
-/// How far the sequencer has come.
+/// The state of the sequencer.
 #[derive(Drop)]
 pub enum Stage<'o, 'a> {
     Going(Filter<'o, 'a>),
@@ -53,7 +53,7 @@ pub enum Stage<'o, 'a> {
 }
 
 impl<'o, 'a> Stage<'o, 'a> {
-    /// What it ended with, if it did.
+    /// How it ended, if it did.
     pub fn end(self) -> Option<End>
         ensures { result ≡ stage_end self.entry }
     {

@@ -1,7 +1,7 @@
 //! The two words of a run.
 use dump_lanes::StopWord;
 
-/// One word stops the cutter. The other shuts it where its thread wasn't started.
+/// One word stops the cutter. The other one tells the cutter to cut nothing if a thread couldn't be started.
 #[derive(Drop)]
 pub struct Words {
     pub stop: StopWord,

@@ -1,4 +1,4 @@
-//! The threads of a run, and what each is held to.
+//! The threads of a run, and the contract of each.
 ghost use Rattle.std.specs.Prelude.{◌≡◌, ◌≤◌, length, map, All, IfSome, IfNone, OnSome, IsNone, vec_capacity};
 ghost use Rattle.dump_lanes.specs.steps.PortViews.{job_port, worker_port};
 ghost use Rattle.dump_pipeline.specs.steps.Parts.{HasCutFrom, HasSequencedFrom, HasWorked, HasWorkedFrom, IsFreshCutter, IsFreshSequencer, IsFreshWorker};
@@ -16,10 +16,10 @@ use std::snapshot::Snapshot;
 use std::sync::Wait;
 use std::thread::{Promise, PromisedHandle, Scope, Threads};
 
-/// What the sequencer's thread gives back.
+/// What the sequencer's thread returns.
 pub type SequencerEnd<'a, D> = Sequenced<Job<'a, D>, Checked<'a, D>, NumberedPiece<'a>>;
 
-/// What the sequencer's thread is held to.
+/// The contract of the sequencer's thread.
 #[derive(Drop)]
 pub struct SequencerOf<'a, D: Run> {
     ends: Snapshot<Sequencing<'a, D>>,
@@ -32,7 +32,7 @@ impl<'a, D: Run> Promise<SequencerEnd<'a, D>> for SequencerOf<'a, D> {
 /// The sequencer's thread.
 pub type SequencerThread<'a, D> = PromisedHandle<SequencerEnd<'a, D>, SequencerOf<'a, D>>;
 
-/// Starts the sequencer's thread, unless it is refused.
+/// Starts the sequencer's thread, unless this fails.
 fn start_sequencer<'s, 'a: 's, E: 's, D: Run + Send + Sync + 's, R: Wait + Sync + 's>(
     scope: &'s Scope<'s, E>,
     rt: &'s R,
@@ -60,7 +60,7 @@ fn start_sequencer<'s, 'a: 's, E: 's, D: Run + Send + Sync + 's, R: Wait + Sync 
         .ok()
 }
 
-/// What a worker's thread is held to.
+/// The contract of a worker's thread.
 #[derive(Drop)]
 pub struct WorkerOf<'a, D: Run> {
     port: Snapshot<CheckerPort<'a, D>>,
@@ -73,8 +73,8 @@ impl<'a, D: Run> Promise<CheckerPort<'a, D>> for WorkerOf<'a, D> {
 /// A worker's thread.
 pub type WorkerThread<'a, D> = PromisedHandle<CheckerPort<'a, D>, WorkerOf<'a, D>>;
 
-/// Starts a worker's thread. Where it is refused the cutter, which hasn't started, is closed, and the worker
-/// ends in this thread.
+/// Starts a worker's thread. If this fails, the cutter, which hasn't started yet, is closed, and the worker is run to
+/// its end in this thread.
 fn start_worker<'s, 'a: 's, E: 's, D: Run + Send + Sync + 's, G: Gate + 's, R: Wait + Sync + 's>(
     scope: &'s Scope<'s, E>,
     rt: &'s R,
@@ -112,14 +112,14 @@ fn start_worker<'s, 'a: 's, E: 's, D: Run + Send + Sync + 's, G: Gate + 's, R: W
     }
 }
 
-/// The workers that were started, and the cutter's ends.
+/// The started workers, and the cutter's ends.
 #[derive(Drop)]
 struct Crew<'a, D: Run> {
     workers: Vec<WorkerThread<'a, D>>,
     cutter: Cutting<'a, D>,
 }
 
-/// Starts the workers' threads. Where one is refused all end.
+/// Starts the workers' threads. If one can't be started, all end.
 fn start_workers<'s, 'a: 's, E: 's, D: Run + Send + Sync + 's, G: Gate + 's, R: Wait + Sync + 's>(
     scope: &'s Scope<'s, E>,
     rt: &'s R,
@@ -148,7 +148,7 @@ fn start_workers<'s, 'a: 's, E: 's, D: Run + Send + Sync + 's, G: Gate + 's, R: 
     Some(Crew { workers, cutter })
 }
 
-/// What the cutter's thread is held to.
+/// The contract of the cutter's thread.
 #[derive(Drop)]
 pub struct CutterOf<'a, D: Run> {
     ends: Snapshot<Cutting<'a, D>>,
@@ -161,7 +161,7 @@ impl<'a, D: Run> Promise<Cutting<'a, D>> for CutterOf<'a, D> {
 /// The cutter's thread.
 pub type CutterThread<'a, D> = PromisedHandle<Cutting<'a, D>, CutterOf<'a, D>>;
 
-/// Starts the cutter's thread. Where it is refused it is shut, and ends in this thread.
+/// Starts the cutter's thread. If this fails, the cutter is told to cut nothing, and is run in this thread.
 fn start_cutter<'s, 'a: 's, E: 's, D: Run + Send + Sync + 's, R: Wait + Sync + 's>(
     scope: &'s Scope<'s, E>,
     rt: &'s R,
@@ -196,7 +196,7 @@ fn start_cutter<'s, 'a: 's, E: 's, D: Run + Send + Sync + 's, R: Wait + Sync + '
     }
 }
 
-/// What a run works on: the dump, the options, and the gate that each worker passes.
+/// The input of a run: the dump, the options, and the gate that each worker calls.
 #[derive(Drop)]
 pub struct Task<'s, 'a, G> {
     pub dump: &'a [u8],
@@ -204,7 +204,8 @@ pub struct Task<'s, 'a, G> {
     pub gate: &'s G,
 }
 
-/// What the threads but the writer are given, with room for the workers' threads, and the seat that shuts the cutter.
+/// What the threads except the writer get, with room for the workers' threads, and the seat that tells the cutter to
+/// cut nothing.
 #[derive(Drop)]
 pub struct ThreadEnds<'a, D: Run> {
     pub sequencer: Sequencing<'a, D>,
@@ -214,7 +215,7 @@ pub struct ThreadEnds<'a, D: Run> {
     pub room: Vec<WorkerThread<'a, D>>,
 }
 
-/// The threads of a run, and the seat that would have shut the cutter.
+/// The threads of a run, and the seat that would have told the cutter to cut nothing.
 #[derive(Drop)]
 pub struct Started<'a, D: Run> {
     pub sequencer: SequencerThread<'a, D>,
@@ -223,8 +224,8 @@ pub struct Started<'a, D: Run> {
     pub shuts: StopSeat,
 }
 
-/// Starts all threads but the writer. Where one is refused all end. They are started in the order in which an item comes
-/// to them behind the cutter, so that on one processor those that give their turns away to each other pass it on in turn.
+/// Starts all threads except the writer. If one can't be started, all end. The order is that in which an item reaches
+/// them after the cutter. So on one processor, threads that yield to each other pass an item on in this order.
 pub fn start<'s, 'a: 's, E: 's, D: Run + Send + Sync + 's, G: Gate + 's, R: Wait + Sync + 's>(
     scope: &'s Scope<'s, E>,
     rt: &'s R,

@@ -11,7 +11,7 @@ use std::sync::Wait;
 /// A worker's port.
 pub type CheckerPort<'a, D> = WorkerPort<Job<'a, D>, Checked<'a, D>>;
 
-/// Checks each item that it takes.
+/// Takes items and checks each of them, until the cutter has closed its port.
 pub fn work<'a, D: Run, G: Gate, R: Wait>(
     rt: &R,
     options: &'a Options,

@@ -15,7 +15,7 @@ use std::sync::Wait;
 /// The writer's port.
 pub type WriterPort<'a, D> = CreditPort<Job<'a, D>, Checked<'a, D>>;
 
-/// The writer's ends: its port, the lane from the sequencer, and its seat at the stop.
+/// The writer's ends: its port, the lane from the sequencer, and its seat at the stop word.
 #[derive(Drop)]
 pub struct WriterEnds<J: Drop, D: Drop, T: Drop> {
     pub port: CreditPort<J, D>,
@@ -23,10 +23,10 @@ pub struct WriterEnds<J: Drop, D: Drop, T: Drop> {
     pub seat: StopSeat,
 }
 
-/// The ends that a run's writer is given.
+/// The ends that the writer of a run gets.
 pub type Writing<'a, D> = WriterEnds<Job<'a, D>, Checked<'a, D>, NumberedPiece<'a>>;
 
-/// What the writer gives back.
+/// What the writer returns.
 #[derive(Drop)]
 pub struct Written<J: Drop, D: Drop, T: Drop> {
     pub port: CreditPort<J, D>,
@@ -34,11 +34,11 @@ pub struct Written<J: Drop, D: Drop, T: Drop> {
     pub seat: StopSeat,
     /// The sink failed.
     pub failed: bool,
-    /// How many bytes it took; the count stays at `u64::MAX`.
+    /// How many bytes it took; the count doesn't go above `u64::MAX`.
     pub count: u64,
 }
 
-/// Writes a piece, unless the sink has failed. It raises the stop where the sink fails.
+/// Writes a piece, unless the sink has failed. If the sink fails now, this raises the stop.
 fn write_one<S: Sink>(
     failed: bool,
     piece: Piece<'_>,
@@ -68,7 +68,7 @@ fn write_one<S: Sink>(
     }
 }
 
-/// Writes the pieces, up to the first that isn't taken whole, and gives back each credit.
+/// Writes the pieces, up to the first that the sink doesn't take completely, and gives back each credit.
 pub fn write<'a, D: Run, S: Sink, R: Wait>(
     rt: &R,
     ends: Writing<'a, D>,

@@ -1,4 +1,4 @@
--- What the joined threads took, by number, and what the sequencer brought back.
+-- Which items the threads took, by number, and what the sequencer returned.
 use Rattle.std.specs.Prelude.{◌≡◌, ℕ, List, length}
 use Rattle.dump_lanes.specs.Arrivals.{first_numbers}
 use Rattle.dump_lanes.specs.steps.LaneViews.{sent, receiving}
@@ -10,13 +10,13 @@ use Rattle.dump_pipeline.specs.declared.message.NumberedPiece.{NumberedPiece}
 use Rattle.dump_pipeline.specs.declared.sequence.Sequenced.{Sequenced}
 use Rattle.dump_pipeline.specs.steps.Messages.{piece_numbers}
 
--- the numbers are those of the dump's first items, each once and in order; the last word is an item too, numbered
--- behind the records
+-- the numbers are those of the dump's first items, each once and in order; the last word is an item too, and its
+-- number follows those of the records
 abbrev pub AreFirstItems : List ℕ → Type 0
 AreFirstItems numbers = numbers ≡ first_numbers (length numbers)
 
 module _ {D : Type 0} {run : Ghosts D} where
-  -- what the sequencer gave back
+  -- what the sequencer returned
   abbrev pub sequenced_of : Joined D run → Sequenced (Job D run) (Checked D run) NumberedPiece
   sequenced_of joined = record {
     port = joined.sequencer;

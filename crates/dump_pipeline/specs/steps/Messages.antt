@@ -1,4 +1,4 @@
--- What the contracts see of the messages between a run's threads.
+-- What contracts say of the messages between a run's threads.
 use Rattle.std.specs.Prelude.{ℕ, List, map, flat_map, Result, Ok, Err}
 use Rattle.dump_records.specs.steps.RecordViews.{record_number}
 use Rattle.dump_digest.specs.steps.DoneViews.{done_record}
@@ -8,7 +8,7 @@ use Rattle.dump_pipeline.specs.declared.message.LastWord.{LastWord}
 use Rattle.dump_pipeline.specs.declared.message.Checked.{Checked}
 use Rattle.dump_pipeline.specs.declared.message.NumberedPiece.{NumberedPiece}
 
--- the number of an item: its record's, or the one that the last word tells
+-- the number of an item: that of its record, or that of the last word
 abbrev pub numbered_by : {T : Type 0} → (T → ℕ) → Result T LastWord → ℕ
 numbered_by number (Ok item) = number item
 numbered_by number (Err last) = last.number
@@ -34,6 +34,6 @@ module _ {D : Type 0} {run : Ghosts D} where
 abbrev pub piece_numbers : List NumberedPiece → List ℕ
 piece_numbers pieces = map (λ (p : NumberedPiece). p.number.value) pieces
 
--- what is written of pieces
+-- the text of pieces
 abbrev pub text_of : List NumberedPiece → List ℕ
 text_of pieces = flat_map (λ (p : NumberedPiece). p.piece) pieces

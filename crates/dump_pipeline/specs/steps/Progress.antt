@@ -1,4 +1,4 @@
--- How far a run has come.
+-- What a run has done so far.
 use Rattle.std.specs.Prelude.{◌≡◌, ℕ, true, false, List, length, Option}
 use Rattle.std.specs.Io.KnownBytes.{Appends}
 use Rattle.dump_records.specs.RecordText.{DumpRecord}
@@ -10,7 +10,7 @@ use Rattle.dump_filter.specs.steps.FilterState.{FilterState, count_up_to, AreAcc
 use Rattle.dump_filter.specs.RecordFaults.{AreFaultFree}
 use Rattle.dump_filter.specs.Written.{IsWrittenText}
 
--- what a run has done so far: it has taken these records, found no fault in them, and written their text
+-- a run has taken these records so far, found no fault in them, and written their text
 pub record Progress (settings : Settings) (dump : List ℕ) (cutter : CutterState) (filter : FilterState)
     (old new : Option (List ℕ)) (written : ℕ) : Type 0 where
   pub before : List DumpRecord

@@ -1,4 +1,4 @@
--- What is received of a piece, and where the dump ends.
+-- What the sink receives of a piece, and at the end of the dump.
 use Rattle.std.specs.Prelude.{◌≡◌, ℕ, ◌+◌, ◌<◌, List, [], length, take, Option}
 use Rattle.std.specs.Io.KnownBytes.{Appends}
 use Rattle.dump_records.specs.RecordText.{DumpRecord}
@@ -9,7 +9,7 @@ use Rattle.dump_pipeline.specs.declared.answer.Answer.{Answer}
 use Rattle.dump_pipeline.specs.declared.answer.Answer.TheVariants.{Clean, Failed}
 use Rattle.dump_pipeline.specs.declared.answer.Failure.TheVariants as failures
 
--- the sink received a piece behind so many bytes, and this is the count now
+-- the sink received a piece after `before` bytes, and `count` is the count now
 pub record Sends (old new : Option (List ℕ)) (piece : List ℕ) (before count : ℕ) : Type 0 where
   pub appended : Appends old new piece
   pub count_is : count ≡ capped (before + length piece)
@@ -21,7 +21,7 @@ pub record StopsShort (old new : Option (List ℕ)) (piece : List ℕ) (before c
   pub appended : Appends old new (take part piece)
   pub count_is : count ≡ capped (before + part)
 
--- the end of a run: the last piece and the counts, or its first bytes, or nothing where it is out of memory
+-- the end of a run: the sink received the last piece, or its first bytes, or nothing if memory ran out; and the counts
 abbrev pub EndsRun : FilterState → Option (List ℕ) → Option (List ℕ) → ℕ → Answer → Type 0
 EndsRun filter old new written (Clean report) = (piece : List ℕ) × Finishes filter piece × Appends old new piece
     × ((records : List DumpRecord) → AreAccepted filter records → report ≡ report_of filter.settings records)

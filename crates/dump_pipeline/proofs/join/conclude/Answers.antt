@@ -4,7 +4,7 @@ use Rattle.dump_pipeline.proofs.join.conclude.Given.{Over}
 use Rattle.dump_pipeline.proofs.join.conclude.Goals.{After-settle}
 use Rattle.dump_pipeline.proofs.join.conclude.Goals as goal
 
--- what the threads brought back, put together
+-- what the threads returned, together
 joined : (g : Over) (c : After-settle g) → AreJoined g.D.Run.settings g.D.Run.dump
     (job_port c.args.joined.cutter.port)
     (map (λ (p : WorkerPort (Job g.row.D.Denot g.D.Run) (Checked g.row.D.Denot g.D.Run)). worker_port p)
