@@ -18,7 +18,7 @@ broke_off settings input answer a b c waiting n ran kept grown =
           (record { part = part.0; written = n; begins = part.1; appended = part.2; counted = grown; told_is = refl });
     }
 
--- a run with what is told behind it
+-- a run with what is reported after it
 pub ran_and_told : (settings : Settings) (input : List ℕ) (answer told : Answer) (a b : Option (List ℕ))
     (sink : LentState)
     → RunLeaves settings input (append_known a []) b answer → Keeps b (lent_taken sink) → sink.out.start ≡ a

@@ -72,7 +72,7 @@ one_of_three = record {
   told_is = refl;
 }
 
--- a sink with bytes that wait for the writer tells that it failed, and not the answer of the run
+-- a sink with bytes that wait for the writer says that it failed, and not the answer of the run
 broke_behind : (through : GName) → TellsBehind (lent through) (Fault faults.HeaderCut 0 0) (Failed failures.Sink 2)
 broke_behind through = inr (refl, (codes "ab", refl, refl))
 

@@ -1,4 +1,4 @@
-//! The command that the words behind the side are read by.
+//! The command that parses the arguments after the side.
 ghost use Rattle.std.specs.Prelude.{◌≡◌, IfOk};
 ghost use Rattle.clap.specs.Words.{app_of};
 ghost use Rattle.dump_cli.specs.CommandLine.{program};
@@ -7,7 +7,7 @@ use clap::Command;
 use cli_support::{filter_command, prefixes, switch, window, workers};
 use std::alloc::{AllocError, Global};
 
-/// The flags and the prefixes behind the side, which is no word of the command.
+/// The options and the prefixes after the side. The side is no argument of the command.
 pub fn program<'a>(alloc: Global) -> Result<Command<'a>, AllocError>
     ensures { IfOk result (λ c. app_of c ≡ program) }
 {

@@ -1,4 +1,4 @@
-//! The whole program, over any reader and writers.
+//! The whole program, with any reader and writers.
 ghost use Rattle.std.specs.Prelude.{◌≡◌, [], map};
 ghost use Rattle.std.specs.Io.KnownBytes.{Keeps};
 ghost use Rattle.dump_writer.specs.steps.SinkStates.{lent_taken, loan_of};
@@ -18,13 +18,13 @@ use std::io::{Read, Write};
 use std::sync::Wait;
 use std::thread::Threads;
 
-/// How the lines name the program, and the status of a failure.
+/// The name of the program in its lines, and the status of a failure.
 pub const PROGRAM: Program = Program {
     name: "svndumpfilter",
     failed: 1,
 };
 
-/// The whole program, with its exit status.
+/// Runs the whole program, and returns its exit status.
 pub fn drive<'a, H: Threads + Wait + Sync, R: Read, W: Write, E: Write>(
     rt: &H,
     alloc: Global,
@@ -38,7 +38,7 @@ pub fn drive<'a, H: Threads + Wait + Sync, R: Read, W: Write, E: Write>(
     drive_sized(rt, alloc, words, 0, reader, writer, errors)
 }
 
-/// The same, where the reader is thought to have so many bytes. The number spares growing and has no other meaning.
+/// The same with a guess of the size of the input. A right guess avoids that the buffer grows; it has no other effect.
 pub fn drive_sized<'a, H: Threads + Wait + Sync, R: Read, W: Write, E: Write>(
     rt: &H,
     alloc: Global,
@@ -88,7 +88,7 @@ fn carry_out<H: Threads + Wait + Sync, R: Read, W: Write, E: Write>(
     tell(errors, answer, order.quiet)
 }
 
-/// Runs, and hands on all that waits behind the run.
+/// Runs the filter, and then writes the bytes that are still in the buffer.
 fn run_and_flush<H: Threads + Wait + Sync, W: Write>(
     rt: &H,
     alloc: Global,
@@ -107,7 +107,7 @@ fn run_and_flush<H: Threads + Wait + Sync, W: Write>(
     flush_behind(sink, answer)
 }
 
-/// Hands on all that waits behind a run, unless the run's sink failed: then no more is tried.
+/// Writes the bytes that are in the buffer after a run. If the sink failed in the run, nothing more is written.
 fn flush_behind<W: Write>(sink: &mut OutMut<'_, W>, answer: Answer) -> Answer
     ensures taken { Keeps (lent_taken sink.old) (lent_taken sink.new) }
     ensures told { TellsBehind sink.new answer result }
@@ -123,7 +123,7 @@ fn flush_behind<W: Write>(sink: &mut OutMut<'_, W>, answer: Answer) -> Answer
     }
 }
 
-/// Whether a run's sink failed.
+/// Whether the answer of a run is the failure of its sink.
 fn is_sink_down(answer: Answer) -> bool
     ensures { result ≡ is_sink_failure answer }
 {
@@ -136,7 +136,7 @@ fn is_sink_down(answer: Answer) -> bool
     )
 }
 
-/// The line of an answer, and the status.
+/// Writes the line of an answer, and returns the status.
 fn tell<E: Write>(errors: &mut E, answer: Answer, quiet: bool) -> u8
     ensures status { result ≡ status_of answer }
     ensures quiet { IsSilent answer quiet → Keeps (E.contents errors.old) (E.contents errors.new) }
@@ -160,7 +160,7 @@ fn tell<E: Write>(errors: &mut E, answer: Answer, quiet: bool) -> u8
     }
 }
 
-/// How the line of a failure names it.
+/// The name of a failure in its line.
 fn cause(failure: Failure) -> Cause {
     match failure {
         Failure::Sink => Cause::Sink,

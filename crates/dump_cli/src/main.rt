@@ -1,4 +1,4 @@
-//! A filter for Subversion dump files, run over standard input and output.
+//! A filter for Subversion dump files, on standard input and output.
 #![tactic(auto)]
 
 mod command;
@@ -22,7 +22,7 @@ fn main(rt: HostRuntime) -> ExitCode {
     ExitCode::from(status)
 }
 
-/// The whole program on the words and the streams of the process.
+/// Runs the whole program with the arguments and the streams of the process.
 fn run_words<H: Threads + Wait + Sync>(threads: &H, rt: &HostRuntime) -> Result<u8, Usage> {
     let alloc = rt.alloc();
     let words = arguments(rt)?;

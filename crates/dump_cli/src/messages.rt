@@ -1,5 +1,4 @@
-//! The lines on standard error. What goes wrong in writing them is ignored: there is nowhere left to
-//! say so.
+//! The lines on standard error. Errors in writing them are ignored, because there is nowhere to report them.
 ghost use Rattle.std.specs.Prelude.{OnOk};
 ghost use Rattle.std.specs.Io.KnownBytes.{Appends};
 ghost use Rattle.dump_cli.specs.steps.Lines.{report_line};
@@ -8,7 +7,7 @@ use dump_filter::Report;
 use dump_text::FaultKind;
 use std::io::{self, Write};
 
-/// The counts of a clean run.
+/// Writes the counts of a run without a fault.
 pub fn write_report<E: Write>(errors: &mut E, report: Report) -> io::Result<()>
     ensures { OnOk result (Appends (E.contents errors.old) (E.contents errors.new) (report_line report)) }
 {
@@ -25,7 +24,7 @@ pub fn write_report<E: Write>(errors: &mut E, report: Report) -> io::Result<()>
     )
 }
 
-/// The fault of the record with this number, whose block begins at this place.
+/// Writes the fault of the record with this number, whose block begins at this place.
 pub fn write_fault<E: Write>(errors: &mut E, kind: FaultKind, number: u64, place: usize) {
     let code = kind.code();
     let name = kind.name();

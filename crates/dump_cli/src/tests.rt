@@ -1,4 +1,5 @@
-//! What no clause says: runs on readers and writers of the tests' own, and the line of a fault as users see it.
+//! What no contract says: runs with readers and writers that the tests define, and the line of a fault as users see
+//! it.
 
 mod drive;
 mod runs;
@@ -17,7 +18,7 @@ fn a_line_says_which_fault_ends_a_run(rt: HostRuntime) {
     assert!(rt; lines.as_slice() == wanted);
 }
 
-/// A terminal that is gone.
+/// A terminal that was closed.
 #[derive(Drop)]
 struct Gone;
 

@@ -1,4 +1,4 @@
-//! The words on the command line.
+//! The arguments on the command line.
 ghost use Rattle.std.specs.Prelude.{◌≡◌, ◌≢◌, Err, map, true, codes};
 ghost use Rattle.clap.specs.Words.{found_of, rows_of};
 ghost use Rattle.dump_pipeline.specs.PlanViews.{worker_count, window_size};
@@ -14,20 +14,20 @@ use dump_pipeline::Plan;
 use dump_rules::{Options, Side};
 use std::alloc::Global;
 
-/// What the words ask for.
+/// What the arguments ask for.
 #[derive(Drop)]
 pub struct Order {
     pub options: Options,
     pub plan: Plan,
-    /// Whether a clean run says nothing.
+    /// Whether a run without a fault writes no line.
     pub quiet: bool,
 }
 
-/// The order that the words give. `words[0]` is the program's name.
+/// The order that the arguments give. `words[0]` is the program's name.
 pub fn options_of<'a>(alloc: Global, words: &'a [&'a str]) -> Result<Order, Usage>
     ensures meaning { AnswersTo (meaning_of (map (λ word. word.now) words.now)) result }
 
-    // No lawful line is refused as other words.
+    // A well-formed call is never rejected as wrong arguments.
     ensures lawful { is_call (map (λ word. word.now) words.now) ≡ true → result ≢ Err Usage.Words }
     ensures takes { is_taken (map (λ word. word.now) words.now) ≡ true → result ≢ Err Usage.Words }
 {
@@ -46,7 +46,7 @@ pub fn options_of<'a>(alloc: Global, words: &'a [&'a str]) -> Result<Order, Usag
     }
 }
 
-/// The order that a side and what stands behind it give.
+/// The order of a side and the arguments after it.
 fn read_order(alloc: Global, side: Side, inner: &ArgMatches<'_>) -> Result<Order, Usage>
     requires { AreFilled (rows_of (found_of inner.now)) }
     ensures { AnswersTo (order_of side (rows_of (found_of inner.now))) result }
@@ -61,7 +61,7 @@ fn read_order(alloc: Global, side: Side, inner: &ArgMatches<'_>) -> Result<Order
     }
 }
 
-/// How many workers there are, and how wide their window is.
+/// The number of workers, and the width of their window.
 fn read_plan(inner: &ArgMatches<'_>) -> Plan
     requires workers { IsNumber (codes "workers") 64 (rows_of (found_of inner.now)) }
     requires window { IsNumber (codes "window") 4096 (rows_of (found_of inner.now)) }

@@ -1,13 +1,13 @@
--- Which lines are calls of the program.
+-- Which lists of arguments are calls of the program.
 use Rattle.std.specs.Prelude.{Bool, List}
 use Rattle.clap.specs.Words.{Text}
 use Rattle.cli_support.specs.steps.LineReading.{is_call_of, is_taken_by}
 use Rattle.dump_cli.specs.CommandLine.{program}
 
--- behind the program's name stands a side, and behind that what the command takes
+-- after the program's name there is a side, and after it arguments that the command accepts
 abbrev pub is_call : List Text → Bool
 is_call words = is_call_of program words
 
--- the same by clap's test of what it takes
+-- the same by the test that clap makes
 abbrev pub is_taken : List Text → Bool
 is_taken words = is_taken_by program words

@@ -1,4 +1,4 @@
--- What is said of a clean run.
+-- The line that is written for a run without a fault.
 use Rattle.std.specs.Prelude.{ℕ, List, [], ◌∷◌, codes, decimal}
 use Rattle.std.specs.List.{concat}
 use Rattle.dump_filter.specs.declared.report.Report.{Report}

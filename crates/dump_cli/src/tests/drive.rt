@@ -1,4 +1,4 @@
-//! The whole program on readers and writers of the tests' own.
+//! The whole program with readers and writers that the tests define.
 
 use crate::drive::drive;
 use std::alloc::{AllocError, Global};
@@ -8,12 +8,12 @@ use std::sync::Wait;
 use std::test::Fail;
 use std::thread::Threads;
 
-/// Revision 0 adds `a`.
+/// A dump whose revision 0 adds `a`.
 const KEPT: &[u8] = b"SVN-fs-dump-format-version: 2\n\n\
 Revision-number: 0\nProp-content-length: 10\nContent-length: 10\n\nPROPS-END\n\n\
 Node-path: a\nNode-kind: dir\nNode-action: add\nProp-content-length: 10\nContent-length: 10\n\nPROPS-END\n\n\n";
 
-/// And then `b`.
+/// A node that adds `b`.
 const LEFT_OUT: &[u8] =
     b"Node-path: b\nNode-kind: dir\nNode-action: add\nProp-content-length: 10\nContent-length: 10\n\nPROPS-END\n\n\n";
 
@@ -26,7 +26,7 @@ fn dump(alloc: Global) -> Result<Vec<u8>, AllocError> {
     Ok(dump)
 }
 
-/// Has room for so many bytes; whether its flush fails.
+/// A writer with room for `room` bytes; `loses` says whether its flush fails.
 #[derive(Drop)]
 struct Disk {
     held: Vec<u8>,
@@ -53,7 +53,7 @@ impl Write for Disk {
     }
 }
 
-/// The status of a run, and its lines.
+/// The status of a run, and its lines on standard error.
 fn run<'a, R: Threads + Wait + Sync, W: Write>(
     rt: &R,
     alloc: Global,
@@ -67,7 +67,7 @@ fn run<'a, R: Threads + Wait + Sync, W: Write>(
     (status, errors)
 }
 
-/// Whether the dump is filtered under these words, and this line is told.
+/// Whether a run with these arguments filters the dump and writes this line.
 fn is_filtered<'a, R: Threads + Wait + Sync>(
     rt: &R,
     alloc: Global,
@@ -87,7 +87,7 @@ fn a_dump_is_filtered(rt: HostRuntime) -> Result<(), Fail> {
     Ok(())
 }
 
-/// The line of a sink that failed behind so many bytes.
+/// The line of a sink that failed after this many bytes.
 fn sink_line(alloc: Global, written: usize) -> Result<Vec<u8>, Fail> {
     let mut line = Vec::new(alloc);
     writeln!(
@@ -97,7 +97,7 @@ fn sink_line(alloc: Global, written: usize) -> Result<Vec<u8>, Fail> {
     Ok(line)
 }
 
-/// Whether a disk with this room for the dump, or one that loses it, is told with the count.
+/// Whether a run reports the count of bytes if the disk is full, or if its flush fails.
 fn is_full<R: Threads + Wait + Sync>(
     rt: &R,
     alloc: Global,
@@ -136,7 +136,7 @@ fn a_failed_flush_is_a_failure(rt: HostRuntime) -> Result<(), Fail> {
     Ok(())
 }
 
-/// Fails at its first call, and then takes all.
+/// A writer that fails at its first call, and then takes all bytes.
 #[derive(Drop)]
 struct Hiccup {
     held: Vec<u8>,
@@ -158,7 +158,7 @@ impl Write for Hiccup {
     }
 }
 
-/// What is kept, and then a file with a long text.
+/// The kept part, and then a file with a long text.
 fn long_dump(alloc: Global) -> Result<Vec<u8>, Fail> {
     let mut dump = Vec::from_slice(alloc, KEPT)?;
     let head = b"Node-path: a/f\nText-content-length: 100000\nContent-length: 100000\n\n";
@@ -167,7 +167,7 @@ fn long_dump(alloc: Global) -> Result<Vec<u8>, Fail> {
     Ok(dump)
 }
 
-/// Whether a writer that fails once is given nothing behind that.
+/// Whether a run writes nothing more to a writer after it has failed once.
 fn is_given_up<R: Threads + Wait + Sync>(rt: &R, alloc: Global, dump: &[u8]) -> bool {
     let mut output = Hiccup {
         held: Vec::new(alloc),
@@ -185,14 +185,14 @@ fn nothing_is_tried_behind_a_failure(rt: HostRuntime) -> Result<(), Fail> {
     Ok(())
 }
 
-/// Whether a run writes a first part of what is kept, and all of it only where it ends well.
+/// Whether a run writes a first part of what is kept, and all of it exactly if it ends well.
 fn leaves_first_part<R: Threads + Wait + Sync>(rt: &R, alloc: Global, dump: &[u8]) -> bool {
     let mut output = Vec::new(alloc);
     let (status, _) = run(rt, alloc, &ORDER, dump, &mut output);
     KEPT.starts_with(output.as_slice()) && (status == 0) == (output.as_slice() == KEPT)
 }
 
-/// Run with each allocation refused in turn.
+/// Run with each allocation failing in turn.
 #[test]
 fn out_of_memory_leaves_a_first_part(rt: HostRuntime) {
     let Ok(dump) = dump(rt.alloc()) else {

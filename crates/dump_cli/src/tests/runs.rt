@@ -1,5 +1,5 @@
-//! What no clause says: threads and gates, sinks that fail at each byte, and memory that is refused. Worked dumps are
-//! cases of the whole program.
+//! What no contract says: threads and gates, sinks that fail at each byte, and allocations that fail. Dumps as users
+//! have them are cases of the whole program.
 
 mod copies;
 mod gates;
@@ -43,7 +43,7 @@ fn include_trunk(alloc: Global) -> Result<Options, Memory> {
     )
 }
 
-/// What comes of it, of the nodes that are kept and dropped.
+/// The answer to this dump, with these counts of kept and dropped nodes.
 fn report(kept: u64, dropped: u64) -> Answer {
     Answer::Clean(Report {
         revisions_kept: 2,
@@ -54,11 +54,11 @@ fn report(kept: u64, dropped: u64) -> Answer {
     })
 }
 
-/// What stands behind a revision's number.
+/// What follows the number of a revision.
 const PROPERTIES: &[u8] =
     b"\nProp-content-length: 56\nContent-length: 56\n\nK 8\nsvn:date\nV 27\n2024-01-02T03:04:05.000000Z\nPROPS-END\n\n";
 
-/// A revision, and a node under `x` or under `trunk`.
+/// Appends a revision, and a node under `x` or under `trunk`.
 fn write_group(dump: &mut Vec<u8>, number: u64) -> Result<(), Fail> {
     write_revision(dump, number)?;
     let parent = if number % 2 == 0 { "trunk" } else { "x" };
@@ -76,7 +76,8 @@ fn write_revision(dump: &mut Vec<u8>, number: u64) -> Result<(), Fail> {
     Ok(())
 }
 
-/// Whether a run that may have been refused memory or a thread left a first part of what a clean one gives.
+/// Whether the output of a run, in which an allocation or the start of a thread may have failed, is a first part of
+/// that of a clean run.
 fn is_first_part(answer: Answer, taken: &[u8], clean: (Answer, &[u8])) -> bool {
     match answer {
         Answer::Failed { failure, written } => {
@@ -88,7 +89,7 @@ fn is_first_part(answer: Answer, taken: &[u8], clean: (Answer, &[u8])) -> bool {
     }
 }
 
-/// Run with each allocation refused in turn.
+/// Run with each allocation failing in turn.
 #[test]
 fn out_of_memory_leaves_a_first_part(rt: HostRuntime) {
     let alloc = rt.alloc();

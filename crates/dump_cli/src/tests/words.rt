@@ -1,4 +1,4 @@
-//! Worked words.
+//! Examples of arguments.
 
 use crate::words::{Order, options_of};
 use cli_support::Usage;
@@ -53,7 +53,7 @@ fn has_prefixes(options: &Options, prefixes: &[&str]) -> bool {
     options.prefix(prefixes.len()).is_none()
 }
 
-/// Whether words give this order.
+/// Whether arguments give this order.
 fn is_order<'a>(
     alloc: Global,
     words: &'a [&'a str],
@@ -64,7 +64,7 @@ fn is_order<'a>(
     Ok(found_in(&order) == wanted && has_prefixes(&order.options, prefixes))
 }
 
-/// The same of words and prefixes in one text each, with spaces between them.
+/// The same; the arguments and the prefixes are each in one text, with spaces between them.
 fn is_read(alloc: Global, line: &str, prefixes: &str, wanted: Wanted) -> Result<bool, Fail> {
     let words: Vec<&str> = line.split(' ').collect(alloc)?;
     let prefixes: Vec<&str> = prefixes.split(' ').collect(alloc)?;
@@ -99,7 +99,7 @@ const FLAGS: Wanted = Wanted {
     ..PLAIN
 };
 
-/// Words, and the prefixes and the rest of what they ask for.
+/// Arguments, and the order that they give: the prefixes and the rest.
 const READ: [(&str, &str, Wanted); 13] = [
     ("svndumpfilter include a", "a", PLAIN),
     (
@@ -206,7 +206,7 @@ fn is_refused<'a>(alloc: Global, words: &'a [&'a str], usage: Usage) -> bool {
     }
 }
 
-/// The same of words with spaces between them.
+/// Whether the arguments in this text, with spaces between them, are rejected in this way.
 fn is_line_refused(alloc: Global, line: &str, usage: Usage) -> Result<bool, Fail> {
     let words: Vec<&str> = line.split(' ').collect(alloc)?;
     Ok(is_refused(alloc, words.as_slice(), usage))
@@ -271,7 +271,7 @@ fn is_quiet_by_two(order: &Order) -> bool {
         && (order.plan.workers(), order.plan.window(), order.quiet) == (2, 64, true)
 }
 
-/// Run with each allocation refused in turn: there is an order, or no memory.
+/// Run with each allocation failing in turn: the call returns an order, or the error for memory.
 #[test]
 fn an_order_or_no_memory(rt: HostRuntime) {
     let words = [

@@ -1,4 +1,4 @@
-//! Copies that are renumbered, where memory is refused.
+//! Copies that are renumbered while allocations fail.
 
 use super::hostile::run_by;
 use super::running::VERSION;
@@ -28,7 +28,7 @@ const TAG_OF_3: &[u8] =
 const TAG_OF_1: &[u8] =
     b"Node-path: trunk/tag\nNode-kind: dir\nNode-action: add\nNode-copyfrom-rev: 1\nNode-copyfrom-path: trunk\n\n\n\n";
 
-/// The copy is of `trunk` as it was in revision 3, whose own node isn't under it.
+/// Revision 4 copies `trunk` from revision 3, and the node of revision 3 isn't under `trunk`.
 const DUMP: [&[u8]; 15] = [
     VERSION,
     b"Revision-number: 0",
@@ -47,7 +47,7 @@ const DUMP: [&[u8]; 15] = [
     TAG_OF_3,
 ];
 
-/// Revisions 1 and 3 are gone.
+/// What is kept of it: revisions 1 and 3 are dropped.
 const KEPT: [&[u8]; 9] = [
     VERSION,
     b"Revision-number: 0",
@@ -76,7 +76,7 @@ const COUNTS: Report = Report {
     texts_checked: 0,
 };
 
-/// Whether a run that may be refused memory or a thread leaves a first part of what is kept.
+/// Whether a run, in which an allocation or the start of a thread may fail, writes a first part of what is kept.
 fn leaves_first_part<R: Threads + Wait + Sync>(
     rt: &R,
     alloc: Global,
@@ -94,7 +94,7 @@ fn leaves_first_part<R: Threads + Wait + Sync>(
     Ok(is_first_part(answer, sink.taken(), (Answer::Clean(COUNTS), kept)))
 }
 
-/// Run with each allocation and each start refused in turn.
+/// Run with each allocation and each start of a thread failing in turn.
 #[test]
 fn copies_are_renumbered_or_no_memory(rt: HostRuntime) -> Result<(), Fail> {
     let Ok(dump) = joined(rt.alloc(), &DUMP) else {

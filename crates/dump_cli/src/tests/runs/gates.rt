@@ -1,4 +1,4 @@
-//! Gates and a sink for runs over threads.
+//! Gates and a sink for runs with threads.
 ghost use Rattle.std.specs.Prelude.{Some};
 
 use dump_pipeline::Gate;
@@ -6,20 +6,21 @@ use dump_writer::{MemorySink, Sink, SinkDown};
 use std::sync::atomic::{AtomicU64, Ordering};
 use std::thread;
 
-/// How many turns a gate holds a record at the most.
+/// For how many turns a gate holds a record at most.
 const TURNS: u64 = 10_000_000;
 
-/// Notes the records that pass, and holds one of them until others have passed. It tells numbers below 64 apart.
+/// A gate that stores which records pass, and holds one of them until others have passed. It distinguishes numbers
+/// below 64.
 #[derive(Drop)]
 pub struct Holding {
-    /// The record that is held.
+    /// The number of the record that is held.
     held: u64,
-    /// Those that it waits for, a bit each.
+    /// The records for which it waits, one bit each.
     until: u64,
-    /// For how many turns it is held then.
+    /// For how many more turns it is held then.
     more: u64,
     passed: AtomicU64,
-    /// Those that had passed when the held one did.
+    /// The records that had passed when the held one passed.
     before: AtomicU64,
     late: AtomicU64,
 }
@@ -36,17 +37,17 @@ impl Holding {
         }
     }
 
-    /// The records that passed, a bit each.
+    /// The records that have passed, one bit each.
     pub fn passed(&self) -> u64 {
         self.passed.load(Ordering::SeqCst)
     }
 
-    /// Those that had passed before the held one.
+    /// The records that had passed before the held one.
     pub fn before(&self) -> u64 {
         self.before.load(Ordering::SeqCst)
     }
 
-    /// Whether the turns ran out.
+    /// Whether the gate stopped waiting because the turns ran out.
     pub fn is_late(&self) -> bool {
         self.late.load(Ordering::SeqCst) > 0
     }
@@ -75,10 +76,10 @@ impl Gate for Holding {
     }
 }
 
-/// Counts how often each of the first 256 records passes.
+/// A gate that counts how often each of the first 256 records passes.
 #[derive(Drop)]
 pub struct Counting {
-    // A bit for each, 64 in a word.
+    // One bit for each record, 64 in a word.
     first: AtomicU64,
     second: AtomicU64,
     third: AtomicU64,
@@ -97,7 +98,7 @@ impl Counting {
         }
     }
 
-    /// Those that passed, a bit each, 64 in a word.
+    /// The records that have passed, one bit each, 64 in a word.
     pub fn words(&self) -> [u64; 4] {
         [
             self.first.load(Ordering::SeqCst),
@@ -107,7 +108,7 @@ impl Counting {
         ]
     }
 
-    /// How many passed that had passed before, or had a greater number.
+    /// How many passed again, or have a larger number.
     pub fn others(&self) -> u64 {
         self.again.load(Ordering::SeqCst)
     }
@@ -129,7 +130,7 @@ impl Gate for Counting {
     }
 }
 
-/// A sink that tells another thread how many bytes it took.
+/// A sink that lets another thread read how many bytes it took.
 #[derive(Drop)]
 pub struct Telling<'c> {
     pub sink: MemorySink,
@@ -152,7 +153,8 @@ impl<'c> Sink for Telling<'c> {
     }
 }
 
-/// Notes the bytes that were taken as record 0 passes, and holds the last record until the first piece was taken.
+/// A gate that stores how many bytes were taken when record 0 passes, and holds the last record until the first piece
+/// was taken.
 #[derive(Drop)]
 pub struct Watching<'c> {
     pub count: &'c AtomicU64,

@@ -1,4 +1,4 @@
-//! Broken sinks, on one thread and over several, and a cut dump with a fault before the cut.
+//! Sinks that fail, on one thread and on several, and a cut dump with a fault before the cut.
 ghost use Rattle.std.specs.Prelude.{◌≤◌, Some, []};
 ghost use Rattle.dump_writer.specs.SinkWords.{greatest};
 
@@ -13,10 +13,10 @@ use std::sync::Wait;
 use std::test::Fail;
 use std::thread::Threads;
 
-/// Workers and window; none: on one thread.
+/// Workers and window; `None` is a run on one thread.
 const PLANS: [Option<(usize, usize)>; 3] = [None, Some((1, 1)), Some((4, 64))];
 
-/// A run over so many workers and such a window; none: on one thread.
+/// A run with this number of workers and this window; `None` is a run on one thread.
 pub fn run_by<R: Threads + Wait + Sync, S: Sink>(
     rt: &R,
     alloc: Global,
@@ -34,7 +34,7 @@ pub fn run_by<R: Threads + Wait + Sync, S: Sink>(
     }
 }
 
-/// Whether a run into a sink with this room leaves a first part.
+/// Whether a run into a sink with this room writes a first part.
 fn breaks_off<R: Threads + Wait + Sync>(
     rt: &R,
     alloc: Global,
@@ -52,8 +52,8 @@ fn breaks_off<R: Threads + Wait + Sync>(
     Ok(answer == wanted && Some(sink.taken()) == DUMP.get(..room))
 }
 
-/// The sink takes at most so many bytes a call, and breaks off at each byte in turn. Whether each run leaves a first
-/// part.
+/// Whether each run writes a first part, if the sink takes at most this many bytes in a call and fails at each byte in
+/// turn.
 fn breaks_at_each_byte<R: Threads + Wait + Sync>(
     rt: &R,
     alloc: Global,
@@ -96,7 +96,7 @@ fn a_sink_breaks_off_at_each_byte_of_four_workers(rt: HostRuntime) -> Result<(),
     Ok(())
 }
 
-/// A sink that has failed so often that its count stays.
+/// A sink whose count of failures has reached its maximum.
 #[derive(Drop)]
 struct WornOut;
 
@@ -118,7 +118,7 @@ impl Sink for WornOut {
     }
 }
 
-/// Whether a run into such a sink fails and writes nothing.
+/// Whether a run into this sink fails and writes nothing.
 fn is_worn_out<R: Threads + Wait + Sync>(
     rt: &R,
     alloc: Global,
@@ -140,7 +140,7 @@ fn a_worn_out_sink_fails_too(rt: HostRuntime) -> Result<(), Fail> {
     Ok(())
 }
 
-/// A cut header stands behind two wrong digests, and the later of these is found first.
+/// A cut header follows two wrong digests, and the later of these is found first.
 #[test]
 fn a_cut_header_behind_a_wrong_digest_is_not_told(rt: HostRuntime) -> Result<(), Fail> {
     assert!(rt; is_first_of_two(&rt, rt.alloc(), WRONG_IN_2_AND_5)?);

@@ -1,4 +1,4 @@
-//! Plans at the ends of their ranges.
+//! Plans at the limits of their ranges.
 
 use dump_pipeline::Plan;
 use std::process::Abort;

@@ -1,4 +1,4 @@
-//! Runs over threads: several plans, records that are held back, sinks that break off, stops that end the cutting.
+//! Runs with threads: several plans, records that are held back, sinks that fail, and stops that end the cutting.
 
 use super::gates::{Counting, Holding, Telling, Watching};
 use super::{DUMP, TRUNK2, include_trunk, is_first_part, report, write_group, write_revision};
@@ -37,7 +37,7 @@ pub fn everything(alloc: Global) -> Result<Options, Fail> {
     )?)
 }
 
-/// Whether a run over threads into a sink that takes all gives this answer and these bytes.
+/// Whether a run with threads, into a sink that takes all, gives this answer and these bytes.
 pub fn is_run<R: Threads + Wait + Sync, G: Gate>(
     rt: &R,
     alloc: Global,
@@ -52,7 +52,7 @@ pub fn is_run<R: Threads + Wait + Sync, G: Gate>(
     answer == wanted.0 && sink.taken() == wanted.1
 }
 
-/// Whether the dump is cut down to what is under `trunk`.
+/// Whether a run keeps exactly the nodes of the dump under `trunk`.
 fn is_cut_down<R: Threads + Wait + Sync, G: Gate>(
     rt: &R,
     alloc: Global,
@@ -64,7 +64,7 @@ fn is_cut_down<R: Threads + Wait + Sync, G: Gate>(
     Ok(is_run(rt, alloc, DUMP, &options, plan, gate, wanted))
 }
 
-/// Record 0 waits for record 1: one thread alone would wait for ever.
+/// Record 0 waits for record 1: a single thread would wait for ever.
 #[test]
 fn records_are_checked_at_the_same_time(rt: HostRuntime) -> Result<(), Fail> {
     let gate = Holding::new(0, 0b10, 0);
@@ -73,7 +73,7 @@ fn records_are_checked_at_the_same_time(rt: HostRuntime) -> Result<(), Fail> {
     Ok(())
 }
 
-/// Whether the dump is cut down into a sink that tells how many bytes it took.
+/// Whether a run keeps the nodes under `trunk`, with a sink that lets another thread read how many bytes it took.
 fn is_told<R: Threads + Wait + Sync, G: Gate>(
     rt: &R,
     alloc: Global,
@@ -108,14 +108,14 @@ fn pieces_are_written_while_records_are_checked(rt: HostRuntime) -> Result<(), F
 const FOLDER: &[u8] =
     b"Node-path: a\nNode-kind: dir\nNode-action: add\nProp-content-length: 10\nContent-length: 10\n\nPROPS-END\n\n\n";
 
-/// A file whose digest is wrong, in record 2.
+/// A dump with a file in record 2 whose digest is wrong.
 const WRONG_IN_2: &[u8] = b"SVN-fs-dump-format-version: 2\n\n\
 Revision-number: 0\nProp-content-length: 56\nContent-length: 56\n\n\
 K 8\nsvn:date\nV 27\n2024-01-02T03:04:05.000000Z\nPROPS-END\n\n\
 Node-path: a/x\nNode-kind: file\nNode-action: add\nText-content-length: 3\n\
 Text-content-sha1: a9993e364706816aba3e25717850c26c9cd0d89e\nContent-length: 3\n\nabc\n\n";
 
-/// Another one in record 5, and behind it a header that is cut.
+/// The same with another one in record 5, and after it a header that is cut.
 pub const WRONG_IN_2_AND_5: &[u8] = b"SVN-fs-dump-format-version: 2\n\n\
 Revision-number: 0\nProp-content-length: 56\nContent-length: 56\n\n\
 K 8\nsvn:date\nV 27\n2024-01-02T03:04:05.000000Z\nPROPS-END\n\n\
@@ -128,14 +128,14 @@ Node-path: a/y\nNode-kind: file\nNode-action: add\nText-content-length: 3\n\
 Text-content-md5: 900150983cd24fb0d6963f7d28e17f73\nContent-length: 3\n\nabc\n\n\
 junk";
 
-/// The wrong digest in record 2 is the answer.
+/// The fault of the wrong digest in record 2.
 const SHA1_IN_RECORD_2: Answer = Answer::Fault {
     kind: FaultKind::Sha1,
     number: 2,
     place: 151,
 };
 
-/// Whether the wrong digest in record 2 is the answer, and nothing behind the version is written.
+/// Whether the answer is the fault in record 2, and only the version record is written.
 pub fn is_first_fault<R: Threads + Wait + Sync, G: Gate>(
     rt: &R,
     alloc: Global,
@@ -148,7 +148,7 @@ pub fn is_first_fault<R: Threads + Wait + Sync, G: Gate>(
     Ok(is_run(rt, alloc, dump, &options, plan, gate, wanted))
 }
 
-/// Whether the fault of record 2 is the answer, though that of record 5 is found before it.
+/// Whether the answer is the fault of record 2, although that of record 5 is found earlier.
 pub fn is_first_of_two<R: Threads + Wait + Sync>(
     rt: &R,
     alloc: Global,
@@ -166,7 +166,7 @@ fn the_first_fault_is_answered_and_not_the_one_found_first(rt: HostRuntime) -> R
     Ok(())
 }
 
-/// A hundred revisions, of which every second is kept.
+/// A dump of a hundred revisions, of which every second is kept.
 pub fn hundred(alloc: Global) -> Result<Vec<u8>, Fail> {
     let mut dump = Vec::from_slice(alloc, VERSION)?;
     write_revision(&mut dump, 0)?;
@@ -189,7 +189,7 @@ pub fn renumbering(alloc: Global) -> Result<Options, Fail> {
     )?)
 }
 
-/// What comes of it.
+/// The answer to it.
 pub const HALF: Answer = Answer::Clean(Report {
     revisions_kept: 50,
     revisions_dropped: 50,
@@ -198,7 +198,7 @@ pub const HALF: Answer = Answer::Clean(Report {
     texts_checked: 0,
 });
 
-/// Whether a run over it, through a gate, keeps half of it.
+/// Whether a run on this dump, with a gate, keeps half of it.
 fn is_halved<R: Threads + Wait + Sync, G: Gate>(
     rt: &R,
     alloc: Global,
@@ -229,7 +229,7 @@ fn each_record_passes_the_gate_once(rt: HostRuntime) -> Result<(), Fail> {
     Ok(())
 }
 
-/// A worker that holds record 0 holds no other record.
+/// The worker that holds record 0 holds no other record.
 #[test]
 fn any_worker_takes_any_record(rt: HostRuntime) -> Result<(), Fail> {
     let gate = Holding::new(0, 0b11_1111_1110, 0);
@@ -247,7 +247,7 @@ fn no_more_are_under_way_than_the_window_has(rt: HostRuntime) -> Result<(), Fail
     Ok(())
 }
 
-/// A wrong digest in record 2, and a thousand records behind it.
+/// A wrong digest in record 2, and a thousand records after it.
 pub fn early_fault(alloc: Global) -> Result<Vec<u8>, Fail> {
     let mut dump = Vec::from_slice(alloc, WRONG_IN_2)?;
     for _ in 0..1000 {
@@ -256,7 +256,7 @@ pub fn early_fault(alloc: Global) -> Result<Vec<u8>, Fail> {
     Ok(dump)
 }
 
-/// Whether one worker answers that fault when three records have passed the gate.
+/// Whether a run with one worker answers this fault after three records have passed the gate.
 fn is_stopped<R: Threads + Wait + Sync>(rt: &R, alloc: Global, dump: &[u8]) -> Result<bool, Fail> {
     let plan = plan(1, 1)?;
     let gate = Holding::new(u64::MAX, 0, 0);
@@ -270,7 +270,7 @@ fn a_fault_stops_the_cutting(rt: HostRuntime) -> Result<(), Fail> {
     Ok(())
 }
 
-/// Whether a run into a sink that takes nothing fails at once.
+/// Whether a run into a sink that takes nothing fails before it has written a byte.
 fn is_refused<R: Threads + Wait + Sync, G: Gate>(
     rt: &R,
     alloc: Global,
@@ -295,7 +295,7 @@ fn a_broken_sink_stops_the_cutting(rt: HostRuntime) -> Result<(), Fail> {
     Ok(())
 }
 
-/// Run with each allocation refused in turn: the answer is out of memory, a thread that wasn't started, or the usual one.
+/// Run with each allocation failing in turn: the answer is the failure of memory or of threads, or the usual one.
 #[test]
 fn out_of_memory_leaves_a_first_part_over_threads(rt: HostRuntime) {
     let alloc = rt.alloc();

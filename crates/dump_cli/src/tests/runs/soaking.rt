@@ -1,4 +1,4 @@
-//! Many runs over threads, each beside the same run on one thread.
+//! Many runs with threads, each compared with the same run on one thread.
 
 use super::running::{early_fault, everything, hundred, plan, renumbering};
 use super::{DUMP, include_trunk};
@@ -12,14 +12,14 @@ use std::test::Fail;
 use std::thread;
 use std::thread::Threads;
 
-/// What looks like chance, and is the same in each run of the tests.
+/// A number that looks random, and is the same in each run of the tests.
 fn scatter(seed: u64) -> u64 {
     let mixed = (seed ^ (seed >> 30)).wrapping_mul(0xbf58476d1ce4e5b9);
     let mixed = (mixed ^ (mixed >> 27)).wrapping_mul(0x94d049bb133111eb);
     mixed ^ (mixed >> 31)
 }
 
-/// Lets each record give its turn away some times.
+/// A gate at which each record yields its turn some times.
 #[derive(Drop)]
 struct Delaying {
     seed: u64,
@@ -33,7 +33,7 @@ impl Gate for Delaying {
     }
 }
 
-/// A sink that breaks off at some byte, or doesn't.
+/// A sink that fails at some byte, or never.
 fn sink_of(alloc: Global, seed: u64, len: usize) -> MemorySink {
     let at = scatter(seed) % (len as u64).max(1);
     let trouble = match scatter(seed.wrapping_add(1)) % 3 {
@@ -48,7 +48,8 @@ fn sink_of(alloc: Global, seed: u64, len: usize) -> MemorySink {
     )
 }
 
-/// Whether a run over threads answers and writes what one on one thread does, by the plan and the sinks of a seed.
+/// Whether a run with threads gives the answer and the bytes of a run on one thread; the seed chooses the plan and the
+/// sinks.
 fn is_alike<R: Threads + Wait + Sync>(
     rt: &R,
     alloc: Global,
@@ -68,7 +69,7 @@ fn is_alike<R: Threads + Wait + Sync>(
     Ok(answer == wanted && sink.taken() == plain.taken())
 }
 
-/// The same for so many seeds.
+/// The same for this many seeds.
 fn agree<R: Threads + Wait + Sync>(
     rt: &R,
     alloc: Global,
@@ -84,7 +85,7 @@ fn agree<R: Threads + Wait + Sync>(
     Ok(true)
 }
 
-/// The same of what is under `trunk`.
+/// The same with options that include `trunk`.
 fn agree_on_trunk<R: Threads + Wait + Sync>(
     rt: &R,
     alloc: Global,
@@ -95,7 +96,7 @@ fn agree_on_trunk<R: Threads + Wait + Sync>(
     agree(rt, alloc, dump, &options, seeds)
 }
 
-/// The same of a hundred revisions that are renumbered.
+/// The same with a hundred revisions that are renumbered.
 fn agree_on_hundred<R: Threads + Wait + Sync>(rt: &R, alloc: Global) -> Result<bool, Fail> {
     let dump = hundred(alloc)?;
     let options = renumbering(alloc)?;
@@ -109,14 +110,14 @@ fn clean_dumps_are_filtered_as_on_one_thread(rt: HostRuntime) -> Result<(), Fail
     Ok(())
 }
 
-/// The same of an early fault.
+/// The same with an early fault.
 fn agree_on_early_fault<R: Threads + Wait + Sync>(rt: &R, alloc: Global) -> Result<bool, Fail> {
     let dump = early_fault(alloc)?;
     let options = everything(alloc)?;
     agree(rt, alloc, &dump, &options, 3000..3200)
 }
 
-/// The same of a header that is cut behind the dump.
+/// The same with a cut header after the dump.
 fn agree_on_junk<R: Threads + Wait + Sync>(rt: &R, alloc: Global) -> Result<bool, Fail> {
     let mut dump = Vec::from_slice(alloc, DUMP)?;
     dump.extend_from_slice(b"junk")?;
