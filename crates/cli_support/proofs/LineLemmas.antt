@@ -1,4 +1,4 @@
--- What a line means that a command takes, and one that it refuses.
+-- What a line means that a command accepts, and one that it rejects.
 use Rattle.cli_support.proofs.Prelude.{◌≡◌, ◌∙◌, ◌⊎◌, ◌&&◌, Bool, true, false, sym, ap, subst, List, [], ◌∷◌, Some, Result, Ok, Err, inl, inr, arith, ne_eqb, Side, Answers, meaning_by, meaning_in, side_in, ReadsLine, Usage, Words, BothDrops, Memory}
 use Rattle.clap.specs.Kinds.{HasKind, Kinds}
 use Rattle.clap.specs.Walk.{is_empty}
@@ -53,7 +53,7 @@ module _ {A M : Type 0} (app : App) (means : Side → List Row → Result M Usag
           ∙ ap (λ (k : Kinds). meaning_by means (Some side) (is_empty k) (matches_of app line)) none
           ∙ ap (means side) (sym same)
 
-  -- a line that is refused means nothing, or memory ran out
+  -- a line that is rejected means nothing, or memory ran out
   pub refusal_answers : (usage : Usage) → ReadsLine app line (Err usage)
       → Answers meaning_of (meaning_in app means line) (Err usage)
   refusal_answers Words some =
@@ -62,7 +62,7 @@ module _ {A M : Type 0} (app : App) (means : Side → List Row → Result M Usag
   refusal_answers BothDrops bad = absurd bad
   refusal_answers Memory none = tt
 
--- a line that the command takes isn't refused
+-- a line that the command accepts isn't rejected
 pub lawful_is_read : (app : App) (line : List Text) (usage : Usage) → ReadsLine app line (Err usage)
     → is_empty (fault_of app line) ≡ true → usage ≡ Words → ⊥
 lawful_is_read app line Words some lawful is =

@@ -194,7 +194,7 @@ module _ (old : Command) (m : ArgMatches) (p : IsParsedFrom old m) (id : Text) (
         ∙ ap (λ (vs : List (Bor Text)). option_map (λ s. read_as AsWritten s.now) (slice_get vs 0)) first.2 in
         (first.0.now, sym (one_text-rows (found_of m) id) ∙ text, value_is first.0 first.1 first.2)
 
-  -- the number stands in its range
+  -- the number is in its range
   pub number_given : IsNumber id most (rows_of (found_of m))
   number_given = go (matched_of (found_of m) id) refl found
     where

@@ -1,4 +1,4 @@
--- What a writer took of an output, of which the last bytes wait or are handed on.
+-- What a writer took of an output whose last bytes are in the buffer or are written.
 use Rattle.cli_support.proofs.Prelude.{◌≡◌, ℕ, List, [], ◌++◌, Option, None, Some, refl, sym, ap, subst, ◌∙◌, append_assoc, append_cancel_left, Appends, Appends-kept, Keeps, GrowsBy, append_known, LentState, lent_taken, IsPrefixOf}
 use Rattle.dump_writer.specs.steps.SinkCalls.{TakesOnlyFirst}
 use Rattle.cli_support.specs.Info.{TakesFront}
@@ -32,7 +32,7 @@ part_taken (Some xs) (Some ys) waiting sent n grown all = (
   grown.1,
 )
 
--- a whole text behind which nothing waits
+-- a whole text after which nothing waits
 pub handed_on : (a b : Option (List ℕ)) (sink : LentState) (text : List ℕ) → Appends (append_known a []) b text
     → Keeps b (lent_taken sink) → sink.waiting ≡ [] → Appends a sink.out.taken text
 handed_on a b sink text appended kept none = from_none a sink.out.taken text

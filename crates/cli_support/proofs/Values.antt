@@ -97,7 +97,7 @@ both_drops = refl
 abbrev command : App
 command = with_rule (with_rule (filter_command (codes "p")) (switch (codes "loud"))) prefixes
 
--- an option behind a prefix is read, and one behind the two minus signs is a prefix
+-- an option after a prefix is read, and one after the two minus signs is a prefix
 around : meaning_in command settings_of
     (codes "include" ∷ codes "a" ∷ codes "--drop-all-empty-revs" ∷ codes "--" ∷ codes "--x" ∷ [])
     ≡ Ok (record {

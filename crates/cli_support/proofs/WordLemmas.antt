@@ -31,7 +31,7 @@ flag_is E m name o none reads = go (one_text m name) refl
     go None e = ap (λ v. unwrap_or v false) (none e) ∙ sym (is None e)
     go (Some t) e = read t o (reads t e) ∙ sym (is (Some t) e)
 
--- a number that stands in its range is read as it stands
+-- a number that is in its range is read unchanged
 pub number_is : (E : Type 0) (G : List ℕ → Result ℕ E → Type 0) (m : Found) (name : Text) (most : ℕ) (r : Option ℕ)
     → ((u : List ℕ) (x : Result ℕ E) → G u x → ParsesUnsigned 64 10 u x)
     → IsNumber name most (rows_of m) → ((t : Text) → one_text m name ≡ Some t → ReadsOne G t r)

@@ -8,7 +8,7 @@ use dump_writer::{OutMut, SinkDown};
 use std::alloc::{AllocError, Global};
 use std::io::Write;
 
-/// So many bytes of small texts wait for one call of the writer.
+/// How many bytes of small texts are collected for one call of the writer.
 const BUFFER: usize = 1 << 16;
 
 /// The buffer of a program's output.
@@ -18,8 +18,7 @@ pub fn output_buffer(alloc: Global) -> Result<Vec<u8>, AllocError>
     Vec::with_capacity(alloc, BUFFER)
 }
 
-/// Hands on what waits, unless the sink is down: then no more is tried. An error is the number of bytes that the writer
-/// took.
+/// Writes the bytes in the buffer, unless the sink is down. The error is the number of bytes that the writer took.
 pub fn finish<W: Write>(sink: &mut OutMut<'_, W>, is_down: bool) -> Result<(), u64>
     ensures taken { Keeps (lent_taken sink.old) (lent_taken sink.new) }
     ensures whole { OnOk result ((is_down ≡ false) × (sink.new.waiting ≡ [])) }

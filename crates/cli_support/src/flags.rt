@@ -1,4 +1,4 @@
-//! The options of the filter, those of how a run is spread over threads, and the prefixes, as clap reads them.
+//! The options of the filter, the options for threads, and the prefixes, as clap reads them.
 ghost use Rattle.std.specs.Prelude.{◌≡◌, IfOk, false, codes};
 ghost use Rattle.clap.specs.Words.{app_of, rule_of};
 ghost use Rattle.cli_support.specs.FilterCommand.{any_prefixes, filter_command, number, prefixes, repeated, switch, valued};
@@ -14,7 +14,7 @@ pub fn switch<'a>(alloc: Global, name: &'a str) -> Arg<'a>
     Arg::new(alloc, name).long(name).action(ArgAction::SetTrue)
 }
 
-/// The option of how many workers there are, and the number that stands for none.
+/// The option for the number of workers, with its default.
 pub fn workers<'a>(alloc: Global) -> Arg<'a>
     ensures rule { rule_of result ≡ number (codes "workers") 64 (codes "4") }
     ensures local { result.global ≡ false }
@@ -26,7 +26,7 @@ pub fn workers<'a>(alloc: Global) -> Arg<'a>
         .default_value("4")
 }
 
-/// The option of how wide the window is, and the number that stands for none.
+/// The option for the width of the window, with its default.
 pub fn window<'a>(alloc: Global) -> Arg<'a>
     ensures rule { rule_of result ≡ number (codes "window") 4096 (codes "64") }
     ensures local { result.global ≡ false }
@@ -38,7 +38,7 @@ pub fn window<'a>(alloc: Global) -> Arg<'a>
         .default_value("64")
 }
 
-/// The path prefixes, of which there is one or more.
+/// The prefixes, at least one.
 pub fn prefixes<'a>(alloc: Global) -> Arg<'a>
     ensures rule { rule_of result ≡ prefixes }
     ensures local { result.global ≡ false }
@@ -46,7 +46,7 @@ pub fn prefixes<'a>(alloc: Global) -> Arg<'a>
     Arg::new(alloc, "PREFIX").required(true).num_args(1..)
 }
 
-/// The same of a program whose prefixes may all be in files.
+/// The prefixes of a program that also reads prefixes from files; there may be none.
 pub fn any_prefixes<'a>(alloc: Global) -> Arg<'a>
     ensures rule { rule_of result ≡ any_prefixes }
     ensures local { result.global ≡ false }
@@ -54,7 +54,7 @@ pub fn any_prefixes<'a>(alloc: Global) -> Arg<'a>
     prefixes(alloc).required(false)
 }
 
-/// An option with a value, which may be given again.
+/// An option with a value, which may occur several times.
 pub fn repeated<'a>(alloc: Global, name: &'a str) -> Arg<'a>
     ensures rule { rule_of result ≡ repeated name.entry.now }
     ensures local { result.global ≡ false }
@@ -62,7 +62,7 @@ pub fn repeated<'a>(alloc: Global, name: &'a str) -> Arg<'a>
     Arg::new(alloc, name).long(name).action(ArgAction::Append)
 }
 
-/// An option with a value, which may be given once.
+/// An option with a value, which may occur once.
 pub fn valued<'a>(alloc: Global, name: &'a str) -> Arg<'a>
     ensures rule { rule_of result ≡ valued name.entry.now }
     ensures local { result.global ≡ false }
@@ -70,8 +70,8 @@ pub fn valued<'a>(alloc: Global, name: &'a str) -> Arg<'a>
     Arg::new(alloc, name).long(name).action(ArgAction::Set)
 }
 
-/// A command with the options of the filter. A program adds its own options, and the prefixes; the side is no argument of
-/// the command.
+/// A command with the options of the filter. A program adds its own options and the prefixes. The side is no argument
+/// of the command.
 pub fn filter_command<'a>(alloc: Global, program: &'a str) -> Result<Command<'a>, AllocError>
     ensures { IfOk result (λ c. app_of c ≡ filter_command program.entry.now) }
 {

@@ -1,4 +1,4 @@
-//! The texts that a program prints in place of its work.
+//! The help and the version, which a program prints instead of doing its work.
 ghost use Rattle.std.specs.Prelude.{◌≡◌, [], OnErr, OnOk, map};
 ghost use Rattle.std.specs.Io.KnownBytes.{Appends};
 ghost use Rattle.dump_writer.specs.steps.SinkStates.{loan_of};
@@ -10,14 +10,14 @@ use dump_writer::{Chunk, OutMut, Piece, write_piece};
 use std::alloc::Global;
 use std::io::Write;
 
-/// What is asked for in place of a program's work.
+/// What a user can ask for instead of a program's work.
 #[derive(Clone, Copy, Debug, PartialEq, Eq)]
 pub enum Info {
     Help,
     Version,
 }
 
-/// What the arguments ask for in place of the program's work. `words[0]` is the program's name.
+/// What the arguments ask for instead of the program's work. `words[0]` is the program's name.
 pub fn info_of(words: &[&str]) -> Option<Info>
     ensures { result ≡ info_of (map (λ word. word.now) words.now) }
 {
@@ -27,7 +27,7 @@ pub fn info_of(words: &[&str]) -> Option<Info>
     }
 }
 
-/// What the first option of a line that asks for a text asks for. After two minus signs there are no options.
+/// What the first option asks for that asks for a text. After two minus signs there are no options.
 fn info_in(line: &[&str]) -> Option<Info>
     ensures { result ≡ info_in (map (λ word. word.now) line.now) }
 {
@@ -56,7 +56,7 @@ fn named_info(word: &str) -> Option<Info>
     }
 }
 
-/// Prints a text, and gives the status: 0, or that of a failure, of which it writes the line.
+/// Prints a text, and returns the status: 0, or that of a failure, for which it writes the line.
 pub fn print_text<W: Write, E: Write>(
     alloc: Global,
     text: &str,
@@ -72,7 +72,7 @@ pub fn print_text<W: Write, E: Write>(
     }
 }
 
-/// Why a text was not written whole.
+/// Why a text was not completely written.
 #[derive(Clone, Copy, Debug, PartialEq, Eq)]
 pub struct Unwritten {
     pub cause: Cause,
@@ -80,7 +80,7 @@ pub struct Unwritten {
     pub written: u64,
 }
 
-/// Writes a text, and hands on all of it.
+/// Writes a text, and flushes it.
 pub fn write_text<W: Write>(alloc: Global, text: &[u8], writer: &mut W) -> Result<(), Unwritten>
     ensures whole { OnOk result (Appends (W.contents writer.old) (W.contents writer.new) text.now) }
     ensures part { OnErr result (TakesFront (W.contents writer.old) (W.contents writer.new) text.now) }
@@ -101,7 +101,7 @@ pub fn write_text<W: Write>(alloc: Global, text: &[u8], writer: &mut W) -> Resul
     }
 }
 
-/// Sends a text, and hands on all of it.
+/// Writes a text to the sink, and flushes it.
 fn send<W: Write>(alloc: Global, text: &[u8], sink: &mut OutMut<'_, W>) -> Result<(), Cause>
     requires waiting { sink.old.waiting ≡ [] }
     requires start { sink.old.out.start ≡ sink.old.out.taken }

@@ -1,20 +1,20 @@
-//! The whole input, in one buffer.
+//! Reads the whole input into one buffer.
 ghost use Rattle.std.specs.Prelude.{◌≡◌, [], IfOk, OnOk, IfSome};
 ghost use Rattle.std.specs.Io.KnownBytes.{IsAtEnd};
 
 use std::alloc::Global;
 use std::io::{ErrorKind, Read};
 
-/// Why the input wasn't read.
+/// Why the input couldn't be read.
 #[derive(Clone, Copy, Debug, PartialEq, Eq)]
 pub enum Unread {
-    /// The reader failed, or had not ended after the most calls that the library makes.
+    /// The reader failed, or it had not ended after the largest number of calls that the library makes.
     Source,
-    /// No memory was left for the buffer.
+    /// The allocation of the buffer failed.
     Memory,
 }
 
-/// All that the reader has left. An input of this size, where it is known, is read without another growth.
+/// Reads all that the reader has left. `size` is a guess of its size; if it is right, the buffer needn't grow.
 pub fn read_all<R: Read>(alloc: Global, reader: &mut R, size: u64) -> Result<Vec<u8>, Unread>
     ensures whole { IfOk result (λ input. IfSome (R.remaining reader.old) (λ left. input.items ≡ left)) }
     ensures end { OnOk result (IsAtEnd (R.remaining reader.new)) }
@@ -27,8 +27,8 @@ pub fn read_all<R: Read>(alloc: Global, reader: &mut R, size: u64) -> Result<Vec
     }
 }
 
-/// Room for an input of this size, and for a byte more: so its end is found without another growth. A size that is wrong
-/// or has no room is as good as none, since reading makes its own.
+/// An empty buffer with room for an input of this size and one more byte, so that the end of the input is found
+/// without growing. If the size is wrong or can't be allocated, reading makes the buffer grow.
 fn room(alloc: Global, size: u64) -> Vec<u8>
     ensures { result.items ≡ [] }
 {

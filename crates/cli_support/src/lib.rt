@@ -1,11 +1,12 @@
-//! What the command-line programs have in common: their arguments, their input, their output and the lines with which
-//! they end.
+//! Code that the command-line programs share: it reads arguments and input, and writes output and the
+//! lines with which a program ends.
 //!
-//! A program is called with a side, the options of the filter and its own ones, and path prefixes. [`side_in`] reads the
-//! side that a line begins with. [`filter_command`] is a command with the options of the filter, to which a program adds
-//! its own ones, a [`switch`] for example, and the [`prefixes`] at last. [`read_line`] reads a line by such a command,
-//! [`read_options`] makes the options of the filter of what was found, [`is_set`] says whether a switch is set, and
-//! [`read_number`] is the number of an option. [`workers`] and [`window`] are options of how a run is spread over threads.
+//! A program is called with a side, the options of the filter, options of its own, and prefixes.
+//! [`side_in`] reads the side with which a line begins. [`filter_command`] is a command with the options
+//! of the filter. A program adds its own options to it, for example a [`switch`], and then the
+//! [`prefixes`]. [`read_line`] parses a line by such a command, and [`read_options`] makes the options
+//! of the filter from the result. [`is_set`] says whether a switch is set, and [`read_number`] is the
+//! number of an option. [`workers`] and [`window`] are the options for threads.
 //!
 //! ```
 //! filter_command(alloc, "svndumptest")?
@@ -13,7 +14,7 @@
 //!     .arg(prefixes(alloc))
 //! ```
 //!
-//! `tests::lines::loud_command` runs this. A line is read by this command so:
+//! `tests::lines::loud_command` runs this. This parses a line by that command:
 //!
 //! ```
 //! let matches = read_line(command, line)?;
@@ -23,20 +24,22 @@
 //!
 //! `tests::lines::read` runs this.
 //!
-//! [`refusal`] is why a program refuses a line, where it reads what clap says of it by itself.
+//! [`refusal`] says why clap rejects a line, for a program that parses the line itself.
 //!
-//! [`NamedFiles`] are files that are read by their names. [`read_files`] reads those with prefixes, whose names
-//! [`read_values`] finds, and [`with_texts`] adds the prefixes in their texts to others. The [`prefixes`] of such a program are
-//! [`any_prefixes`].
+//! [`NamedFiles`] are files that a program reads by their names. [`read_files`] reads the files of
+//! prefixes, whose names [`read_values`] finds, and [`with_texts`] adds the prefixes in their texts to
+//! others. Such a program uses [`any_prefixes`] in place of [`prefixes`].
 //!
-//! A [`NamedOutput`] is written to a file that is created by its name, and a [`NewFile`] is one of the process. [`valued`]
-//! is an option with such a name, and [`read_value`] finds it. [`write_text`] writes a whole text.
+//! A [`NamedOutput`] is an output to a file that a program creates by its name, and [`NewFile`] is such
+//! an output of the process. [`valued`] is an option with such a name, and [`read_value`] finds it.
+//! [`write_text`] writes a whole text.
 //!
 //! [`info_of`] says whether arguments ask for help or the version, and [`print_text`] prints a text.
 //!
-//! [`arguments`] are those of the process, and [`input_size`] is a guess at the size of its input. [`read_all`] reads the
-//! input, [`output_buffer`] is the buffer of an `OutMut`, and [`finish`] hands on what waits there. [`refuse`] and [`fail`]
-//! write the line of what ended a [`Program`], and give its status.
+//! [`arguments`] returns those of the process, and [`input_size`] is a guess at the size of its input.
+//! [`read_all`] reads the input, [`output_buffer`] is the buffer of an `OutMut`, and [`finish`] writes
+//! what is in the buffer. [`refuse`] and [`fail`] write the line that says why a [`Program`] ended, and
+//! return its status.
 #![tactic(auto)]
 
 mod buffered;

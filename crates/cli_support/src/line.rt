@@ -1,4 +1,4 @@
-//! What a line of arguments gives: its side, what the command finds behind it, and the options of the filter.
+//! Reads the arguments of a program: the side, what the command finds after it, and the options of the filter.
 ghost use Rattle.std.specs.Prelude.{◌≡◌, ◌≢◌, ◌≤◌, ℕ, [], IfOk, Err, map, true, codes, option_map, unwrap_or};
 ghost use Rattle.clap.specs.Built.{IsParsedFrom};
 ghost use Rattle.clap.specs.Words.{all_of, app_of, first_of, found_of, is_simple_and_free, rows_of, takes};
@@ -11,7 +11,7 @@ use clap::{ArgMatches, Command};
 use dump_rules::{Empty, Options, Side};
 use std::alloc::Global;
 
-/// The side that a line begins with.
+/// The side with which a line begins.
 pub fn side_in(line: &[&str]) -> Option<Side>
     ensures { result ≡ side_in (map (λ word. word.now) line.now) }
 {
@@ -32,7 +32,7 @@ fn named_side(name: &str) -> Option<Side>
     }
 }
 
-/// What a command finds behind the first argument of a line, which is the side.
+/// Parses the arguments of a line after the first, which is the side.
 pub fn read_line<'a>(command: Command<'a>, line: &'a [&'a str]) -> Result<ArgMatches<'a>, Usage>
     ensures parsed { IfOk result (λ matches. IsParsedFrom command.entry matches) }
     ensures read { is_simple_and_free (app_of command.entry) ≡ true
@@ -45,7 +45,7 @@ pub fn read_line<'a>(command: Command<'a>, line: &'a [&'a str]) -> Result<ArgMat
     }
 }
 
-/// The options of the filter that a side and what stands behind it give.
+/// The options of the filter that a side and the arguments after it give.
 pub fn read_options(alloc: Global, side: Side, matches: &ArgMatches<'_>) -> Result<Options, Usage>
     ensures { Answers (λ settings. settings) (settings_of side (rows_of (found_of matches.now))) result }
 {
@@ -77,7 +77,7 @@ pub fn is_set(matches: &ArgMatches<'_>, name: &str) -> bool
     matches.get_one(name).unwrap_or(false)
 }
 
-/// The number that the option of this name gives.
+/// The number that is the value of the option of this name.
 pub fn read_number(matches: &ArgMatches<'_>, name: &str) -> usize
     requires { (most : ℕ) × IsNumber name.now most (rows_of (found_of matches.now)) }
     ensures value { result ≡ flag_number name.now (rows_of (found_of matches.now)) }
@@ -89,7 +89,7 @@ pub fn read_number(matches: &ArgMatches<'_>, name: &str) -> usize
     number
 }
 
-/// What becomes of empty revisions, where the options don't contradict each other.
+/// What the filter does with revisions without a kept node; `None` if the options contradict each other.
 fn read_empty(matches: &ArgMatches<'_>) -> Option<Empty>
     ensures { result ≡ empty_in (rows_of (found_of matches.now)) }
 {
@@ -104,7 +104,7 @@ fn read_empty(matches: &ArgMatches<'_>) -> Option<Empty>
     }
 }
 
-/// The bytes of the prefixes, as they were given.
+/// The bytes of the prefixes, as the user wrote them.
 pub fn read_prefixes<'a>(alloc: Global, matches: &ArgMatches<'a>) -> Result<Vec<&'a [u8]>, Usage>
     ensures { IfOk result (λ texts. map (λ text. text.now) texts.items ≡ unwrap_or (all_of (codes "PREFIX") (rows_of (found_of matches.now))) []) }
 {
@@ -114,14 +114,14 @@ pub fn read_prefixes<'a>(alloc: Global, matches: &ArgMatches<'a>) -> Result<Vec<
     }
 }
 
-/// The value of the option of this name, as it was given.
+/// The value of the option of this name, as the user wrote it.
 pub fn read_value<'a>(matches: &ArgMatches<'a>, name: &str) -> Option<&'a str>
     ensures { option_map (λ text. text.now) result ≡ first_of name.now (rows_of (found_of matches.now)) }
 {
     matches.get_str(name)
 }
 
-/// The values of the option of this name, as they were given.
+/// The values of the option of this name, as the user wrote them.
 pub fn read_values<'a>(
     alloc: Global,
     matches: &ArgMatches<'a>,
@@ -135,7 +135,7 @@ pub fn read_values<'a>(
     }
 }
 
-/// These words, in a vector.
+/// Collects these words in a vector.
 fn collected<'a>(alloc: Global, words: &[&'a str]) -> Result<Vec<&'a str>, Usage>
     ensures { IfOk result (λ texts. map (λ text. text.now) texts.items ≡ map (λ word. word.now) words.now) }
 {

@@ -1,5 +1,5 @@
-//! The lines on standard error with which programs end, and the statuses. What goes wrong in writing a line is ignored:
-//! there is nowhere left to say so.
+//! The lines on standard error with which programs end, and the exit statuses. Errors in writing a line are ignored,
+//! because there is nowhere to report them.
 ghost use Rattle.std.specs.Prelude.{◌≡◌};
 ghost use Rattle.cli_support.specs.Arguments.{refusal_status};
 
@@ -7,7 +7,7 @@ use crate::input::Unread;
 use crate::usage::Usage;
 use std::io::Write;
 
-/// A program, by what its lines and statuses say.
+/// The name of a program, as its lines have it, and its status after a failure.
 #[derive(Clone, Copy, Debug)]
 pub struct Program {
     pub name: &'static str,
@@ -34,7 +34,7 @@ fn code(cause: Cause) -> u8 {
     }
 }
 
-/// Writes the line of arguments that a program refuses, and gives the status.
+/// Writes the line for arguments that a program rejects, and returns the status.
 pub fn refuse<E: Write>(errors: &mut E, program: Program, usage: Usage) -> u8
     ensures { result ≡ refusal_status program.failed usage }
 {
@@ -48,7 +48,7 @@ pub fn refuse<E: Write>(errors: &mut E, program: Program, usage: Usage) -> u8
     }
 }
 
-/// Writes the line of a failure after so many bytes of output, and gives the status.
+/// Writes the line of a failure after this many bytes of output, and returns the status.
 pub fn fail<E: Write>(errors: &mut E, program: Program, cause: Cause, written: u64) -> u8
     ensures { result ≡ program.failed }
 {
@@ -61,7 +61,7 @@ pub fn fail<E: Write>(errors: &mut E, program: Program, cause: Cause, written: u
     failed
 }
 
-/// The same of an input that was not read, of which nothing was written.
+/// The same if the input couldn't be read, so that nothing was written.
 pub fn fail_unread<E: Write>(errors: &mut E, program: Program, unread: Unread) -> u8
     ensures { result ≡ program.failed }
 {

@@ -1,4 +1,4 @@
-//! What a program asks its process for.
+//! What a program reads from its process.
 ghost use Rattle.std.specs.Prelude.{◌≡◌, IfOk, None, map};
 ghost use Rattle.std.specs.String.{string_bytes};
 
@@ -11,7 +11,7 @@ use std::fs::File;
 use std::io::{self, ErrorKind, Write};
 use std::{env, fs};
 
-/// The arguments of the process, where each is UTF-8. The first is the program's name.
+/// The arguments of the process, if each is UTF-8. The first is the program's name.
 pub fn arguments(rt: &HostRuntime) -> Result<Vec<String>, Usage> {
     match env::args(rt) {
         Ok(arguments) => arguments.collect(rt.alloc()).map_err(|_| Usage::Memory),
@@ -20,7 +20,7 @@ pub fn arguments(rt: &HostRuntime) -> Result<Vec<String>, Usage> {
     }
 }
 
-/// How many bytes standard input has where it is a file, else 0 or another number.
+/// The size of standard input if it is a file; otherwise 0 or another number.
 pub fn input_size(rt: &HostRuntime) -> u64 {
     match fs::metadata(rt, "/dev/stdin") {
         Ok(input) => input.len(),
@@ -41,7 +41,7 @@ pub fn as_texts<'a>(alloc: Global, strings: &'a [String]) -> Result<Vec<&'a str>
     Ok(texts)
 }
 
-/// The files of the process. What they have isn't known before they are read.
+/// The files of the process. No contract says what they contain.
 impl NamedFiles for HostRuntime {
     ghost text_of = { λ _ _. None };
 
@@ -54,7 +54,7 @@ impl NamedFiles for HostRuntime {
     }
 }
 
-/// A file of the process that is written, once it is created. What it has isn't known.
+/// An output to a file of the process, once it is created. No contract says what the file contains.
 #[derive(Drop)]
 pub struct NewFile<'r> {
     rt: &'r HostRuntime,

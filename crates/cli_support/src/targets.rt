@@ -1,21 +1,21 @@
-//! Files of prefixes, one a line.
+//! Files of prefixes, with one prefix in each line.
 ghost use Rattle.std.specs.Prelude.{◌≡◌, ◌<◌, ◌++◌, ◌∷◌, ℕ, List, Option, IfOk, IfSome, length, map};
 ghost use Rattle.cli_support.specs.Targets.{AreTextsOf, after_blanks, before_blanks, is_blank, is_line_end, prefix_of_line, prefixes_of_text, prefixes_of_texts, lines_in_text};
 
 use crate::input::Unread;
 use std::alloc::{AllocError, Global};
 
-/// Files that are read by their names.
+/// Files that a program reads by their names.
 pub trait NamedFiles {
-    // What the file of a name has, where that is known.
+    // The text of the file with this name, if it is known.
     ghost text_of: { Self → List ℕ → Option (List ℕ) };
 
-    /// All bytes of the file of this name.
+    /// All bytes of the file with this name.
     fn read_named(&self, alloc: Global, name: &str) -> Result<Vec<u8>, Unread>
         ensures { IfOk result (λ bytes. IfSome (text_of self.now name.now) (λ text. bytes.items ≡ text)) };
 }
 
-/// Why the file at this place of a list was not read.
+/// Why the file at this place of a list couldn't be read.
 #[derive(Clone, Copy, Debug, PartialEq, Eq)]
 pub struct UnreadFile {
     pub place: usize,
@@ -45,7 +45,8 @@ pub fn read_files<F: NamedFiles>(
     Ok(texts)
 }
 
-/// These prefixes, and after them those in texts: one a line, without the blanks at its ends. Empty lines don't count.
+/// These prefixes, followed by those in texts. A text has one prefix in each line; blanks at its ends are removed, and
+/// empty lines are ignored.
 pub fn with_texts<'a>(
     prefixes: Vec<&'a [u8]>,
     texts: &'a [Vec<u8>],
@@ -61,7 +62,7 @@ pub fn with_texts<'a>(
     Ok(all)
 }
 
-/// The same with those in a text.
+/// The same with the prefixes in one text.
 fn with_text<'a>(prefixes: Vec<&'a [u8]>, text: &'a [u8]) -> Result<Vec<&'a [u8]>, AllocError>
     ensures { IfOk result (λ all. map (λ prefix. prefix.now) all.items ≡ map (λ prefix. prefix.now) prefixes.entry.items ++ prefixes_of_text text.now) }
 {

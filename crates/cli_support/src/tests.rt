@@ -1,4 +1,5 @@
-//! What no clause says: readers that fail or drip, writers that fail, and the lines as users see them.
+//! What no contract says: readers that fail or return single bytes, writers that fail, and the lines as users see
+//! them.
 
 mod inputs;
 mod lines;

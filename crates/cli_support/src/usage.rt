@@ -1,25 +1,25 @@
-//! Why a program refuses its arguments.
+//! Why a program rejects its arguments.
 ghost use Rattle.std.specs.Prelude.{◌≡◌, ◌≢◌, ◌⊎◌};
 ghost use Rattle.clap.specs.Words.{kind_of};
 
 use clap::Error;
 use clap::error::ErrorKind;
 
-/// Why arguments ask for nothing.
+/// What is wrong with arguments.
 #[derive(Clone, Copy, Debug, PartialEq, Eq, thiserror::Error)]
 pub enum Usage {
-    /// The program takes no such arguments.
+    /// The program has no such arguments.
     #[error("the program takes no such arguments")]
     Words,
     /// They ask for both ways to drop revisions.
     #[error("both ways to drop revisions are asked for")]
     BothDrops,
-    /// No memory was left to read them.
+    /// An allocation failed while the program read them.
     #[error("no memory is left to read the arguments")]
     Memory,
 }
 
-/// Why clap refuses arguments.
+/// Why clap rejects arguments.
 pub fn refusal(error: &Error) -> Usage
     ensures memory { kind_of error.now ≡ ErrorKind.OutOfMemory → result ≡ Usage.Memory }
     ensures words { kind_of error.now ≢ ErrorKind.OutOfMemory → result ≡ Usage.Words }

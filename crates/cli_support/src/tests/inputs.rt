@@ -1,4 +1,4 @@
-//! Inputs that are read whole, or not.
+//! Inputs that can be read completely, or not.
 
 use crate::{Unread, read_all};
 use std::alloc::Global;
@@ -6,7 +6,7 @@ use std::io::{self, ErrorKind, Read};
 use std::process::Abort;
 use std::test::Fail;
 
-/// Gives its bytes one at a time, and then ends, or fails for good.
+/// A reader that returns one byte at a time, and then ends, or fails at each call.
 #[derive(Drop)]
 struct Dripping<'a> {
     rest: &'a [u8],
@@ -32,7 +32,7 @@ impl Read for Dripping<'_> {
     }
 }
 
-/// Whether all is read where it is thought to be of this size.
+/// Whether the whole input is read if this is the guess of its size.
 fn is_read_whole(alloc: Global, bytes: &[u8], size: u64) -> Result<bool, Fail> {
     let mut reader = bytes;
     let input = read_all(alloc, &mut reader, size)?;
@@ -71,7 +71,7 @@ fn an_error_is_no_end(rt: HostRuntime) {
     assert!(rt; matches!(answer, Err(Unread::Source)));
 }
 
-/// Run with each allocation refused in turn: the input is read whole, or there is no memory.
+/// Run with each allocation failing in turn: the whole input is read, or the error is that of memory.
 #[test]
 fn an_input_or_no_memory(rt: HostRuntime) {
     let mut reader = b"some text".as_slice();

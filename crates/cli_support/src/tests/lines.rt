@@ -1,4 +1,4 @@
-//! Worked lines of arguments.
+//! Examples of arguments.
 
 use crate::{Usage, filter_command, is_set, prefixes, read_line, read_options, side_in, switch};
 use clap::Command;
@@ -7,7 +7,7 @@ use std::alloc::{AllocError, Global};
 use std::process::Abort;
 use std::test::Fail;
 
-/// A command that has the option `--loud` of its own.
+/// A command with its own option `--loud`.
 fn loud_command<'a>(alloc: Global) -> Result<Command<'a>, AllocError> {
     filter_command(alloc, "svndumptest")?
         .arg(switch(alloc, "loud"))?
@@ -74,7 +74,7 @@ fn other_lines_are_refused(rt: HostRuntime) {
     assert!(rt; is_refused(rt.alloc(), &both, Usage::BothDrops));
 }
 
-/// Run with each allocation refused in turn: there are options, or no memory.
+/// Run with each allocation failing in turn: the call returns options, or the error for memory.
 #[test]
 fn options_or_no_memory(rt: HostRuntime) {
     let answered = match read(rt.alloc(), &ALL) {

@@ -1,4 +1,4 @@
-//! Outputs that are handed on, or not, and the lines of what ends a program.
+//! Outputs that are written or not, and the lines that say why a program ended.
 
 use crate::{
     Cause, NewFile, Program, Unread, Unwritten, Usage, arguments, as_texts, fail, fail_unread,
@@ -15,7 +15,7 @@ const TEST: Program = Program {
     failed: 7,
 };
 
-/// A terminal that is gone.
+/// A terminal that was closed.
 #[derive(Drop)]
 struct Gone;
 
@@ -29,7 +29,7 @@ impl Write for Gone {
     }
 }
 
-/// What `finish` answers behind a text for this writer.
+/// The result of `finish` after a text was put into the sink over this writer.
 fn finished<W: Write>(
     alloc: Global,
     writer: &mut W,
@@ -42,7 +42,7 @@ fn finished<W: Write>(
     Ok(answer)
 }
 
-/// Run with each allocation refused in turn: the text is handed on, or there was no memory.
+/// Run with each allocation failing in turn: the text is written, or the error is that of memory.
 #[test]
 fn a_text_is_handed_on_or_no_memory(rt: HostRuntime) {
     let mut output = [0; 16];
@@ -63,7 +63,7 @@ fn nothing_is_tried_where_the_sink_is_down(rt: HostRuntime) -> Result<(), Fail> 
     Ok(())
 }
 
-/// Whether a writer takes nothing of a text.
+/// Whether `write_text` writes nothing of a text to this writer.
 fn takes_nothing<W: Write>(alloc: Global, writer: &mut W) -> bool {
     match write_text(alloc, b"some text", writer) {
         Ok(()) => false,
@@ -105,7 +105,7 @@ fn a_line_that_nobody_reads_is_let_go(rt: HostRuntime) {
     assert!(rt; refuse(&mut Gone, TEST, Usage::Words) == 2);
 }
 
-/// Run with each allocation refused in turn: the process has arguments, or there is no memory.
+/// Run with each allocation failing in turn: the process has arguments, or the error is that of memory.
 #[test]
 fn arguments_or_no_memory(rt: HostRuntime) {
     let _ = input_size(&rt);
@@ -116,7 +116,7 @@ fn arguments_or_no_memory(rt: HostRuntime) {
     assert!(rt; answered);
 }
 
-/// Whether there are as many texts as strings, or no memory.
+/// Whether `as_texts` returns as many texts as there are strings, or the error for memory.
 fn is_whole(alloc: Global, arguments: &[String]) -> bool {
     match as_texts(alloc, arguments) {
         Ok(texts) => texts.len() == arguments.len(),
