@@ -45,7 +45,7 @@ lfs_of (suc n) rest stop =
 drop_lfs : (n : ℕ) (rest : List ℕ) → drop n (line_feeds n ++ rest) ≡ rest
 drop_lfs n rest = ap (λ k. drop k (line_feeds n ++ rest)) (sym (lfs_length n)) ∙ drop-append_seam (line_feeds n) rest
 
--- behind the line feeds with which a text begins is what it has after them
+-- after the line feeds with which a text begins is what it has after them
 pub behind_gap : (text rest : List ℕ) (n : ℕ) → IsGap text n → text ≡ first_lfs text ++ rest → drop n text ≡ rest
 behind_gap text rest n gap is =
     let first : first_lfs text ≡ line_feeds n = ap first_lfs gap.spelled ∙ lfs_of n (drop n text) gap.stop in

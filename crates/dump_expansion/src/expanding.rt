@@ -1,4 +1,4 @@
-//! Other nodes in place of some nodes of a dump.
+//! Writes other nodes in place of some nodes of a dump.
 ghost use Rattle.std.specs.Prelude.{◌≡◌, ◌++◌, IfOk, IsTrue, OnOk, map};
 ghost use Rattle.std.specs.List.{list_all};
 ghost use Rattle.dump_records.specs.steps.RecordViews.{record_dump, record_item};
@@ -16,10 +16,10 @@ use dump_records::{Cut, Cutter, Record};
 use dump_rules::Memory;
 use std::alloc::Global;
 
-/// What is written in place of a node of a dump.
+/// The nodes that are written in place of a node of a dump.
 #[derive(Drop)]
 pub struct Stead<'t> {
-    /// Which record of the dump the node is.
+    /// The number of the node's record in the dump.
     pub record_number: u64,
     pub nodes: Vec<NewNode<'t>>,
     /// Whether the node itself follows them.
@@ -40,7 +40,7 @@ impl<'t> Stead<'t> {
     }
 }
 
-/// Whether all nodes of these can be written, as [`expanded`] requires.
+/// Whether all nodes of these can be written. [`expanded`] requires it.
 pub fn can_all_be_written(steads: &[Stead<'_>]) -> bool
     ensures { result ≡ can_all_be_written (map given_of steads.now) }
 {
@@ -52,7 +52,7 @@ pub fn can_all_be_written(steads: &[Stead<'_>]) -> bool
     true
 }
 
-/// Adds the nodes, with one LF after each, or two after a directory or a file.
+/// Appends the nodes, with one LF after each, or two after a directory or a file.
 fn push_nodes(alloc: Global, out: &mut Vec<u8>, nodes: &[NewNode<'_>]) -> Result<(), Memory>
     ensures { OnOk result (out.new.items ≡ out.old.items ++ nodes_text (map written_of nodes.now)) }
 {
@@ -63,7 +63,7 @@ fn push_nodes(alloc: Global, out: &mut Vec<u8>, nodes: &[NewNode<'_>]) -> Result
     Ok(())
 }
 
-/// How many LFs a text begins with.
+/// The number of LFs at the front of a text.
 fn count_lfs(text: &[u8]) -> usize
     ensures { IsGap text.now result }
 {
@@ -77,8 +77,8 @@ fn count_lfs(text: &[u8]) -> usize
     count
 }
 
-/// The byte of the dump at which what is left of a node begins. If the node isn't kept, the empty lines after it aren't
-/// either.
+/// The byte of the dump at which the part begins that remains of a node. If the node isn't kept, the empty lines after
+/// it are removed too.
 fn left_from(dump: &[u8], node: &Record<'_>, keeps: bool) -> usize
     requires { record_dump node.now ≡ dump.now }
     ensures { IsLeftFrom dump.now (record_item node.now) keeps result }
@@ -90,10 +90,10 @@ fn left_from(dump: &[u8], node: &Record<'_>, keeps: bool) -> usize
     after + count_lfs(&dump[after..])
 }
 
-/// A dump with these in place of its nodes, which are given in the order of their record numbers. What is given for a
-/// record that is no node is ignored. So is what is given for a number that isn't greater than the one before it, or that
-/// the dump doesn't have, and all that is given after it. If a node isn't kept, the empty lines after it aren't either. All
-/// else is as it is in the dump, also what comes after its last record if it can't be read to its end.
+/// The dump with these nodes in place of its own. `steads` must be in the order of their record numbers. An element
+/// for a record that is no node is ignored. If a number isn't greater than the one before it, or the dump doesn't have
+/// it, that element and all after it are ignored. If a node isn't kept, the empty lines after it are removed too.
+/// Everything else is copied unchanged, also what comes after the last record that can be read.
 pub fn expanded(alloc: Global, dump: &[u8], steads: &[Stead<'_>]) -> Result<Vec<u8>, Memory>
     requires { IsTrue (can_all_be_written (map given_of steads.now)) }
     ensures records { IfOk result (λ text. IsExpandedBy (map given_of steads.now) dump.now text.items) }

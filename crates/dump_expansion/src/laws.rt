@@ -1,8 +1,8 @@
-//! Laws of what is in place of the changes of a dump, each the contract of a function that does nothing.
+//! Laws of the changes that the new nodes of a dump make. Each law is the contract of a function that does nothing.
 ghost use Rattle.dump_expansion.specs.ByChanges.{SteadsAreByChanges};
 
-/// If what is given is for nodes of a dump, in the order of their record numbers, the changes that are made in place of
-/// those of each revision follow from the numbers of the nodes and from what is given for these.
+/// The new nodes have to be for nodes of a dump, in the order of their record numbers. Then they determine, together
+/// with the numbers of the nodes that they replace, which changes are made in each revision.
 pub fn steads_are_by_changes()
     ensures { SteadsAreByChanges }
 {}

@@ -16,10 +16,10 @@
 //! let text = expanded(alloc, &dump, &steads)?;
 //! ```
 //!
-//! `tests::replaces` runs this. A node that isn't kept is left out with the empty lines after it. All else in the dump is
-//! written as it is, also what can't be read. Whether the new dump loads to the same trees isn't looked at: the caller has to
-//! choose the nodes so.
-//! [`laws::steads_are_by_changes`] says which changes are made in place of those of each revision.
+//! `tests::replaces` runs this. If a node isn't kept, the empty lines after it are removed too.
+//! Everything else in the dump is copied unchanged, even bytes that can't be read. This crate doesn't
+//! check whether the new dump loads to the same trees: the caller has to choose the nodes so that it
+//! does. [`laws::steads_are_by_changes`] says which changes the nodes make in each revision.
 #![tactic(auto)]
 
 mod expanding;

@@ -1,4 +1,4 @@
-//! What no clause says: expanded dumps, compared with what the format says of them, and failures of allocations.
+//! What no contract says: expanded dumps, compared with what the format says about them, and allocations that fail.
 use crate::{Memory, NewNode, NodeKind, NodeProperty, Stead, can_all_be_written, expanded};
 use std::alloc::Global;
 use std::test::Fail;
@@ -10,7 +10,7 @@ Node-path: a/f\nNode-kind: file\nNode-action: add\n\n\nRevision-number: 2\n\n";
 const COPY: &str = "Node-path: b\nNode-kind: dir\nNode-action: add\nNode-copyfrom-rev: 1\n\
 Node-copyfrom-path: a\n\n\n";
 
-/// Which record the copy is.
+/// The number of the record that is the copy.
 const COPY_NUMBER: u64 = 6;
 
 const TAIL: &str = "Revision-number: 3\n\n";
@@ -81,7 +81,7 @@ fn copy(alloc: Global, revision: u64) -> Result<NewNode<'static>, Memory> {
     })
 }
 
-/// The executable file `b` with a line, and perhaps digests of it.
+/// The executable file `b` with a line of text, and with digests of it if they are given.
 fn file(
     alloc: Global,
     replaces: bool,
@@ -106,7 +106,7 @@ fn file(
     })
 }
 
-/// Whether the dump has what is wanted in revision 2, if these nodes replace the copy.
+/// Whether revision 2 of the dump has the nodes `wanted`, if these nodes replace the copy.
 fn replaces(alloc: Global, nodes: Vec<NewNode<'static>>, wanted: &str) -> Result<bool, Memory> {
     let dump = dump_with(alloc, COPY)?;
     let mut steads = Vec::new(alloc);
@@ -157,7 +157,7 @@ fn files_are_written_with_their_text(rt: HostRuntime) -> Result<(), Fail> {
     Ok(())
 }
 
-/// Whether the dump has these nodes in revision 2, if a deletion of `b` is given for this record, which is kept.
+/// Whether revision 2 of the dump has the nodes `wanted`, if a deletion of `b` is put before this record.
 fn precedes(alloc: Global, record_number: u64, wanted: &str) -> Result<bool, Memory> {
     let dump = dump_with(alloc, COPY)?;
     let mut nodes = Vec::new(alloc);

@@ -19,28 +19,29 @@ use dump_rules::Memory;
 use dump_text::{HeaderName, push_block_end, push_header, push_property, spell};
 use std::alloc::Global;
 
-/// A node that is written in place of another. Its paths are written as they are; a dump's own have no leading slash.
+/// A node that is written in place of another. Its paths are written unchanged; the paths of a dump have no leading
+/// slash.
 #[derive(Debug, Drop)]
 pub enum NewNode<'t> {
-    /// What is at the path is deleted.
+    /// Deletes what is at the path.
     Deletion {
         path: Vec<u8>,
     },
-    /// The source, as it is in this revision, is copied to the path, where nothing is.
+    /// Copies the source, as it is in this revision, to the path, where nothing is.
     Copy {
-        /// What kind of node the source is. A load doesn't look at it.
+        /// The kind of node that the source is. A load ignores it.
         kind: NodeKind,
         revision: u64,
         source: Vec<u8>,
         path: Vec<u8>,
     },
-    /// A directory with these properties is made, where nothing is or in place of what is there.
+    /// Makes a directory with these properties, where nothing is or in place of what is there.
     Folder {
         replaces: bool,
         path: Vec<u8>,
         entries: Vec<NodeProperty<'t>>,
     },
-    /// A file with these properties and this text is made, where nothing is or in place of what is there.
+    /// Makes a file with these properties and this text, where nothing is or in place of what is there.
     File {
         replaces: bool,
         path: Vec<u8>,
@@ -55,21 +56,21 @@ pub enum NewNode<'t> {
 /// Numbers and lengths of a dump are less than this.
 const TOO_LONG: u64 = 1_000_000_000_000_000_000;
 
-/// Whether a line can have this value, and `svnadmin load` reads it as it is.
+/// Whether a header line can have this value, and `svnadmin load` reads it unchanged.
 fn is_plain_value(value: &[u8]) -> bool
     ensures { result ≡ is_plain_value value.now }
 {
     !value.contains(&b'\n') && !value.contains(&0)
 }
 
-/// Whether a line can have this path, and `svnadmin load` reads it as it is.
+/// Whether a header line can have this path, and `svnadmin load` reads it unchanged.
 fn is_plain_path(path: &[u8]) -> bool
     ensures { result ≡ is_plain_path path.now }
 {
     is_canonical(path) && is_plain_value(path)
 }
 
-/// Whether a line can have this digest, or there is none.
+/// Whether a header line can have this digest, or there is none.
 fn is_plain_digest(digest: Option<&[u8]>) -> bool
     ensures { result ≡ is_plain_option (option_copied digest.entry) }
 {
@@ -91,7 +92,7 @@ fn are_names_plain(entries: &[NodeProperty<'_>]) -> bool
     true
 }
 
-/// How many bytes these take in a property block, with the line of their length.
+/// The size of these bytes in a property block, with the line of their length.
 fn part_size(bytes: &[u8]) -> u64
     ensures { result ≡ length (sized_text (codes "K") (spelled_number (length bytes.now)) bytes.now) }
 {
@@ -99,7 +100,7 @@ fn part_size(bytes: &[u8]) -> u64
     spell(length).bytes().len() as u64 + length + 4
 }
 
-/// How many bytes the block of these properties has. `u64::MAX` stands for any larger number.
+/// The size of the block of these properties; `u64::MAX` if it is larger than that.
 fn block_size(entries: &[NodeProperty<'_>]) -> u64
     ensures { result ≡ min (length (property_block_text (map as_property entries.now))) (2 ^ 64 - 1) }
 {
@@ -111,7 +112,7 @@ fn block_size(entries: &[NodeProperty<'_>]) -> u64
     size
 }
 
-/// Whether a directory can have these properties, as [`NewNode::can_be_written`] asks.
+/// Whether a directory can have these properties, as [`NewNode::can_be_written`] requires.
 #[tactic(auto, using(crate::proofs::NodeLemmas::plain_entries))]
 fn are_entries_plain(entries: &[NodeProperty<'_>]) -> bool
     ensures { let ps = map as_property entries.now in
@@ -120,7 +121,7 @@ fn are_entries_plain(entries: &[NodeProperty<'_>]) -> bool
     are_names_plain(entries) && block_size(entries) < TOO_LONG
 }
 
-/// Whether a file can have these properties and this text, as [`NewNode::can_be_written`] asks.
+/// Whether a file can have these properties and this text, as [`NewNode::can_be_written`] requires.
 #[tactic(auto, using(crate::proofs::NodeLemmas::plain_entries))]
 fn is_content_plain(entries: &[NodeProperty<'_>], text: &[u8]) -> bool
     ensures { let ps = map as_property entries.now in
@@ -129,7 +130,7 @@ fn is_content_plain(entries: &[NodeProperty<'_>], text: &[u8]) -> bool
     are_names_plain(entries) && block_size(entries).saturating_add(text.len() as u64) < TOO_LONG
 }
 
-/// Adds a header line.
+/// Appends a header line.
 fn push_line(out: &mut Vec<u8>, name: HeaderName, value: &[u8]) -> Result<(), Memory>
     ensures { OnOk result (out.new.items ≡ out.old.items ++ (header_text (line (name_text name) value.now) ++ 10 ∷ [])) }
 {
@@ -139,7 +140,7 @@ fn push_line(out: &mut Vec<u8>, name: HeaderName, value: &[u8]) -> Result<(), Me
     Ok(out.extend_from_slice(b"\n")?)
 }
 
-/// Adds a node that deletes what is at the path.
+/// Appends a node that deletes what is at the path.
 fn push_deletion(out: &mut Vec<u8>, path: &[u8]) -> Result<(), Memory>
     ensures { OnOk result (out.new.items ≡ out.old.items ++ node_bytes (WrittenNode.Deletion path.now)) }
 {
@@ -148,7 +149,7 @@ fn push_deletion(out: &mut Vec<u8>, path: &[u8]) -> Result<(), Memory>
     Ok(out.extend_from_slice(b"\n")?)
 }
 
-/// The word for a kind.
+/// The value of `Node-kind` for a kind.
 fn kind_word(kind: NodeKind) -> &'static [u8]
     ensures { result.now ≡ kind_word (written_kind kind) }
 {
@@ -158,7 +159,7 @@ fn kind_word(kind: NodeKind) -> &'static [u8]
     }
 }
 
-/// Adds a node that copies the source, as it is in this revision, to the path.
+/// Appends a node that copies the source, as it is in this revision, to the path.
 fn push_copy(
     out: &mut Vec<u8>,
     kind: NodeKind,
@@ -189,14 +190,14 @@ fn block_of(alloc: Global, entries: &[NodeProperty<'_>]) -> Result<Vec<u8>, Memo
     Ok(block)
 }
 
-/// The word for what makes something, and replaces what is there or not.
+/// The value of `Node-action` for a node that makes something; `replaces` says whether it replaces what is there.
 fn making_word(replaces: bool) -> &'static [u8]
     ensures { result.now ≡ making_word replaces }
 {
     if replaces { b"replace" } else { b"add" }
 }
 
-/// Adds a node that makes a directory with the properties of this block.
+/// Appends a node that makes a directory with the properties of this block.
 fn push_folder(out: &mut Vec<u8>, replaces: bool, path: &[u8], block: &[u8]) -> Result<(), Memory>
     ensures { (entries : List Property) → block.now ≡ property_block_text entries
         → OnOk result (out.new.items ≡ out.old.items ++ node_bytes (WrittenNode.Folder replaces path.now entries)) }
@@ -211,7 +212,7 @@ fn push_folder(out: &mut Vec<u8>, replaces: bool, path: &[u8], block: &[u8]) -> 
     Ok(out.extend_from_slice(block)?)
 }
 
-/// Adds the line of a digest, if there is one.
+/// Appends the line of a digest, if there is one.
 fn push_digest(out: &mut Vec<u8>, name: HeaderName, digest: Option<&[u8]>) -> Result<(), Memory>
     ensures { OnOk result (out.new.items
         ≡ out.old.items ++ lines_bytes (line_of_some (name_text name) (option_copied digest.entry))) }
@@ -222,7 +223,7 @@ fn push_digest(out: &mut Vec<u8>, name: HeaderName, digest: Option<&[u8]>) -> Re
     }
 }
 
-/// Adds the lines of a file, to the length of its text.
+/// Appends the header lines of a file, up to the length of its text.
 fn push_file_lines(
     out: &mut Vec<u8>,
     replaces: bool,
@@ -240,7 +241,7 @@ fn push_file_lines(
     Ok(push_header(out, HeaderName::TextContentLength.bytes(), text_size)?)
 }
 
-/// Adds a node that makes a file with the properties of this block and this text.
+/// Appends a node that makes a file with the properties of this block and this text.
 fn push_file(
     out: &mut Vec<u8>,
     replaces: bool,
@@ -270,9 +271,10 @@ fn push_file(
 }
 
 impl<'t> NewNode<'t> {
-    /// Whether `svnadmin load` reads the node as it is meant. Its paths have to be canonical, and they, its digests and the
-    /// names of properties without bytes that a line or a name can't have; its revision and the length of its properties,
-    /// with its text, have to be less than 10^18. Whether the digests are those of the text isn't looked at.
+    /// Whether `svnadmin load` reads the node as the caller means it. Its paths must be canonical. Its paths, its
+    /// digests and the names of its properties may only have bytes that a header line or a name can have. Its
+    /// revision, and the length of its properties and its text, must be less than 10^18. This function doesn't check
+    /// whether the digests are those of the text.
     pub fn can_be_written(&self) -> bool
         ensures { result ≡ can_be_written (written_of self.now) }
     {
@@ -303,7 +305,7 @@ impl<'t> NewNode<'t> {
         }
     }
 
-    /// Adds its bytes, to the end of its properties or its text.
+    /// Appends its bytes, up to the end of its properties or its text.
     pub fn write(&self, alloc: Global, out: &mut Vec<u8>) -> Result<(), Memory>
         ensures { OnOk result (out.new.items ≡ out.old.items ++ node_bytes (written_of self.now)) }
     {
@@ -337,7 +339,7 @@ impl<'t> NewNode<'t> {
         }
     }
 
-    /// The empty lines that are written after it.
+    /// The empty lines that follow it in a dump.
     pub(crate) fn end(&self) -> &'static [u8]
         ensures { result.now ≡ line_feeds (lfs_after (written_of self.now)) }
     {

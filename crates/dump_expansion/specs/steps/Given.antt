@@ -1,4 +1,4 @@
--- What the code gives to be in place of nodes.
+-- The nodes that the code writes in place of others.
 use Rattle.std.specs.Prelude.{Bool, List, map}
 use Rattle.std.specs.List.{list_all}
 use Rattle.dump_history.specs.WrittenNodes.{can_be_written}
@@ -6,7 +6,7 @@ use Rattle.dump_expansion.specs.GivenSteads.{GivenStead}
 use Rattle.dump_expansion.specs.steps.NewNodes.{written_of}
 use Rattle.dump_expansion.specs.declared.expanding.Stead as code
 
--- what is given
+-- a stead of the code, as a value of the definitions
 abbrev pub given_of : code.Stead → GivenStead
 given_of s = record {
   number = s.record_number;
@@ -14,6 +14,6 @@ given_of s = record {
   keeps = s.keeps;
 }
 
--- whether all nodes that are given can be written
+-- whether all nodes of these can be written
 abbrev pub can_all_be_written : List GivenStead → Bool
 can_all_be_written given = list_all (λ (g : GivenStead). list_all can_be_written g.nodes) given

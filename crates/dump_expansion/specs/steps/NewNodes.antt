@@ -1,4 +1,4 @@
--- The nodes that are written in place of others, as the format knows them.
+-- The nodes that are written in place of others, as values of the format.
 use Rattle.std.specs.Prelude.{map, option_copied}
 use Rattle.dump_history.specs.WrittenNodes as format
 use Rattle.dump_index.specs.declared.change.NodeKind.{NodeKind}
@@ -12,7 +12,7 @@ abbrev pub written_kind : NodeKind → format.NodeKind
 written_kind kinds.Folder = format.NodeKind.Dir
 written_kind kinds.File = format.NodeKind.File
 
--- the node that is meant
+-- the node that the code writes, as such a value
 abbrev pub written_of : NewNode → format.WrittenNode
 written_of (nodes.Deletion path) = format.WrittenNode.Deletion path.items
 written_of (nodes.Copy kind revision source path) =
