@@ -86,11 +86,11 @@ some_value : {A : Type 0} (o : Option A) → is_some o ≡ true → (x : A) × (
 some_value (Some x) is = (x, refl)
 some_value None is = absurd (let bad : false ≡ true = is in cc)
 
--- paths to delete behind each kept node
+-- paths to delete after each kept node
 abbrev pub Deletes : Type 0
 Deletes = List (List (List ℕ))
 
--- changes are listed as they are, where revisions are numbered
+-- changes are listed unchanged if revisions are numbered one by one
 known_numbered : (records : List DumpRecord) (changes : List NodeChange) (listed : List Listed)
     → are_numbered records ≡ true → AreKnownAs records changes listed → map listed_of changes ≡ listed
 known_numbered records changes listed numbered known =
@@ -103,20 +103,21 @@ read_numbered patched records revisions makes =
     and_from (list_any is_revision_record records) (counts_from 0 (revision_numbers records))
     (has_revision patched records revisions makes) makes.numbered
 
--- deletes that are found say this of the copies
+-- the deletes that are found, and what they say about the copies
 pub found_copies : (excluded : List NodePath) (told : ToldKinds) (placed : List Placed)
     (found : Result (Option (List (List (List ℕ)))) ℕ) (deletes : Option (List (List (List ℕ)))) → found ≡ Ok deletes
     → AreDeletesIfAny excluded told placed found → AreCopiesTaken excluded told placed deletes
 found_copies excluded told placed found deletes is are = subst (AreDeletesIfAny excluded told placed) is are
 
--- there are some where the filter doesn't take a change
+-- there are deletes if the filter doesn't take a change as it is
 pub not_taken : (excluded : List NodePath) (told : ToldKinds) (placed : List Placed) (found : Option ℕ)
     → IsFirstNotTaken excluded told placed found → is_none found ≡ false
     → (place : ℕ) × IsFirstNotTaken excluded told placed (Some place)
 not_taken excluded told placed None first some = absurd (let bad : true ≡ false = some in cc)
 not_taken excluded told placed (Some place) first some = (place, first)
 
--- lines of mergeinfo stay by the cut, where siblings cover what they name beside it
+-- the filter keeps a line of mergeinfo exactly if its path is in the cut, if the siblings cover the other paths that
+-- mergeinfo names
 lines_by_cut : (settings : Settings) (included siblings : List NodePath) (dump : List ℕ) (records : List DumpRecord)
     → HasRecords dump records Ending.Whole → ExcludesPaths settings siblings → list_all (is_sibling included) siblings ≡ true
     → CoverMergeinfo included siblings dump → MergeinfoStaysByCut settings included records
@@ -205,7 +206,7 @@ module _ (m : CutMeaning) (dump : List ℕ) (settings : Settings) (records : Lis
           set_up.excludes.side (no_gap true drops);
     }
 
-  -- deletes stand behind some copies
+  -- deletes follow some copies
   module _ (deletes : Deletes) (set_up : IsSetUp m excluded (map listed_of changes) settings (Some deletes))
       (trims : IsTrimmedBy deletes filtered text) where
     trims_dump : LengthsFit settings records
@@ -278,7 +279,7 @@ module _ (m : CutMeaning) (dump : List ℕ) (settings : Settings) (records : Lis
   its_tells : TellsKinds its_told root_alone (placed_from 1 revisions)
   its_tells = index_tells_kinds changes (placed_from 1 revisions) listed
 
-  -- the paths to which copies are followed until they lead nowhere are the least set
+  -- the paths after copies are followed until no new path comes are the least set
   closure : (way : Way) (paths : List NodePath) (asked : FollowsAsAsked m (map listed_of changes) way paths)
       → LeadsNowhere way (map listed_of changes) paths → IsClosureOf way trees revisions asked.first paths
   closure way paths asked nowhere =
@@ -451,7 +452,7 @@ module _ (m : CutMeaning) (dump : List ℕ) (settings : Settings) (deletes : Opt
         renumbered = written.renumbered;
       }
 
-  -- the dump loads, where its deltas apply
+  -- the dump loads if its deltas apply
   loaded : (patched : Patching) (revisions : List (List Change)) → MakeRevisions patched records revisions
       → AreListed its.changes (placed_from 1 revisions)
       → all_apply root_alone (placed_from 1 revisions) (length (placed_from 1 revisions)) ≡ true
@@ -502,7 +503,7 @@ module _ (m : CutMeaning) (dump : List ℕ) (expansion : Option (List ℕ)) (set
   cuts_ready writes =
       inl (expansion, settings, deletes, part, ready, clean_texts_are_cuts m dump expansion settings deletes ready, writes)
 
-  -- also in a trial, of which the writer keeps what it has
+  -- also in a dry run, which leaves the writer's bytes unchanged
   pub tries_cut : m.dry_run ≡ true
       → WritesBoth (asked_map m) settings deletes m.after read_text None None map_old map_new status
       → CutsDump m dump old old map_old map_new status

@@ -1,4 +1,4 @@
--- A run with its last line, and what is told once its last bytes are handed on.
+-- A run with its last line, and what is reported once its last bytes are written.
 use Rattle.std.proofs.Common.{◌≡◌, ℕ, true, false, List, [], ◌++◌, take, drop, Option, Some, None, Result, Ok, Err, refl, ◌⊎◌, OnErr, OnOk, ◌||◌, is_some, sym, subst, inl, inr, append_assoc, ap, ◌∙◌}
 use Rattle.std.proofs.KnownBytes.{Appends-kept, Appends-trans}
 use Rattle.std.proofs.lemmas.List.{append-nil, take-append-drop}
@@ -37,7 +37,7 @@ pub same_part : {A E : Type 0} (r : Result A E) (old new : Option (List ℕ)) (t
     → OnErr r (TakesPart old new text) → OnErr r (TakesPart old new line)
 same_part r old new text line same part = subst (λ t. OnErr r (TakesPart old new t)) same part
 
--- bytes that come where nothing waits
+-- bytes that come if the buffer is empty
 module _ {A E : Type 0} (r : Result A E) (a d : Option (List ℕ)) (waiting piece all : List ℕ) (none : waiting ≡ [])
     (same : piece ≡ all) where
   pub moved_whole : OnOk r (Appends (append_known a waiting) d piece) → OnOk r (Appends (append_known a []) d all)
@@ -63,7 +63,7 @@ module _ (answer : Answer) (sent : List ℕ) (a d : Option (List ℕ)) (sink : L
         appended,
       )
 
-  -- bytes with what is told once they are written
+  -- bytes with what is reported once they are written
   pub told_after : {A : Type 0} (ending : Result A Failure) (told : Answer)
       → OnOk ending (Appends (append_known a []) d (sent ++ stop_line_of answer))
       → OnErr ending (TakesPart (append_known a []) d (sent ++ stop_line_of answer))
@@ -91,7 +91,7 @@ module _ (answer : Answer) (sent : List ℕ) (a d : Option (List ℕ)) (sink : L
         told_is = is;
       })
 
--- a run with what is told after it
+-- a run with what is reported after it
 pub ran_and_told : (settings : Settings) (dump : List ℕ) (answer : Answer) (a b d : Option (List ℕ)) (sink : LentState)
     → RunLeaves settings dump (append_known a []) b answer → Keeps d (lent_taken sink) → sink.out.start ≡ a
     → {A : Type 0} (ending : Result A Failure) (told : Answer)
@@ -115,7 +115,7 @@ ran_and_told settings dump answer a b d sink ran kept start ending told whole pa
       Appends-trans (append_known a []) b d ran.received first ran.appended more,
     )
 
--- what is sent of a run that left this in memory that was empty
+-- what is written after a run that left this in a memory that was empty
 pub in_memory : (settings : Settings) (deletes : Option (List (List (List ℕ)))) (after : Option ℕ)
     (dump filtered sent : List ℕ) (answer : Answer) → (is_some deletes || is_some after) ≡ true
     → RunLeaves settings dump (Some []) (Some filtered) answer → IsKeptOf deletes after filtered sent answer
@@ -126,13 +126,13 @@ in_memory settings None (Some number) dump filtered sent answer asked ran kept =
 in_memory settings (Some deletes) after dump filtered sent answer asked ran kept =
     (filtered, subst (λ bytes. IsRunAnswer settings dump bytes answer) (sym ran.appended) ran.answered, kept)
 
--- of a run with a fault nothing is sent
+-- after a run with a fault nothing is written
 pub nothing_kept : (deletes : Option (List (List (List ℕ)))) (after : Option ℕ) (filtered : List ℕ) (answer : Answer)
     (kind : FaultKind) (number place : ℕ) → answer ≡ Fault kind number place → IsKeptOf deletes after filtered [] answer
 nothing_kept deletes after filtered answer kind number place is =
     subst (λ a. IsKeptOf deletes after filtered [] a) (sym is) refl
 
--- a cut, or its part, is sent of what a clean run left in memory; or nothing is
+-- a cut, or its part, is written of what a run without a fault left in memory; or nothing is
 module _ (deletes : Option (List (List (List ℕ)))) (after : Option ℕ) (filtered : List ℕ) (report : Report)
     (old new : Option (List ℕ)) (told : Answer) where
   abbrev pub IsSentOf : List ℕ → Type 0
@@ -159,7 +159,7 @@ module _ (deletes : Option (List (List (List ℕ)))) (after : Option ℕ) (filte
   })
   ran_and_sent settings dump answer asked ran is (inr failed) = inr failed
 
--- a run without deletes, of which all is written
+-- a run without deletes, whose whole text is written
 pub ran_plain : (settings : Settings) (deletes : Option (List (List (List ℕ)))) (after : Option ℕ) (dump : List ℕ)
     (old new : Option (List ℕ)) (told : Answer) → (is_some deletes || is_some after) ≡ false
     → RanCut settings None None dump old new told → RanCut settings deletes after dump old new told

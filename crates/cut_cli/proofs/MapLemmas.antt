@@ -5,7 +5,7 @@ use Rattle.dump_cut.specs.steps.OpenRevisions.{AreFatesIn}
 use Rattle.dump_cut.specs.declared.fates.RevisionFate.{RevisionFate}
 use Rattle.cut_cli.specs.RevisionMap.{IsMapOfCut, fate_line, fate_lines, has_line, last_behind, loaded_number}
 
--- what is known behind some of the lines: the others come behind them, and the last number is at most that of the lines
+-- what is known after some of the lines: the others come after them, and the last number is at most that of the lines
 pub record LinesSoFar (after : Option ℕ) (fates left : List RevisionFate) (last : Option ℕ) (text : List ℕ) : Type 0 where
   pub lines : fate_lines after None fates ≡ text ++ fate_lines after last left
   pub few : unwrap_or last 0 + length left ≤ length fates
@@ -17,7 +17,7 @@ no_lines after fates left last text all none empty = record {
   few = rw all (rw none (omega arith));
 }
 
--- a number that is given is at most one above the last
+-- the number that a load gives is at most one above the last
 last_grows : (last : Option ℕ) (fate : RevisionFate) → unwrap_or (last_behind last fate) 0 ≤ unwrap_or last 0 + 1
 last_grows last fate = by fate.stays
   where

@@ -312,7 +312,7 @@ begun = refl
 unasked : (settings : Settings) → ¬ EndsMap None None settings [] (Some []) (Some []) false
 unasked settings (kept, e) = cc
 
--- behind a fault the file stays as it is
+-- after a fault the file stays as it is
 no_map_behind_a_fault : (settings : Settings) → FollowsCut (Some (codes "m")) None settings [] (Some []) (Some []) 1 1
 no_map_behind_a_fault settings = (refl, refl)
 

@@ -1,4 +1,4 @@
-//! The command that the arguments after the side are read by.
+//! The command that parses the arguments after the side.
 ghost use Rattle.std.specs.Prelude.{◌≡◌, IfOk};
 ghost use Rattle.clap.specs.Words.{app_of};
 ghost use Rattle.cut_cli.specs.CommandLine.{cut_command};
@@ -7,7 +7,7 @@ use clap::Command;
 use cli_support::{any_prefixes, repeated, switch, valued, window, workers};
 use std::alloc::{AllocError, Global};
 
-/// The options and the prefixes. It has no subcommands: the side is no argument of it.
+/// The options and the prefixes. The side is no argument of the command.
 pub fn cut_command<'a>(alloc: Global) -> Result<Command<'a>, AllocError>
     ensures { IfOk result (λ c. app_of c ≡ cut_command) }
 {

@@ -1,4 +1,4 @@
-//! The whole program, over any reader and writers.
+//! The whole program, with any reader and writers.
 ghost use Rattle.std.specs.Prelude.{◌≡◌, ◌⊎◌, ◌||◌, [], IfOk, OnErr, OnOk, is_some, map};
 ghost use Rattle.std.specs.Io.KnownBytes.{Appends, Keeps};
 ghost use Rattle.dump_writer.specs.steps.SinkStates.{lent_taken, loan_of};
@@ -34,14 +34,14 @@ use std::io::{self, Read, Write};
 use std::sync::Wait;
 use std::thread::Threads;
 
-/// How the lines name the program, and the status of a failure.
+/// The name of the program in its lines, and the status of a failure.
 pub const PROGRAM: Program = Program {
     name: "svndumpcut",
     failed: 1,
 };
 
-/// The whole program, with its exit status. The reader is thought to have so many bytes; the number spares growing and has
-/// no other meaning.
+/// Runs the whole program, and returns its exit status. `size` is a guess of the size of the input. A right guess
+/// avoids that the buffer grows; it has no other effect.
 pub fn drive<
     'a,
     H: Threads + Wait + Sync,
@@ -71,7 +71,7 @@ pub fn drive<
     }
 }
 
-/// The same of arguments that ask for no text.
+/// The same, if the arguments ask neither for help nor for the version.
 fn drive_cut<
     'a,
     H: Threads + Wait + Sync,
@@ -101,7 +101,7 @@ fn drive_cut<
     }
 }
 
-/// Cuts as the call asks for, with the prefixes in its files.
+/// Makes the cut for which the call asks, with the prefixes in its files.
 fn answer_files<
     H: Threads + Wait + Sync,
     F: NamedFiles,
@@ -135,7 +135,7 @@ fn answer_files<
     }
 }
 
-/// The same if the call has all prefixes.
+/// The same, if the call has all its prefixes.
 fn answer_whole<H: Threads + Wait + Sync, R: Read, W: Write, M: NamedOutput, E: Write>(
     rt: &H,
     alloc: Global,
@@ -155,7 +155,7 @@ fn answer_whole<H: Threads + Wait + Sync, R: Read, W: Write, M: NamedOutput, E: 
     answer_call(rt, alloc, call, size, reader, writer, map_file, errors)
 }
 
-/// Cuts the whole input, as the call asks for.
+/// Cuts the whole input, as the call asks.
 fn answer_call<H: Threads + Wait + Sync, R: Read, W: Write, M: NamedOutput, E: Write>(
     rt: &H,
     alloc: Global,
@@ -174,7 +174,7 @@ fn answer_call<H: Threads + Wait + Sync, R: Read, W: Write, M: NamedOutput, E: W
     cut_input(rt, alloc, call, size, reader, writer, map_file, errors)
 }
 
-/// Cuts the whole input, if the file of the map is there.
+/// Cuts the whole input, if the file of the map could be created.
 fn cut_input<H: Threads + Wait + Sync, R: Read, W: Write, M: NamedOutput, E: Write>(
     rt: &H,
     alloc: Global,
@@ -224,7 +224,7 @@ fn cut<H: Threads + Wait + Sync, W: Write, M: NamedOutput, E: Write>(
     }
 }
 
-/// The status if nothing is written.
+/// The exit status if nothing is written.
 fn obstacle_status(obstacle: Obstacle) -> u8
     ensures { result ≡ obstacle_status obstacle }
 {
@@ -234,7 +234,7 @@ fn obstacle_status(obstacle: Obstacle) -> u8
     }
 }
 
-/// Filters a dump that is ready, writes the map after it, and says how it ended.
+/// Filters a dump that is ready, then writes the map, and reports how it ended.
 fn write_cut<H: Threads + Wait + Sync, W: Write, M: NamedOutput, E: Write>(
     rt: &H,
     alloc: Global,
@@ -281,14 +281,14 @@ fn filter_cut<H: Threads + Wait + Sync, W: Write>(
     answer
 }
 
-/// Whether what the filter writes is kept in memory before it is written.
+/// Whether the output of the filter is kept in memory before the cut is written.
 fn is_kept_back(deletes: &Option<Deletes>, after: Option<u64>) -> bool
     ensures { result ≡ (is_some deletes.now || is_some after) }
 {
     deletes.is_some() || after.is_some()
 }
 
-/// Runs the filter, with the deletes after its nodes, and writes all of the cut or its part after a revision.
+/// Runs the filter, and writes the cut with the deletes after its nodes, or the part of it after a revision.
 fn run_cut<H: Threads + Wait + Sync, W: Write>(
     rt: &H,
     alloc: Global,
@@ -312,7 +312,7 @@ fn run_cut<H: Threads + Wait + Sync, W: Write>(
     run_and_flush(rt, alloc, dump, options, call.plan, sink)
 }
 
-/// Runs the filter, and hands on all that waits after the run.
+/// Runs the filter, and writes the bytes that are still in the buffer.
 fn run_and_flush<H: Threads + Wait + Sync, W: Write>(
     rt: &H,
     alloc: Global,
@@ -331,7 +331,7 @@ fn run_and_flush<H: Threads + Wait + Sync, W: Write>(
     flush_after(sink, answer, ending)
 }
 
-/// The line that ends the output if the filter found a fault. No reader of dumps takes it for a record.
+/// The line that ends the output if the filter found a fault. No reader of dumps mistakes it for a record.
 fn ending(alloc: Global, kind: FaultKind) -> Result<Vec<u8>, io::Error>
     ensures { IfOk result (λ line. line.items ≡ stop_line kind) }
 {
@@ -341,7 +341,7 @@ fn ending(alloc: Global, kind: FaultKind) -> Result<Vec<u8>, io::Error>
     Ok(line)
 }
 
-/// Writes that line, if the filter found a fault.
+/// Writes this line, if the filter found a fault.
 pub(crate) fn write_ending<S: Sink>(
     alloc: Global,
     answer: Answer,
@@ -364,7 +364,7 @@ pub(crate) fn write_ending<S: Sink>(
     write_whole(sink, &piece)
 }
 
-/// Writes a piece, or a first part of it before the sink failed.
+/// Writes a piece; if the sink fails, it has taken a first part of the piece.
 pub(crate) fn write_whole<S: Sink>(sink: &mut S, piece: &Piece<'_>) -> Result<(), Failure>
     ensures whole { OnOk result (Appends (S.taken sink.old) (S.taken sink.new) piece.now) }
     ensures part { OnErr result (TakesPart (S.taken sink.old) (S.taken sink.new) piece.now) }
@@ -376,7 +376,8 @@ pub(crate) fn write_whole<S: Sink>(sink: &mut S, piece: &Piece<'_>) -> Result<()
     }
 }
 
-/// Hands on all that waits after a run and its last line, unless the sink failed: then no more is tried.
+/// Writes the bytes that are in the buffer after a run and its last line. If the sink has failed, nothing more is
+/// written.
 pub(crate) fn flush_after<W: Write>(
     sink: &mut OutMut<'_, W>,
     answer: Answer,
@@ -411,7 +412,7 @@ fn is_sink_down(answer: Answer) -> bool {
     )
 }
 
-/// The line of an answer, and the status.
+/// Writes the line of an answer, and returns the status.
 fn tell<E: Write>(errors: &mut E, dump: &[u8], answer: Answer, call: &Call<'_>, ready: &Ready) -> u8
     ensures { result ≡ cut_status answer }
 {
@@ -435,7 +436,8 @@ fn tell<E: Write>(errors: &mut E, dump: &[u8], answer: Answer, call: &Call<'_>, 
     }
 }
 
-/// The number that a load gives the last of the kept revisions of a dump, so many: it counts from 1 on, but for revision 0.
+/// The number that a load gives to the last of `kept` revisions of a dump: it counts from 1, except that revision 0
+/// stays 0.
 fn youngest(dump: &[u8], kept: u64) -> u64 {
     match first_revision(dump) {
         Some(0) => kept.saturating_sub(1),
@@ -443,7 +445,7 @@ fn youngest(dump: &[u8], kept: u64) -> u64 {
     }
 }
 
-/// The number of the record of the dump, where the filter read the record with this number.
+/// The number of the dump's record for the record with this number of the text that the filter read.
 fn given_number(expansion: &Option<Expansion>, number: u64) -> u64 {
     match expansion {
         Some(expansion) => expansion.given_number(number),
@@ -451,7 +453,7 @@ fn given_number(expansion: &Option<Expansion>, number: u64) -> u64 {
     }
 }
 
-/// How the line of a failure names it.
+/// The name of a failure in its line.
 fn cause(failure: Failure) -> Cause {
     match failure {
         Failure::Sink => Cause::Sink,

@@ -1,4 +1,4 @@
-//! Whether the same call cuts the revisions before a part as the cut of the whole dump does.
+//! Whether the call cuts the revisions before its part in the same way as those of a dump that ends there.
 ghost use Rattle.std.specs.Prelude.{IfOk, IsTrue, MatchBool, map};
 ghost use Rattle.std.specs.List.{list_all};
 ghost use Rattle.dump_trees.specs.Paths.{names_of};
@@ -16,7 +16,8 @@ use dump_index::ChangeIndex;
 use std::alloc::Global;
 use std::io::{self, Write};
 
-/// Where a cut that excludes these paths differs, up to this revision, from the cut of the dump up to there.
+/// The paths at which the cut that excludes these paths differs, up to this revision, from the cut of the dump that
+/// ends there.
 fn differences_before(
     alloc: Global,
     dump: &[u8],
@@ -31,12 +32,12 @@ fn differences_before(
 {
     let first = first_part(dump, number);
     let index = index.up_to(alloc, number)?;
-    // what this excludes was reported when it was loaded
+    // what this call excludes there was reported when those revisions were cut
     let asked = ask_paths(alloc, first, &index, call, &mut io::sink())?;
     cut_differences(alloc, first, &index, excluded, &asked.excluded)
 }
 
-/// Reports where the cut differs up to a revision: the topmost of these paths.
+/// Reports where the two cuts differ up to a revision: the topmost of these paths.
 fn report_differences<E: Write>(
     alloc: Global,
     call: &Call<'_>,
@@ -53,8 +54,8 @@ fn report_differences<E: Write>(
     Ok(())
 }
 
-/// Whether the call follows copies, and writes the part after a revision, up to which the cut of the dump differs from the cut of the
-/// dump up to there. It reports where.
+/// Whether the call follows copies and writes the part after a revision, and the cut up to this revision differs from
+/// the cut of a dump that ends there. It reports where.
 pub fn cuts_otherwise<E: Write>(
     alloc: Global,
     dump: &[u8],

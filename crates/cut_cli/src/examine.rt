@@ -1,4 +1,4 @@
-//! What is found out of a dump before anything is written.
+//! Examines a dump before anything is written.
 ghost use Rattle.std.specs.Prelude.{◌≡◌, List, IfOk, IsTrue};
 ghost use Rattle.std.specs.List.{AllZip, list_all};
 ghost use Rattle.dump_records.specs.DumpText.{Ending, HasRecords};
@@ -36,22 +36,22 @@ use dump_rules::{Options, Side};
 use std::alloc::Global;
 use std::io::Write;
 
-/// Why nothing is written.
+/// Why the program writes nothing.
 #[derive(Clone, Copy, Debug, PartialEq, Eq)]
 pub enum Obstacle {
-    /// The changes of the dump aren't known.
+    /// The changes of the dump can't be read.
     Unread(Unread),
     /// `svnadmin load` would reject a change of the dump.
     Refused(Refused),
-    /// There is no part of the dump after the revision that the call names.
+    /// The dump has no part after the revision that the call names.
     NoPart(NoPart),
-    /// The call follows copies, and cuts the revisions before its part differently than a call for these alone.
+    /// The call follows copies, and a call for the revisions before its part alone would cut them in another way.
     CutsOtherwise,
     /// Copies would bring excluded content back.
     ComesBack,
-    /// The change at this place is a copy, after which a path would have to be deleted that no line of a dump can hold.
+    /// After the change at this place, which is a copy, a path should be deleted that no header line can have.
     OddDelete(usize),
-    /// Nothing can be written in place of a copy that comes from a path that isn't included.
+    /// No nodes can be written in place of a copy that comes from a path that isn't included.
     NotAdded(NotAdded),
 }
 
@@ -60,16 +60,16 @@ pub enum Obstacle {
 pub struct Ready {
     /// The options of the filter that writes the cut.
     pub options: Options,
-    /// The paths to delete after each node that the filter keeps; none if it has to delete nothing.
+    /// The paths to delete after each node that the filter keeps; `None` if there are none.
     pub deletes: Option<Deletes>,
-    /// What the summary counts of the revisions that are written.
+    /// The counts for the revisions that are written.
     pub counts: Counts,
-    /// What the filter reads in place of the dump, if something excluded comes back there.
+    /// The text that the filter reads instead of the dump, if excluded content comes back in the dump.
     pub expansion: Option<Expansion>,
 }
 
 impl Ready {
-    /// What the filter reads.
+    /// The text that the filter reads.
     pub fn text<'a>(&'a self, dump: &'a [u8]) -> &'a [u8]
         ensures { result.now ≡ text_read (expansion_text self.now.expansion) dump.now }
     {
@@ -84,11 +84,11 @@ impl Ready {
 #[derive(Drop)]
 pub(crate) struct Asked {
     pub excluded: Excluded,
-    /// The paths that it includes, under include.
+    /// The paths that it includes, under `include`.
     pub included: Option<Excluded>,
 }
 
-/// How many revisions have changes, and all of them at excluded paths.
+/// How many revisions have changes, all of them at excluded paths.
 fn count_emptied(excluded: &Excluded, changes: &[NodeChange<'_>]) -> u64 {
     let mut emptied: u64 = 0;
     let mut revision = 0;
@@ -113,7 +113,7 @@ fn count_kept(excluded: &Excluded, changes: &[NodeChange<'_>]) -> usize {
     kept
 }
 
-/// How many paths are deleted after copies, without those after the first kept nodes.
+/// How many paths are deleted after copies, not counting those after the first kept nodes.
 fn count_deletes(deletes: &Option<Deletes>, first: usize) -> usize {
     let mut count: usize = 0;
     if let Some(deletes) = deletes {
@@ -124,7 +124,7 @@ fn count_deletes(deletes: &Option<Deletes>, first: usize) -> usize {
     count
 }
 
-/// What the summary counts of the revisions that are written.
+/// The counts for the revisions that are written.
 fn counts_of(
     index: &ChangeIndex<'_>,
     excluded: &Excluded,
@@ -162,7 +162,7 @@ fn way_of(side: Side) -> Way {
     }
 }
 
-/// How many paths `--follow-copies` would follow copies to.
+/// How many paths `--follow-copies` would add.
 fn count_additions(alloc: Global, index: &ChangeIndex<'_>, call: &Call<'_>) -> Result<usize, Memory>
     requires { IsTrue (list_all has_named_paths index.now) }
 {
@@ -196,7 +196,7 @@ fn report_returns<E: Write>(
     Ok(())
 }
 
-/// The paths that the call names, and those to which copies are followed from there, if it asks for that. It reports these.
+/// The paths that the call names, and if it follows copies, those to which it follows them. It reports the latter.
 fn followed<E: Write>(
     alloc: Global,
     index: &ChangeIndex<'_>,
@@ -216,7 +216,8 @@ fn followed<E: Write>(
     Ok(paths)
 }
 
-/// The siblings of what the call includes. It reports which sources of copies are included too, and which parents are files.
+/// The siblings of what the call includes. It reports which sources of copies are included too, and which parents are
+/// files.
 fn leave_included<E: Write>(
     alloc: Global,
     dump: &[u8],
@@ -257,7 +258,7 @@ pub(crate) fn ask_paths<E: Write>(
     }
 }
 
-/// Lists what is excluded beside included paths.
+/// Lists the excluded siblings of included paths.
 fn report_siblings<E: Write>(
     alloc: Global,
     excluded: &Excluded,
@@ -271,7 +272,7 @@ fn report_siblings<E: Write>(
     Ok(())
 }
 
-/// The paths to delete after each kept change; none if each copy loses nothing. It reports them.
+/// The paths to delete after each kept change; `None` if there are none. It reports them.
 fn look_for_deletes<E: Write>(
     alloc: Global,
     index: &ChangeIndex<'_>,
@@ -302,7 +303,7 @@ fn look_for_deletes<E: Write>(
     }
 }
 
-/// How a filter that excludes these paths, and deletes after copies, writes the cut.
+/// How to write the cut with a filter that excludes these paths, and with deletes after copies.
 fn prepare<E: Write>(
     alloc: Global,
     index: &ChangeIndex<'_>,
@@ -328,7 +329,7 @@ fn prepare<E: Write>(
     }))
 }
 
-/// How a dump with additions is cut, in place of one where this comes back of what the call excludes; none if that can't be. It
+/// How to cut a dump with additions, instead of a dump where these paths come back; `None` if that isn't possible. It
 /// reports what is added.
 fn prepare_expanded<E: Write>(
     alloc: Global,
@@ -368,7 +369,7 @@ fn prepare_expanded<E: Write>(
     }
 }
 
-/// Looks at the changes of a dump that loads, where this comes back of what the call excludes.
+/// Examines the changes of a dump that loads, in which these excluded paths come back.
 fn examine_returns<E: Write>(
     alloc: Global,
     dump: &[u8],
@@ -394,7 +395,7 @@ fn examine_returns<E: Write>(
     Ok(Err(Obstacle::ComesBack))
 }
 
-/// Looks at the changes of a dump that loads.
+/// Examines the changes of a dump that loads.
 fn examine_changes<E: Write>(
     alloc: Global,
     dump: &[u8],
@@ -418,8 +419,8 @@ fn examine_changes<E: Write>(
     examine_returns(alloc, dump, index, &asked, call, &returns, errors)
 }
 
-/// Looks at the changes of a dump up to the record at which its reading stops: the first change that a load would
-/// reject comes before that.
+/// Examines the changes of a dump up to the record at which its reading stops. If a load would reject a change, the
+/// first such change is before that record.
 fn examine_front<E: Write>(
     alloc: Global,
     dump: &[u8],
@@ -458,7 +459,7 @@ fn no_part(dump: &[u8], call: &Call<'_>) -> Option<NoPart>
     }
 }
 
-/// Looks whether the dump loads, what the call excludes of it, and whether the filter can write the cut. It reports what
+/// Examines whether the dump loads, what the call excludes, and whether the filter can write the cut. It reports what
 /// it finds.
 pub fn examine<E: Write>(
     alloc: Global,

@@ -1,4 +1,5 @@
-//! The dump that the filter reads where something excluded comes back: other nodes are in place of the copies that bring it.
+//! The dump that the filter reads if excluded content comes back. In it, other nodes replace the copies that bring it
+//! back.
 ghost use Rattle.std.specs.Prelude.{IfOk, IsTrue, MatchBool, MatchOption, MatchResult};
 ghost use Rattle.clap.specs.Walk.{is_empty};
 ghost use Rattle.std.specs.List.{list_all};
@@ -15,11 +16,11 @@ use dump_expansion::{Stead, expanded};
 use dump_index::ChangeIndex;
 use std::alloc::Global;
 
-/// A node of the dump in place of which others are written, or before which one is.
+/// A node of the dump that other nodes replace, or before which one is added.
 #[derive(Clone, Copy, Debug, PartialEq, Eq)]
 pub struct Replaced {
     pub record_number: u64,
-    /// How many nodes are in its place, with itself if it is kept.
+    /// How many nodes replace it, with itself if it is kept.
     pub nodes: usize,
 }
 
@@ -27,13 +28,13 @@ pub struct Replaced {
 #[derive(Drop)]
 pub struct Expansion {
     pub text: Vec<u8>,
-    /// Which nodes these are, in the order of the dump.
+    /// The nodes that are replaced, in the order of the dump.
     pub replaced: Vec<Replaced>,
 }
 
 impl Expansion {
-    /// The number of the record of the dump to which the record of the text with this number belongs: the same record, or the
-    /// one in whose place it is.
+    /// The number of the dump's record for the record of the new text with this number: the same record, or the one
+    /// that it replaces.
     pub fn given_number(&self, number: u64) -> u64 {
         let mut more: u64 = 0;
         for one in &self.replaced {
@@ -51,7 +52,7 @@ impl Expansion {
     }
 }
 
-/// In place of which nodes others are, and how many.
+/// The nodes that these replace, and how many nodes replace each.
 fn replaced_by(alloc: Global, steads: &[Stead<'_>]) -> Result<Vec<Replaced>, Memory> {
     let mut replaced = Vec::new(alloc);
     for stead in steads {
@@ -76,8 +77,8 @@ pub fn returns_of<'e>(
     all_followed(alloc, index, excluded, Way::ToCopies)
 }
 
-/// The dump with additions in place of each copy with which something excluded comes back, and deletes before the other copies
-/// over something; or the first copy for which these can't be written, and why.
+/// The dump with additions in place of each copy that brings back excluded content, and with deletes before the other
+/// copies to a path where something is. If that can't be written for some copy, the first such copy, and why.
 pub fn with_additions(
     alloc: Global,
     dump: &[u8],
@@ -102,8 +103,8 @@ pub fn with_additions(
     }
 }
 
-/// The changes of a dump with additions; none, if it can't be read, a load would reject one of them, or something excluded
-/// comes back there too. If `drop` is set, revisions are renumbered.
+/// The changes of a dump with additions. `None` if it can't be read, a load would reject one of its changes, or
+/// excluded content comes back in it too. If `drop` is set, revisions are renumbered.
 pub fn front_to_cut<'a>(
     alloc: Global,
     text: &'a [u8],

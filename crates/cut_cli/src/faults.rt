@@ -1,4 +1,4 @@
-//! The lines of what stops the program in a dump.
+//! The lines for faults that stop the program.
 use crate::lines::{write_path, write_source};
 use crate::read::Unread;
 use crate::spot::{Spot, first_revision, spot_of};
@@ -10,7 +10,7 @@ use dump_nodes::{action_of, has_odd_delta};
 use dump_text::FaultKind;
 use std::io::{self, Write};
 
-/// What a fault is.
+/// The description of a fault.
 fn fault_text(kind: FaultKind) -> &'static str {
     match kind {
         FaultKind::HeaderCut => "truncated header",
@@ -186,7 +186,7 @@ pub fn write_not_added<E: Write>(
     }
 }
 
-/// Writes the line of a node that makes no known change.
+/// Writes the line of a node whose change isn't modelled.
 fn write_no_change<E: Write>(errors: &mut E, spot: Spot<'_>) -> io::Result<()> {
     let Some(record) = spot.record else {
         return Ok(());
@@ -214,7 +214,7 @@ fn write_out_of_order<E: Write>(errors: &mut E, spot: Spot<'_>) -> io::Result<()
     write_fault_at(errors, 8, fault_text(FaultKind::Order), spot)
 }
 
-/// Says why the changes of a dump aren't known.
+/// Says why the changes of a dump can't be read.
 pub fn write_unread<E: Write>(errors: &mut E, dump: &[u8], unread: Unread) -> io::Result<()> {
     match unread {
         Unread::Broken { kind, place } => {

@@ -1,4 +1,4 @@
-//! The lines on standard error. What goes wrong in writing them is ignored: there is nowhere left to say so.
+//! The lines on standard error. Errors in writing them are ignored, because there is nowhere to report them.
 use crate::sizes::Size;
 use crate::words::Call;
 use dump_cut::{Addition, Excluded, PlacedRest};
@@ -10,7 +10,7 @@ use std::io::{self, Write};
 /// How many lines of a list are written without `--verbose`.
 const SHOWN: usize = 10;
 
-/// Writes a text without control characters, and with each byte that is no UTF-8 as a number.
+/// Writes a text without its control characters; a byte that isn't UTF-8 is written as a number.
 pub fn write_seen<E: Write>(errors: &mut E, text: &[u8]) -> io::Result<()> {
     for chunk in text.utf8_chunks() {
         for letter in chunk.valid().chars() {
@@ -49,7 +49,7 @@ fn write_joined<E: Write>(errors: &mut E, top: &[u8], rest: &[u8]) -> io::Result
     write_seen(errors, rest)
 }
 
-/// Writes a count, with commas between thousands.
+/// Writes a count, with commas between groups of three digits.
 fn write_grouped<E: Write>(errors: &mut E, count: usize) -> io::Result<()> {
     let (millions, thousands, ones) = (count / 1_000_000, count / 1000 % 1000, count % 1000);
     if millions >= 1000 {
@@ -64,14 +64,14 @@ fn write_grouped<E: Write>(errors: &mut E, count: usize) -> io::Result<()> {
     }
 }
 
-/// The same with what is counted.
+/// Writes a count, and the name of what is counted.
 fn write_count<E: Write>(errors: &mut E, count: usize, what: &str) -> io::Result<()> {
     write_grouped(errors, count)?;
     let plural = if count == 1 { "" } else { "s" };
     write!(errors, " {what}{plural}")
 }
 
-/// Says that a list goes on.
+/// Writes how many lines of a list are omitted, if any.
 fn write_rest<E: Write>(errors: &mut E, all: usize, shown: usize) -> io::Result<()> {
     if all > shown {
         write!(errors, "  and ")?;
@@ -81,12 +81,12 @@ fn write_rest<E: Write>(errors: &mut E, all: usize, shown: usize) -> io::Result<
     Ok(())
 }
 
-/// How many lines of a list are written.
+/// How many lines of a list the call shows.
 pub fn shown(call: &Call<'_>) -> usize {
     if call.verbose { usize::MAX } else { SHOWN }
 }
 
-/// Says which path a prefix means that isn't in canonical form.
+/// Writes the path that a prefix means, if the prefix isn't in canonical form.
 pub fn write_spelling<E: Write>(errors: &mut E, prefix: &[u8], path: &[u8]) -> io::Result<()> {
     write!(errors, "prefix '")?;
     write_seen(errors, prefix)?;
@@ -114,7 +114,7 @@ pub fn write_nested<E: Write>(errors: &mut E, call: &Call<'_>, paths: &[&[u8]]) 
     write_rest(errors, paths.len(), most)
 }
 
-/// Warns of prefixes whose paths no revision has.
+/// Warns of prefixes whose paths are in no revision.
 pub fn write_idle<E: Write>(errors: &mut E, call: &Call<'_>, paths: &[&[u8]]) -> io::Result<()> {
     let most = shown(call);
     for path in paths.iter().take(most) {
@@ -142,7 +142,7 @@ pub fn write_source<E: Write>(errors: &mut E, source: Source<'_>, rest: &[u8]) -
     write!(errors, "@{revision}")
 }
 
-/// Writes how many files or directories there are, and how many bytes.
+/// Writes the number of files or directories, and the number of bytes.
 fn write_size<E: Write>(errors: &mut E, size: Size) -> io::Result<()> {
     let directories = size.directories;
     if size.files == 0 && directories > 0 {
@@ -193,7 +193,7 @@ pub fn write_places<E: Write>(errors: &mut E, call: &Call<'_>, count: usize) -> 
     writeln!(errors, "")
 }
 
-/// Lists these places, with how much the first of them bring.
+/// Lists these places, with the size of what comes back for the first of them.
 pub fn write_returns<E: Write>(
     errors: &mut E,
     changes: &[NodeChange<'_>],
@@ -220,7 +220,8 @@ pub fn write_advice<E: Write>(errors: &mut E, call: &Call<'_>, additions: usize)
     writeln!(errors, "")
 }
 
-/// Says that copies after this revision change what is cut up to there, and lists these paths, where it differs.
+/// Says that copies after this revision change how the revisions up to it are cut, and lists the paths where the cuts
+/// differ.
 pub fn write_differences<E: Write>(
     errors: &mut E,
     call: &Call<'_>,
@@ -243,8 +244,8 @@ pub fn write_differences<E: Write>(
     write_rest(errors, paths.len(), most)
 }
 
-/// Writes the line of a path to which a copy is followed: of one that is excluded, what is copied there; of one that is
-/// included, what is copied from there.
+/// Writes the line of a path to which a copy is followed: for an excluded path, what is copied to it; for an included
+/// path, what is copied from it.
 fn write_addition<E: Write>(
     errors: &mut E,
     side: Side,
@@ -282,7 +283,7 @@ pub fn write_own_life<E: Write>(errors: &mut E, path: &[u8], revision: u64) -> i
     )
 }
 
-/// Says which paths are excluded too, as copies of excluded content, or included too, as sources of copies.
+/// Lists the paths that are excluded too, as copies of excluded content, or included too, as sources of copies.
 pub fn write_additions<E: Write>(
     errors: &mut E,
     call: &Call<'_>,
@@ -305,7 +306,7 @@ pub fn write_additions<E: Write>(
     write_rest(errors, additions.len(), most)
 }
 
-/// Writes revision and path of the copy at this place, and its source.
+/// Writes the revision and the path of the copy at this place, and its source.
 fn write_copy<E: Write>(
     errors: &mut E,
     change: NodeChange<'_>,
@@ -318,7 +319,8 @@ fn write_copy<E: Write>(
     write_source(errors, source, b"")
 }
 
-/// Lists the copies from this place on after which paths are deleted: these after each change at a path that isn't excluded.
+/// Lists the copies, from this place on, after which paths are deleted. `deletes` has the paths for each change at a
+/// path that isn't excluded.
 pub fn write_deletes<E: Write>(
     errors: &mut E,
     changes: &[NodeChange<'_>],
@@ -348,7 +350,7 @@ pub fn write_deletes<E: Write>(
     Ok(())
 }
 
-/// Says that after the copy at this place a path would have to be deleted that no line can hold.
+/// Says that a path should be deleted after the copy at this place, but no header line can have this path.
 pub fn write_odd_delete<E: Write>(
     errors: &mut E,
     changes: &[NodeChange<'_>],
@@ -365,7 +367,7 @@ pub fn write_odd_delete<E: Write>(
     )
 }
 
-/// Lists what is excluded beside included paths, if that is something.
+/// Lists the excluded siblings of included paths, if there are any.
 pub fn write_siblings<E: Write>(errors: &mut E, paths: &[&[u8]]) -> io::Result<()> {
     if paths.is_empty() {
         return Ok(());
@@ -389,7 +391,7 @@ pub fn write_file_parent<E: Write>(errors: &mut E, path: &[u8], revision: u64) -
     )
 }
 
-/// Says that copies bring excluded content back, which is kept.
+/// Says that copies bring back excluded content, and that it is kept.
 pub fn write_kept<E: Write>(errors: &mut E, count: usize) -> io::Result<()> {
     write!(errors, "copies bring excluded content back, in ")?;
     write_count(errors, count, "place")?;
@@ -437,21 +439,22 @@ pub fn write_replaced<E: Write>(
     writeln!(errors, "")
 }
 
-/// What is counted of the revisions that are written, beside what the filter counts.
+/// What the summary counts for the revisions that are written, in addition to the counts of the filter.
 #[derive(Clone, Copy)]
 pub struct Counts {
-    /// How many revisions stay that lose all of their nodes.
+    /// How many revisions are kept although all of their nodes are dropped.
     pub emptied: u64,
     /// How many paths are deleted after copies.
     pub deleted: usize,
-    /// How many nodes of the dump are replaced, and how many are in their place.
+    /// How many nodes of the dump are replaced, and how many replace them.
     pub written: Option<(usize, usize)>,
     /// How many nodes are kept, and how many are dropped, in revisions that aren't written.
     pub kept_before: u64,
     pub dropped_before: u64,
 }
 
-/// Writes the counts of a run, without those of the first revisions, so many. The last revision gets this number from a load.
+/// Writes the counts of a run, without those of the first revisions, whose number is `first`. `youngest` is the number
+/// that a load gives to the last revision.
 pub fn write_report<E: Write>(
     errors: &mut E,
     report: Report,

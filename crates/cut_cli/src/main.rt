@@ -1,4 +1,4 @@
-//! A program that cuts paths out of a Subversion dump file, over standard input and output.
+//! A program that cuts paths out of a Subversion dump, on standard input and output.
 #![tactic(auto)]
 
 mod command;
@@ -44,7 +44,7 @@ fn main(rt: HostRuntime) -> ExitCode {
     ExitCode::from(status)
 }
 
-/// The whole program on the arguments and the streams of the process.
+/// Runs the whole program with the arguments and the streams of the process.
 fn run_words<H: Threads + Wait + Sync>(threads: &H, rt: &HostRuntime) -> Result<u8, Usage> {
     let alloc = rt.alloc();
     let words = arguments(rt)?;

@@ -1,4 +1,4 @@
-//! The map of revisions: which number each one has in the new repository.
+//! The map of revisions: the number of each one in the new repository.
 ghost use Rattle.std.specs.Prelude.{◌≡◌, ◌+◌, ◌<◌, ◌^◌, ◌++◌, [], if◌then◌else◌, IfOk, None, OnOk, false, true, is_some, unwrap_or};
 ghost use Rattle.std.specs.Io.KnownBytes.{Keeps};
 ghost use Rattle.cut_cli.specs.Drive.{BeginsMap, EndsMap, WritesMap};
@@ -14,7 +14,8 @@ use dump_rules::Options;
 use std::alloc::Global;
 use std::io::{self, ErrorKind, Write};
 
-/// Creates the file of the map, if one is asked for. It reports a failure. Whether the cut goes on.
+/// Creates the file of the map, if the call asks for one. It reports a failure. The result is whether the cut can go
+/// on.
 pub fn begin_map<M: NamedOutput, E: Write>(
     call: &Call<'_>,
     map_file: &mut M,
@@ -34,7 +35,7 @@ pub fn begin_map<M: NamedOutput, E: Write>(
     true
 }
 
-/// The number that a load gives a kept revision, if the last one that it gave is this.
+/// The number that a load gives to a kept revision; `last` is the number that it gave before.
 fn loaded_number(last: Option<u64>, number: u64) -> u64
     requires { unwrap_or last 0 + 1 < 2 ^ 64 }
     ensures { result ≡ loaded_number last number }
@@ -48,7 +49,7 @@ fn loaded_number(last: Option<u64>, number: u64) -> u64
     }
 }
 
-/// The last number that a load gave after this revision, if the last one before it is this.
+/// The last number that a load has given after this revision; `last` is the number that it gave before.
 fn last_after(last: Option<u64>, fate: RevisionFate) -> Option<u64>
     requires { unwrap_or last 0 + 1 < 2 ^ 64 }
     ensures { result ≡ last_behind last fate }
@@ -59,7 +60,7 @@ fn last_after(last: Option<u64>, fate: RevisionFate) -> Option<u64>
     Some(loaded_number(last, fate.number))
 }
 
-/// Adds the line of a revision, if the last number that a load gave before it is this.
+/// Appends the line of a revision; `last` is the number that a load gave before it.
 fn push_line(text: &mut Vec<u8>, last: Option<u64>, fate: RevisionFate) -> io::Result<()>
     requires { unwrap_or last 0 + 1 < 2 ^ 64 }
     ensures { OnOk result (text.new.items ≡ text.old.items ++ fate_line last fate) }
@@ -78,7 +79,7 @@ fn push_line(text: &mut Vec<u8>, last: Option<u64>, fate: RevisionFate) -> io::R
     }
 }
 
-/// Whether a revision has a line: all have one, or those after this one.
+/// Whether a revision has a line: if `after` names a revision, only later ones have one.
 fn has_line(after: Option<u64>, fate: RevisionFate) -> bool
     ensures { result ≡ has_line after fate }
 {
@@ -88,7 +89,7 @@ fn has_line(after: Option<u64>, fate: RevisionFate) -> bool
     }
 }
 
-/// The same, if the revision has a line.
+/// Appends the line of a revision, if it has one.
 fn push_shown(
     text: &mut Vec<u8>,
     after: Option<u64>,
@@ -119,7 +120,8 @@ fn lines_of(alloc: Global, fates: &[RevisionFate], after: Option<u64>) -> io::Re
     Ok(text)
 }
 
-/// The map of the revisions of a dump that is cut with these options, or of those after one.
+/// The map of the revisions of a dump that is cut with these options. If `after` names a revision, only later ones are
+/// in it.
 fn map_text(
     alloc: Global,
     dump: &[u8],
@@ -134,8 +136,8 @@ fn map_text(
     }
 }
 
-/// Writes the map after a whole cut, if one is asked for. It reports a failure. The result is whether all of it was
-/// written.
+/// Writes the map after the whole cut, if the call asks for one. It reports a failure. The result is whether all of
+/// the map was written.
 pub fn end_map<M: NamedOutput, E: Write>(
     alloc: Global,
     dump: &[u8],
@@ -156,7 +158,7 @@ pub fn end_map<M: NamedOutput, E: Write>(
     is_written
 }
 
-/// Writes the map of a dump. Whether all of it was written.
+/// Writes the map of a dump. The result is whether all of it was written.
 fn write_map<M: NamedOutput>(
     alloc: Global,
     dump: &[u8],

@@ -18,11 +18,11 @@ use std::io::Write;
 use std::sync::Wait;
 use std::thread::Threads;
 
-/// How many bytes the memory takes at once.
+/// How many bytes the sink in memory takes in one call.
 const MOST: usize = 1 << 20;
 
-/// Runs the filter into memory, and writes what it wrote with the deletes after its nodes, or the part of this after a
-/// revision. If the filter found a fault, it writes the last line alone.
+/// Runs the filter into memory. Then writes the result with the deletes after its nodes, or the part of this after a
+/// revision. If the filter found a fault, only the last line is written.
 pub(crate) fn run_in_memory<H: Threads + Wait + Sync, W: Write>(
     rt: &H,
     alloc: Global,
@@ -52,7 +52,7 @@ pub(crate) fn run_in_memory<H: Threads + Wait + Sync, W: Write>(
     }
 }
 
-/// The answer of a failure before anything is written. Writing into memory fails if there is none.
+/// The answer of a failure before anything is written. Writing to memory fails if an allocation fails.
 fn failed_first(failure: Failure) -> Answer
     ensures { FailsFirst result }
 {
@@ -66,7 +66,7 @@ fn failed_first(failure: Failure) -> Answer
     }
 }
 
-/// Writes what the filter wrote of a whole dump, with the deletes, or the part of this after a revision.
+/// Writes what the filter wrote for a dump without a fault, with the deletes, or the part of this after a revision.
 fn send_cut<W: Write>(
     alloc: Global,
     report: Report,
@@ -135,7 +135,7 @@ fn part_piece<'t>(alloc: Global, cut: &'t [u8], after: Option<u64>) -> Result<Pi
     Ok(piece)
 }
 
-/// Writes this of a whole dump.
+/// Writes a piece after the filter has read the whole dump.
 fn send_piece<W: Write>(report: Report, piece: &Piece<'_>, sink: &mut OutMut<'_, W>) -> Answer
     requires waiting { sink.old.waiting ≡ [] }
     requires start { sink.old.out.start ≡ sink.old.out.taken }

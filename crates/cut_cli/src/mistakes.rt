@@ -1,5 +1,5 @@
-//! The lines that name what is wrong with the arguments. What goes wrong in writing them is ignored: there is nowhere left
-//! to say so.
+//! The lines that say what is wrong with the arguments. Errors in writing them are ignored, because there is nowhere
+//! to report them.
 use crate::lines::write_seen;
 use clap::Error;
 use clap::error::ErrorKind;
@@ -13,27 +13,27 @@ pub enum Mistake<'a> {
     NoArgument,
     /// The first argument is no subcommand.
     NoSubcommand(&'a str),
-    /// No prefix is given.
+    /// There is no prefix.
     NoPrefix,
-    /// The files have no prefix, and no other is given.
+    /// The files have no prefix, and the arguments have none.
     NoPrefixInFiles,
     /// A prefix is empty.
     EmptyPrefix,
     /// Two options exclude each other.
     QuietAndVerbose,
-    /// The side is include, and what copies bring back is to be kept.
+    /// `--keep-copies` is for `exclude` alone.
     KeepUnderInclude,
-    /// Copies are to be followed, and what they bring back is to be kept.
+    /// `--follow-copies` and `--keep-copies` exclude each other.
     KeepAndFollow,
     /// The text after `--after` is no number.
     NoRevision(&'a str),
-    /// The cut is to begin after a revision, and others are to be dropped.
+    /// `--after` and the option that drops revisions exclude each other.
     AfterAndDrop,
     /// An argument is not UTF-8.
     NotText,
 }
 
-/// What is wrong, after the program's name.
+/// Writes what is wrong, after the program's name.
 fn write_text<E: Write>(errors: &mut E, mistake: Mistake<'_>) -> io::Result<()> {
     match mistake {
         Mistake::NoArgument => write!(errors, "a subcommand is missing"),
@@ -78,7 +78,7 @@ pub fn write_mistake<E: Write>(errors: &mut E, mistake: Mistake<'_>) -> io::Resu
     writeln!(errors, "")
 }
 
-/// Why an option of `svndumpfilter` is none of this program.
+/// Why this program doesn't have an option of `svndumpfilter`.
 fn foreign(word: &str) -> Option<&'static str> {
     let name = match word.split_once('=') {
         Some((name, _)) => name,
@@ -94,7 +94,7 @@ fn foreign(word: &str) -> Option<&'static str> {
     }
 }
 
-/// The first of these options in a line.
+/// The reason for the first of these options in a line.
 fn first_foreign(line: &[&str]) -> Option<&'static str> {
     for word in line {
         if *word == "--" {
@@ -107,7 +107,7 @@ fn first_foreign(line: &[&str]) -> Option<&'static str> {
     None
 }
 
-/// Writes what clap says of a mistake: its first paragraph, without the word that it begins with.
+/// Writes the message of clap for a mistake: its first paragraph, without its first word.
 fn write_message<E: Write>(errors: &mut E, alloc: Global, error: &Error) -> io::Result<()> {
     let Ok(message) = format!(in alloc; "{error}") else {
         return write!(errors, "the arguments are wrong");
@@ -121,7 +121,7 @@ fn write_message<E: Write>(errors: &mut E, alloc: Global, error: &Error) -> io::
     write_seen(errors, first.as_bytes())
 }
 
-/// Writes the line of arguments that clap rejects.
+/// Writes the line for arguments that clap rejects.
 pub fn write_refused_line<E: Write>(
     errors: &mut E,
     alloc: Global,
@@ -139,7 +139,7 @@ pub fn write_refused_line<E: Write>(
     writeln!(errors, "")
 }
 
-/// Says which file of prefixes was not read.
+/// Says which file of prefixes couldn't be read.
 pub fn write_no_file<E: Write>(errors: &mut E, names: &[&str], place: usize) -> io::Result<()> {
     let Some(name) = names.get(place) else {
         return Ok(());
@@ -156,7 +156,7 @@ pub fn write_no_map<E: Write>(errors: &mut E, name: &str) -> io::Result<()> {
     writeln!(errors, "'")
 }
 
-/// Says that the map can't be written whole, though the new dump was.
+/// Says that not all of the map could be written, although the new dump is complete.
 pub fn write_cut_map<E: Write>(errors: &mut E, name: &str) -> io::Result<()> {
     write!(errors, "svndumpcut: cannot write '")?;
     write_seen(errors, name.as_bytes())?;

@@ -1,4 +1,4 @@
-//! Paths to which copies are followed, and what else was there, if they are excluded.
+//! Paths to which copies are followed, and whether the excluded ones among them ever had other content.
 use crate::lines::{write_additions, write_own_life};
 use crate::words::Call;
 use dump_changes::Memory;
@@ -8,8 +8,8 @@ use dump_rules::Side;
 use std::alloc::Global;
 use std::io::Write;
 
-/// A path that is excluded too, and the first revision in which something came to be there that isn't a copy of excluded
-/// content, if there is one.
+/// A path that is excluded too, and the first revision in which something else than a copy of excluded content is
+/// there, if there is one.
 #[derive(Clone, Copy)]
 struct Life<'p> {
     path: &'p [u8],
@@ -17,7 +17,7 @@ struct Life<'p> {
 }
 
 impl Life<'_> {
-    /// Notes that something came to be there in this revision.
+    /// Stores that something else is there in this revision.
     fn note(&mut self, revision: u64) {
         if self.revision.is_none() {
             self.revision = Some(revision);
@@ -25,7 +25,7 @@ impl Life<'_> {
     }
 }
 
-/// Whether the path is below the directory.
+/// Whether the path is below the directory `top`.
 fn is_below(top: &[u8], path: &[u8]) -> bool {
     match path.strip_prefix(top) {
         Some(rest) => rest.first() == Some(&b'/'),
@@ -33,7 +33,7 @@ fn is_below(top: &[u8], path: &[u8]) -> bool {
     }
 }
 
-/// Notes what a copy of a directory brings to the paths below it that isn't excluded at its source.
+/// Stores what a copy of a directory brings to the paths below it, unless it is excluded at the source.
 fn note_copied(
     alloc: Global,
     index: &ChangeIndex<'_>,
@@ -62,7 +62,7 @@ fn note_copied(
     Ok(())
 }
 
-/// Notes what a change makes at one of the paths that isn't a copy of excluded content.
+/// Stores what a change makes at one of the paths, unless it is a copy of excluded content.
 fn note_made(excluded: &Excluded, change: &NodeChange<'_>, lives: &mut [Life<'_>]) {
     let is_own = match change.made {
         None => false,
@@ -80,7 +80,7 @@ fn note_made(excluded: &Excluded, change: &NodeChange<'_>, lives: &mut [Life<'_>
     }
 }
 
-/// Warns of excluded paths, sorted, that had other content than copies of what is excluded.
+/// Warns of excluded paths, sorted, that had content which isn't a copy of excluded content.
 fn report_lives<E: Write>(
     alloc: Global,
     index: &ChangeIndex<'_>,
@@ -109,7 +109,7 @@ fn report_lives<E: Write>(
     Ok(())
 }
 
-/// Reports the paths to which copies are followed, sorted; and of excluded ones which had other content.
+/// Reports the paths to which copies are followed, sorted, and which of the excluded ones had other content.
 pub fn report_additions<E: Write>(
     alloc: Global,
     index: &ChangeIndex<'_>,

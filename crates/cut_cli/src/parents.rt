@@ -1,4 +1,4 @@
-//! Parents of prefixes that are files at some time.
+//! Parents of prefixes that are files in some revision.
 use crate::lines::write_file_parent;
 use crate::prefixes::is_at_or_below;
 use dump_changes::Memory;
@@ -14,8 +14,8 @@ struct Parent<'p> {
     revision: Option<u64>,
 }
 
-/// Notes which parents, sorted by path, are files after the first changes, so many, the last of which makes something at them
-/// or above them.
+/// Stores which parents are files after the first `count` changes. The parents are sorted by path, and the last of
+/// these changes makes something at them or above them.
 fn note_files(
     alloc: Global,
     index: &ChangeIndex<'_>,
@@ -41,7 +41,7 @@ fn note_files(
     Ok(())
 }
 
-/// Reports the parents of included paths that are files at some time.
+/// Reports the parents of included paths that are files in some revision.
 pub fn report_parents<E: Write>(
     alloc: Global,
     index: &ChangeIndex<'_>,

@@ -1,4 +1,4 @@
-//! What is reported of the prefixes themselves.
+//! Reports what is unusual about the prefixes.
 use crate::lines::{write_first, write_idle, write_nested, write_spelling};
 use crate::spot::first_revision;
 use crate::words::Call;
@@ -8,7 +8,7 @@ use dump_index::{ChangeIndex, ends_in_slash};
 use std::alloc::Global;
 use std::io::Write;
 
-/// Whether the path is the top or below it.
+/// Whether the path is `top` or below it.
 pub(crate) fn is_at_or_below(top: &[u8], path: &[u8]) -> bool {
     match path.strip_prefix(top) {
         Some(rest) => rest.is_empty() || rest[0] == b'/',
@@ -26,7 +26,7 @@ fn trimmed(prefix: &[u8]) -> &[u8] {
     left
 }
 
-/// The paths of prefixes in canonical form. It reports those that aren't given so.
+/// The paths of the prefixes in canonical form. It reports prefixes that aren't in this form.
 fn canonical_paths<E: Write>(
     alloc: Global,
     call: &Call<'_>,
@@ -43,7 +43,7 @@ fn canonical_paths<E: Write>(
     Ok(paths)
 }
 
-/// The paths, sorted, and each of them once.
+/// The paths, sorted, without duplicates.
 fn sorted(alloc: Global, paths: &[Vec<u8>]) -> Result<Vec<&[u8]>, Memory> {
     let mut sorted: Vec<&[u8]> = Vec::new(alloc);
     for path in paths {
@@ -70,7 +70,7 @@ fn is_nested(sorted: &[&[u8]], path: &[u8]) -> bool {
         .any(|(place, byte)| *byte == b'/' && is_given(&path[..place]))
 }
 
-/// Reports prefixes inside others, and those of paths that no revision has.
+/// Reports prefixes that are inside others, and those whose paths are in no revision.
 fn report_paths<E: Write>(
     alloc: Global,
     index: &ChangeIndex<'_>,
@@ -95,8 +95,8 @@ fn report_paths<E: Write>(
     Ok(())
 }
 
-/// Reports which prefixes aren't in canonical form, that a load renumbers the first revision, which prefixes are inside others,
-/// and those of paths that no revision has.
+/// Reports prefixes that aren't in canonical form, whether a load renumbers the first revision, prefixes that are
+/// inside others, and those whose paths are in no revision.
 pub fn report_prefixes<E: Write>(
     alloc: Global,
     dump: &[u8],

@@ -1,4 +1,4 @@
-//! The changes of a dump in an index, or why there is none.
+//! Reads the changes of a dump into an index, or says why this isn't possible.
 ghost use Rattle.std.specs.Prelude.{◌≡◌, ℕ, Bool, List, true, IfOk, IsTrue, MatchResult, map};
 ghost use Rattle.std.specs.List.{list_all};
 ghost use Rattle.dump_index.specs.InOrder.{are_in_order};
@@ -13,24 +13,25 @@ use dump_index::{ChangeIndex, NodeChange, first_out_of_order};
 use dump_text::FaultKind;
 use std::alloc::Global;
 
-/// Why the changes of a dump aren't known.
+/// Why the changes of a dump can't be read.
 #[derive(Clone, Copy, Debug, PartialEq, Eq)]
 pub enum Unread {
-    /// There is no record at this byte, for this fault.
+    /// No record is at this byte, because of this fault.
     Broken { kind: FaultKind, place: usize },
-    /// The record with this number is a node that makes no known change.
+    /// The record with this number is a node, and the change that it makes isn't modelled.
     NoChange(u64),
     /// The record with this number is a node of revision 0 or of none, or a revision whose number isn't above the one before.
     OutOfOrder(u64),
-    /// The record with this number is a node that copies its own revision or a later one.
+    /// The record with this number is a node that copies from its own revision or from a later one.
     LaterCopy(u64),
-    /// The record with this number is a node that copies a revision of which a load knows nothing.
+    /// The record with this number is a node that copies from a revision that a load doesn't know.
     NoSource(u64),
-    /// The record with this number is a node that copies a revision which the dump doesn't have, and which has no new number.
+    /// The record with this number is a node that copies from a revision which the dump doesn't have and which has no
+    /// new number.
     Gap(u64),
 }
 
-/// The changes of a dump, up to where its reading stops.
+/// The changes of a dump, up to where the reading stops.
 #[derive(Drop)]
 pub struct Front<'a> {
     pub index: ChangeIndex<'a>,
@@ -38,7 +39,7 @@ pub struct Front<'a> {
     pub stop: Option<Unread>,
 }
 
-/// The changes of a dump, up to where its reading stops, each copy of the revision of which a load takes it.
+/// The changes of a dump, up to where the reading stops; each copy is of the revision from which a load takes it.
 #[derive(Drop)]
 pub(crate) struct Known<'a> {
     changes: Vec<NodeChange<'a>>,
@@ -58,8 +59,8 @@ fn stop_at(end: End) -> Option<Unread>
     }
 }
 
-/// The change as a load takes it, where the dump's revisions have these numbers; or why a load, or the filter that renumbers
-/// if `drop` is set, can't take it.
+/// The change as a load makes it, if the dump's revisions have these numbers. The error says why a load can't make it,
+/// or if `drop` is set, why the filter can't renumber it.
 fn known_change<'a>(
     numbers: &[u64],
     change: &NodeChange<'a>,
@@ -77,7 +78,8 @@ fn known_change<'a>(
     }
 }
 
-/// The changes that were read, up to the first one that a load, or the filter that renumbers if `drop` is set, can't take.
+/// The changes that were read, up to the first one that a load can't make or, if `drop` is set, the filter can't
+/// renumber.
 fn known_changes<'a>(alloc: Global, reading: Reading<'a>, drop: bool) -> Result<Known<'a>, Memory>
     ensures { IfOk result (λ known. (dump : List ℕ) → IsReadingOfDump dump reading.entry → IsKnownOf drop dump known) }
 {
@@ -103,7 +105,7 @@ fn known_changes<'a>(alloc: Global, reading: Reading<'a>, drop: bool) -> Result<
     Ok(Known { changes, stop })
 }
 
-/// The same, up to the first change that copies its own revision or a later one.
+/// The same, up to the first change that copies from its own revision or from a later one.
 fn in_order(mut known: Known<'_>) -> Known<'_>
     ensures ordered { are_in_order 0 result.changes.items ≡ true }
     ensures known { (drops : Bool) (dump : List ℕ) → IsKnownOf drops dump known.entry → IsKnownOf drops dump result }
@@ -115,7 +117,7 @@ fn in_order(mut known: Known<'_>) -> Known<'_>
     known
 }
 
-/// An index of the changes of the dump, up to where its reading stops. If `drop` is set, revisions are renumbered.
+/// An index of the changes of the dump, up to where the reading stops. If `drop` is set, revisions are renumbered.
 pub fn read_front<'a>(alloc: Global, dump: &'a [u8], drop: bool) -> Result<Front<'a>, Memory>
     ensures { IfOk result (λ front. IsFrontOf drop dump.now front × IsTrue (list_all has_named_paths front.index)) }
 {

@@ -1,4 +1,4 @@
-//! How much a copy brings back.
+//! The size of what a copy brings back.
 use dump_changes::Memory;
 use dump_cut::{Excluded, PlacedRest};
 use dump_index::{
@@ -7,14 +7,14 @@ use dump_index::{
 use dump_records::{Cut, Cutter};
 use std::alloc::Global;
 
-/// What a copy brings back at a path.
+/// The size of what a copy brings back at a path.
 #[derive(Clone, Copy)]
 pub struct Size {
     pub files: usize,
     pub directories: usize,
-    /// The sum of the lengths of the files; None, if the text of one is stored as a delta.
+    /// The sum of the lengths of the files; `None` if the text of one is stored as a delta.
     pub bytes: Option<usize>,
-    /// Whether the copy gives what it copies a text of its own.
+    /// Whether the node of the copy also sets a text.
     pub is_changed: bool,
 }
 
@@ -32,7 +32,7 @@ pub fn text_lengths(alloc: Global, dump: &[u8]) -> Result<Vec<usize>, Memory> {
     Ok(lengths)
 }
 
-/// The length of the text of the file at the path after the first changes, so many; None, if it is stored as a delta.
+/// The length of the text of the file at the path after the first `count` changes; `None` if it is stored as a delta.
 fn text_length(
     alloc: Global,
     index: &ChangeIndex<'_>,
@@ -55,7 +55,7 @@ fn text_length(
 }
 
 impl Size {
-    /// With one more file of this length.
+    /// The size with one more file of this length.
     fn with_file(self, length: Option<usize>) -> Size {
         let bytes = match (self.bytes, length) {
             (Some(bytes), Some(length)) => Some(bytes.saturating_add(length)),
@@ -68,7 +68,7 @@ impl Size {
         }
     }
 
-    /// With one more directory.
+    /// The size with one more directory.
     fn with_directory(self) -> Size {
         Size {
             directories: self.directories.saturating_add(1),
@@ -77,7 +77,7 @@ impl Size {
     }
 }
 
-/// How much of the source comes with the copy at this rest and below it.
+/// The size of the part of the source at this rest and below it.
 fn size_below(
     alloc: Global,
     index: &ChangeIndex<'_>,
@@ -96,7 +96,7 @@ fn size_below(
     };
     let mut left = Vec::new(alloc);
     left.push(Vec::from_slice(alloc, rest)?)?;
-    // no memory holds so many paths
+    // no memory holds this many paths
     for _ in 0..u64::MAX {
         let Some(below) = left.pop() else {
             break;
@@ -122,7 +122,7 @@ fn size_below(
     Ok(size)
 }
 
-/// How much each of these copies brings back.
+/// The size of what each of these copies brings back.
 pub fn sizes_of(
     alloc: Global,
     dump: &[u8],

@@ -1,4 +1,4 @@
-//! Where a record of a dump is, and what it is about.
+//! The place of a record in a dump, with its revision.
 use dump_index::Source;
 use dump_records::{Cut, Cutter, Record, RecordKind};
 use dump_rules::bare_path;
@@ -6,13 +6,13 @@ use dump_rules::bare_path;
 /// A record of a dump, or the place after the last one.
 #[derive(Clone, Copy)]
 pub struct Spot<'a> {
-    /// From 0 on.
+    /// The number of the record, from 0.
     pub number: u64,
     /// The byte of the dump at which it begins.
     pub byte: usize,
     /// The number of the last revision record before it.
     pub last: Option<u64>,
-    /// The number of the revision to which a node belongs that is there.
+    /// The number of the revision to which a node at this place belongs.
     pub group: Option<u64>,
     pub record: Option<Record<'a>>,
 }
@@ -35,7 +35,7 @@ impl<'a> Spot<'a> {
         }
     }
 
-    /// What a node is copied from.
+    /// The source from which a node is copied.
     pub fn source(&self) -> Option<Source<'a>> {
         let record = self.record?;
         match (record.copy_path(), record.copy_revision()) {

@@ -1,4 +1,4 @@
-//! What no clause says: the lines as users see them, and streams that fail.
+//! What no contract says: the lines as users see them, and streams that fail.
 
 ghost use Rattle.std.specs.Prelude.{None};
 
@@ -64,7 +64,7 @@ const FOLLOW_LINES: &[u8] = b"also excluded, as copies of excluded content: 1 pa
 /e/f (r2, copied from /d/f@1)\n\
 revisions kept 3, dropped 0; nodes kept 2, dropped 1; texts checked 0\n";
 
-/// Fails at once, in reading and in writing.
+/// A stream that fails at each call, in reading and in writing.
 #[derive(Drop)]
 struct Broken;
 
@@ -84,7 +84,7 @@ impl Write for Broken {
     }
 }
 
-/// No file is there.
+/// A set of files without any file.
 #[derive(Drop)]
 struct NoFiles;
 
@@ -96,7 +96,7 @@ impl NamedFiles for NoFiles {
     }
 }
 
-/// What a file for a map has before.
+/// The old content of a file for a map.
 const OLD: &[u8] = b"old";
 
 /// A file for a map.
@@ -107,12 +107,12 @@ struct MapFile {
     can_be_created: bool,
     /// Whether it is written to.
     is_open: bool,
-    /// How many bytes it has room for.
+    /// How many bytes fit into it.
     room: usize,
 }
 
 impl MapFile {
-    /// One that can be created, with room for so many bytes. It has a text already.
+    /// A file that can be created, with room for this many bytes. It has a text already.
     fn with_room(alloc: Global, room: usize) -> Result<MapFile, AllocError> {
         Ok(MapFile {
             text: Vec::from_slice(alloc, OLD)?,
@@ -296,7 +296,7 @@ const MAPPED: [&str; 6] = [
 
 const MAP: &[u8] = b"r0 becomes r0\nr1 becomes r1\nr2 becomes r2\n";
 
-/// How the lines of a cut end that follows copies, if its map can't be written.
+/// The last lines of a cut that follows copies and whose map can't be written.
 const UNMAPPED_LINES: &[u8] = b"also excluded, as copies of excluded content: 1 path\n  \
 /e/f (r2, copied from /d/f@1)\n\
 svndumpcut: cannot write 'm'; the new dump is whole\n";

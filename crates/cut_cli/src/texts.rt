@@ -38,7 +38,7 @@ The manual page svndumpcut(1) has more.
 /// The text of `--version`. CHANGELOG.md has this number.
 pub const VERSION: &str = "svndumpcut, version 1.2.0\n";
 
-/// The text that is asked for.
+/// The text for which the user asked.
 pub fn info_text(info: Info) -> &'static str
     ensures { result.now ≡ info_text info }
 {

@@ -25,35 +25,35 @@ use dump_text::number;
 use std::alloc::{AllocError, Global};
 use std::io::Write;
 
-/// What a call asks for.
+/// The arguments of a call.
 #[derive(Drop)]
 pub struct Call<'a> {
     pub side: Side,
-    /// As they were given; none is empty.
+    /// As the user wrote them; none is empty.
     pub prefixes: Vec<&'a [u8]>,
     /// The names of files with more prefixes.
     pub targets: Vec<&'a str>,
     /// The name of the file for a map of the revisions.
     pub map_name: Option<&'a str>,
-    /// Whether the copies of what is excluded are excluded too, or the sources of what is included are included too.
+    /// Whether copies of excluded content are excluded too, or sources of included content are included too.
     pub follow: bool,
-    /// Whether what copies bring back of excluded content is kept, under exclude.
+    /// Whether content that copies bring back is kept, under `exclude`.
     pub keep: bool,
-    /// Whether revisions are dropped that lose all of their nodes, and the others are renumbered.
+    /// Whether revisions that lose all of their nodes are dropped, and the others are renumbered.
     pub drop: bool,
-    /// The revision after which the cut is written: the others were loaded before.
+    /// The revision after which the cut begins; the earlier ones were loaded before.
     pub after: Option<u64>,
     /// Whether nothing is written.
     pub dry_run: bool,
-    /// Whether warnings and faults alone are reported.
+    /// Whether only warnings and faults are reported.
     pub quiet: bool,
-    /// Whether lists are reported whole.
+    /// Whether lists are reported completely.
     pub verbose: bool,
-    /// How the filter's work is spread over threads.
+    /// How many threads filter the dump.
     pub plan: Plan,
 }
 
-/// What the arguments ask for. It says what is wrong with arguments that ask for nothing. `words[0]` is the program's name.
+/// Reads the arguments, and writes a line if they are wrong. `words[0]` is the program's name.
 pub fn call_of<'a, E: Write>(
     alloc: Global,
     words: &'a [&'a str],
@@ -92,8 +92,8 @@ fn wrong<'a, E: Write>(errors: &mut E, mistake: Mistake<'_>) -> Result<Call<'a>,
     Err(Usage::Words)
 }
 
-/// What a command finds after the first argument of a line, which is the subcommand. It says what is wrong with a line
-/// that the command doesn't take.
+/// Parses the arguments of a line after the first, which is the subcommand. It writes what is wrong with a line that
+/// the command rejects.
 fn read_named<'a, E: Write>(
     alloc: Global,
     command: Command<'a>,
@@ -127,7 +127,7 @@ fn is_one_empty(prefixes: &[&[u8]]) -> bool
     false
 }
 
-/// What is wrong with a side and the options that say what becomes of what copies bring back.
+/// What is wrong with a side and the options for content that copies bring back.
 fn wrong_keeping(side: Side, keep: bool, follow: bool) -> Option<Mistake<'static>>
     ensures { is_some result ≡ keeps_wrongly side keep follow }
 {
@@ -138,7 +138,7 @@ fn wrong_keeping(side: Side, keep: bool, follow: bool) -> Option<Mistake<'static
     }
 }
 
-/// The number of the revision after which the cut is written, by its text.
+/// The number of the revision after which the cut begins, read from its text.
 fn after_of(text: Option<&str>) -> Option<u64>
     ensures { result ≡ option_and_then number_of (option_map (λ text. text.now) text.entry) }
 {
@@ -148,7 +148,7 @@ fn after_of(text: Option<&str>) -> Option<u64>
     }
 }
 
-/// What is wrong with the text that says after which revision the cut is written, if revisions are dropped or not.
+/// What is wrong with the text of the revision after which the cut begins; `drop` says whether revisions are dropped.
 fn wrong_after<'a>(text: Option<&'a str>, drop: bool) -> Option<Mistake<'a>>
     ensures { is_some result ≡ goes_on_wrongly (option_map (λ text. text.now) text.entry) drop }
 {
@@ -188,7 +188,7 @@ fn mistake_in<'a>(
     wrong_after(read_value(matches, "after"), drop)
 }
 
-/// What a side and the arguments after it ask for.
+/// Reads a side and the arguments after it.
 fn read_call<'a, E: Write>(
     alloc: Global,
     side: Side,
@@ -226,7 +226,7 @@ fn read_call<'a, E: Write>(
     })
 }
 
-/// So many workers, and a window of so many records.
+/// A plan with this many workers, and a window of this many records.
 fn plan_of(workers: usize, window: usize) -> Plan
     requires workers { (1 ≤ workers) × (workers ≤ 64) }
     requires window { (1 ≤ window) × (window ≤ 4096) }
@@ -239,7 +239,7 @@ fn plan_of(workers: usize, window: usize) -> Plan
     plan
 }
 
-/// The same call with the prefixes in these texts too.
+/// The same call with the prefixes in these texts added.
 pub fn with_targets<'a>(call: Call<'a>, texts: &'a [Vec<u8>]) -> Result<Call<'a>, AllocError>
     ensures { IfOk result (λ whole. cut_meaning whole ≡ with_texts_of (cut_meaning call.entry) (map (λ text. text.items) texts.now)) }
 {
@@ -249,7 +249,7 @@ pub fn with_targets<'a>(call: Call<'a>, texts: &'a [Vec<u8>]) -> Result<Call<'a>
     })
 }
 
-/// The name of the file for the map that is written; a trial writes none.
+/// The name of the file for the map, if one is written; a dry run writes none.
 pub fn asked_map<'a>(call: &Call<'a>) -> Option<&'a str>
     ensures { option_map (λ name. name.now) result ≡ asked_map (cut_meaning call.now) }
 {

@@ -1,4 +1,4 @@
-//! What is reported of copies that are written as additions.
+//! Reports copies that are written as additions.
 ghost use Rattle.std.specs.Prelude.{IsTrue, ◌≤◌, length};
 ghost use Rattle.std.specs.List.{list_all};
 ghost use Rattle.dump_cut.specs.NamedPaths.{has_named_paths};
@@ -17,13 +17,13 @@ use dump_index::{ChangeIndex, NodeChange};
 use std::alloc::Global;
 use std::io::Write;
 
-/// Whether one of the rests of a path is the other one or below it.
+/// Whether one of the two rests of a path is the other one or below it.
 fn is_one_in_other(one: &[u8], other: &[u8]) -> bool {
     one.is_empty() || other.is_empty() || is_at_or_below(one, other) || is_at_or_below(other, one)
 }
 
-/// Whether something of what comes back is at or below an included path. If it isn't, directories above included paths come back
-/// alone. The sources are what included paths have from elsewhere, in the order of the dump.
+/// Whether a part of what comes back is at or below an included path. Otherwise only directories above included paths
+/// come back. `sources` is what included paths have from elsewhere, in the order of the dump.
 fn is_included(found: PlacedRest<'_>, sources: &[PlacedRest<'_>]) -> bool {
     let first = sources.partition_point(|source| source.place < found.place);
     for source in &sources[first..] {
@@ -56,7 +56,7 @@ fn included_returns<'e>(
     Ok(found)
 }
 
-/// How many changes are in revisions that aren't written: those up to this one, if there is one.
+/// How many changes are in revisions that aren't written: those up to `after`, if it names a revision.
 pub fn count_earlier(changes: &[NodeChange<'_>], after: Option<u64>) -> usize
     ensures { result ≤ length changes.now }
 {
@@ -76,7 +76,7 @@ fn written_returns<'r, 'e>(
     &returns[returns.partition_point(|found| found.place < first)..]
 }
 
-/// Lists what copies bring back, with how much the first of them bring.
+/// Lists what copies bring back, with the size of the first of them.
 pub fn list_returns<E: Write>(
     alloc: Global,
     dump: &[u8],
@@ -125,8 +125,8 @@ pub fn report_written<E: Write>(
     Ok(())
 }
 
-/// Lists the copies that aren't excluded in place of which other nodes are written, or before which one is. The result is how
-/// many there are, and how many nodes are in their place; none if there is none.
+/// Lists the copies at paths that aren't excluded that other nodes replace, or before which one is added. The result
+/// is how many there are, and how many nodes replace them; `None` if there are none.
 pub fn report_replaced<E: Write>(
     index: &ChangeIndex<'_>,
     excluded: &Excluded,

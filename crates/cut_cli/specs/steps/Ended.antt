@@ -1,4 +1,4 @@
--- What a run tells once its last bytes are handed on.
+-- What a run reports after it has written its last bytes.
 use Rattle.std.specs.Prelude.{◌≡◌, ◌⊎◌, Result, IsOk, [], ℕ}
 use Rattle.std.specs.Io.KnownBytes.{GrowsBy}
 use Rattle.dump_writer.specs.steps.SinkStates.{LentState}
@@ -7,8 +7,8 @@ use Rattle.dump_pipeline.specs.declared.answer.Answer.TheVariants.{Failed}
 use Rattle.dump_pipeline.specs.declared.answer.Failure.{Failure}
 use Rattle.cut_cli.specs.Drive.{cut_status}
 
--- the run's answer, where its last line is written and nothing waits any more; or a failure, with the bytes that the
--- writer took
+-- the run's answer, if its last line is written and the buffer is empty; or a failure, with the number of bytes that
+-- the writer took
 abbrev pub TellsAfter : {A : Type 0} → LentState → Answer → Result A Failure → Answer → Type 0
 TellsAfter sink ran ending told = ((told ≡ ran) × IsOk ending × (sink.waiting ≡ []))
     ⊎ ((failure : Failure) × (written : ℕ) × (told ≡ Failed failure written)

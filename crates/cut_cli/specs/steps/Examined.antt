@@ -1,4 +1,4 @@
--- What is found of a dump before it is filtered.
+-- What is found in a dump before it is filtered.
 use Rattle.std.specs.Prelude.{◌≡◌, ◌⊎◌, ℕ, Bool, true, List, map, Option, Some, None, IsTrue, MatchBool, MatchOption, Result, Ok, Err, option_map}
 use Rattle.std.specs.List.{AllZip, list_all}
 use Rattle.dump_records.specs.DumpText.{Ending, HasRecords}
@@ -50,18 +50,18 @@ IsPrepared m excluded read (Ok ready) = IsSetUp m excluded read ready.options re
 IsPrepared m excluded read (Err obstacle) = (place : ℕ) × (obstacle ≡ OddDelete place)
     × ((placed : List Placed) → AllZip IsListed read placed → HasOddDelete excluded (kinds_told_by read) placed place)
 
--- the text can be cut: a load takes it, and nothing comes back there
+-- the text can be cut: a load takes it, and nothing comes back in it
 abbrev pub IsFrontToCut : List ℕ → List NodePath → Front → Type 0
 IsFrontToCut text excluded front = IsTakenDump text front.index × BringsNothingBack front.index excluded
     × IsTrue (list_all has_named_paths front.index)
 
--- a dump with additions is cut, or why it isn't; or it isn't read
+-- how a dump with additions is cut, or why it isn't; or it can't be read
 abbrev pub IsExpandedToCut : CutMeaning → List ℕ → List Listed → List NodePath → Option (Result Ready Obstacle) → Type 0
 IsExpandedToCut m dump listed excluded None = AreAdditionsUnread m.drop dump listed excluded
 IsExpandedToCut m dump listed excluded (Some found) =
     writes_additions m.side m.keep ≡ true → ExcludesWithReturns m dump listed excluded → IsExamined m dump found
 
--- the deletes behind kept changes, if there are to be some; or the place of a change with one that can't be written
+-- the paths to delete after kept changes, if there are any; or the place of a change with one that can't be written
 abbrev pub AreDeletesIfAny : List NodePath → ToldKinds → List Placed → Result (Option (List (List (List ℕ)))) ℕ → Type 0
 AreDeletesIfAny excluded told placed (Ok deletes) = AreCopiesTaken excluded told placed deletes
 AreDeletesIfAny excluded told placed (Err place) = HasOddDelete excluded told placed place
@@ -73,18 +73,18 @@ StopsFor (NoChange number) stop = stop ≡ Some (unread.NoChange number)
 StopsFor (OutOfOrder number) stop = stop ≡ Some (unread.OutOfOrder number)
 StopsFor (Broken kind place) stop = stop ≡ Some (unread.Broken kind place)
 
--- why a change isn't known: it is a copy, for which a load has no revision, or the filter that renumbers has none
+-- why a change can't be read: it is a copy, and a load has no revision for it, or the filter has no new number for it
 abbrev pub IsUnknownFor : Bool → Listed → UnreadDump → Type 0
 IsUnknownFor drops l reason = (is_listed_copy l ≡ true) × ((number : ℕ)
     × ((reason ≡ unread.NoSource number) ⊎ ((drops ≡ true) × (reason ≡ unread.Gap number))))
 
--- these are the changes of the dump, or, where its revisions aren't numbered 0, 1, 2 and so on, they are but for the numbers of the
--- revisions of which they copy
+-- these are the changes of the dump; or, if its revisions aren't numbered 0, 1, 2 and so on, they are these except for
+-- the numbers of the revisions from which they copy
 abbrev pub AreReadAs : List DumpRecord → List NodeChange → List NodeChange → Type 0
 AreReadAs records changes known =
     MatchBool (are_numbered records) (changes ≡ known) (AreListedButNumbers changes (map listed_of known))
 
--- the changes of the whole dump are known as these
+-- the changes of the whole dump were read as these
 pub record AreKnownOf (dump : List ℕ) (known : List NodeChange) : Type 0 where
   pub records : List DumpRecord
   pub changes : List NodeChange
@@ -94,7 +94,8 @@ pub record AreKnownOf (dump : List ℕ) (known : List NodeChange) : Type 0 where
   pub numbers : HaveNodeNumbers records changes
   pub read_as : AreReadAs records changes known
 
--- these are known of the changes of the dump's first records: all of them, or those up to where the reading stops
+-- these are the changes that were read of the dump's first records: all of them, or those up to where the reading
+-- stops
 abbrev pub AreKnownUpTo : Bool → List ℕ → List NodeChange → Option UnreadDump → Type 0
 AreKnownUpTo drops dump known stop = BeginsWithChanges dump (map listed_of known)
     × MatchOption stop (AreKnownOf dump known) (IsUnreadFor drops dump)
