@@ -1,4 +1,4 @@
--- A survey whose last bytes are handed on.
+-- A survey whose last bytes are written.
 use Rattle.survey_cli.proofs.Prelude.{◌≡◌, ℕ, Bool, List, [], ◌++◌, Option, None, Some, Result, Ok, Err, IfOk, IfErr, IfSome, OnErr, MatchBool, true, false, inl, inr, refl, sym, ap, subst, ◌∙◌, append_assoc, Appends, Keeps, GrowsBy, append_known, Appends-kept, Appends-trans, from_none, handed_on, part_taken, each_dump_has_one_list, Settings, kept_revisions, LentState, lent_taken, IsPrefixOf, IsSurveyText, BreaksOffSurvey, IsRevisionMap, map_lines, AreAdviceLines, TakesSomeAdvice, SurveyFailure, IsCallText, IsMapAskedFor, IsWholeText, SurveysDump, SurveysInput, TakesFirst, BrokenOff, Call, Arrives, FrontBreaksOff, MapBreaksOff, SurveyBreaksOff, told_status}
 use Rattle.std.proofs.lemmas.List.{append-nil}
 
@@ -17,7 +17,7 @@ broke_off a b c waiting sent text n appended kept grown begins =
     longer a c sent text begins (part_taken a c waiting sent n grown
     (Appends-kept a b (append_known c waiting) sent (from_none a b sent appended) kept))
 
--- what is told of a failure holds where there is one
+-- what is reported of a failure holds if there is one
 pub at_err : {X E A : Type 0} (r : Result X E) → A → OnErr r A
 at_err (Ok x) is = tt
 at_err (Err e) is = is
@@ -29,7 +29,7 @@ survey_broke_off settings dump old new off = (off.text, off.found, inl off.is, (
 
 module _ (settings : Settings) (dump : List ℕ) (old mid new : Option (List ℕ)) (found : Bool)
     (survey : (text : List ℕ) × IsSurveyText settings dump text found × Appends old mid text) where
-  -- a survey and the lines behind it
+  -- a survey and the lines after it
   whole_with : (lines : List ℕ) → AreAdviceLines settings dump lines
       → IsWholeText settings dump (survey.0 ++ lines) found
   whole_with lines are = record {
@@ -45,7 +45,7 @@ module _ (settings : Settings) (dump : List ℕ) (old mid new : Option (List ℕ
   whole_written (lines, are, appends) =
       (survey.0 ++ lines, whole_with lines are, Appends-trans old mid new survey.0 lines survey.2 appends)
 
-  -- a survey behind which the lines broke off
+  -- a survey after which the lines broke off
   pub lines_broke_off : TakesSomeAdvice settings dump mid new → FrontBreaksOff settings dump old new
   lines_broke_off (inl none) = (
     survey.0,
@@ -85,7 +85,7 @@ asked_map call dump = by call.map
     by false = ([], refl)
 
 module _ (call : Call) (dump : List ℕ) where
-  -- the text with the map behind it
+  -- the text with the map after it
   with_map : (front revisions : List ℕ) (found : Bool) → IsWholeText call.options dump front found
       → IsMapAskedFor call dump revisions → IsCallText call dump (front ++ revisions) found
   with_map front revisions found is are = record {
@@ -148,7 +148,7 @@ pub written_of : (call : Call) (dump : List ℕ) (old new : Option (List ℕ)) (
 written_of call dump old new (Ok found) whole part = whole
 written_of call dump old new (Err failure) whole part = part
 
--- a text with what is told behind it
+-- a text with what is reported after it
 pub arrives_behind : (call : Call) (dump : List ℕ) (answer : Result Bool SurveyFailure)
     (told : Result Bool BrokenOff) (a b : Option (List ℕ)) (sink : LentState)
     → Arrives call dump (append_known a []) b answer → Keeps b (lent_taken sink) → sink.out.start ≡ a

@@ -13,7 +13,7 @@ never_with : (o : Option Empty) (side : Side) (rows : List Row) → call_with (s
 never_with None side rows e = cc
 never_with (Some empty) side rows e = cc
 
--- rows behind a side aren't refused as other words
+-- rows after a side aren't rejected as wrong arguments
 pub never_words : (side : Side) (rows : List Row) (r : Result Call Usage) → TellsCall (call_of_side side rows) r
     → r ≡ Err Words → ⊥
 never_words side rows r answers is = never_with (empty_in rows) side rows (subst (TellsCall (call_of_side side rows)) is answers)

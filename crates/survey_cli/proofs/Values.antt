@@ -21,7 +21,7 @@ no_sides = refl
 abbrev flagged : List Text → List Text
 flagged words = codes "p" ∷ codes "include" ∷ words
 
--- a flag behind a prefix is read, and one behind the two minus signs is a prefix
+-- a flag after a prefix is read, and one after the two minus signs is a prefix
 around : call_of_words (flagged (codes "a" ∷ codes "--drop-all-empty-revs" ∷ codes "--" ∷ codes "--x" ∷ []))
     ≡ Ok (record {
       options = record {

@@ -1,4 +1,4 @@
-//! The whole program, over any reader and writers.
+//! The whole program, with any reader and writers.
 ghost use Rattle.std.specs.Prelude.{◌≡◌, [], List, ℕ, map, Ok, IfErr, IfOk, OnErr, OnOk};
 ghost use Rattle.std.specs.Io.KnownBytes.{Appends, GrowsBy, Keeps};
 ghost use Rattle.dump_writer.specs.steps.SinkStates.{lent_taken, loan_of};
@@ -19,13 +19,13 @@ use dump_writer::OutMut;
 use std::alloc::Global;
 use std::io::{Read, Write};
 
-/// How the lines name the program, and the status of a failure.
+/// The name of the program in its lines, and the status of a failure.
 pub const PROGRAM: Program = Program {
     name: "svndumpsurvey",
     failed: 3,
 };
 
-/// A survey that broke off.
+/// Why a survey wasn't completely written.
 #[derive(Clone, Copy)]
 struct BrokenOff {
     failure: SurveyFailure,
@@ -33,8 +33,8 @@ struct BrokenOff {
     written: u64,
 }
 
-/// The whole program, with its exit status. The reader is thought to have so many bytes; the number spares growing and
-/// has no other meaning.
+/// Runs the whole program, and returns its exit status. `size` is a guess of the size of the input. A right guess
+/// avoids that the buffer grows; it has no other effect.
 pub fn drive<'a, R: Read, W: Write, E: Write>(
     alloc: Global,
     words: &'a [&'a str],
@@ -52,7 +52,7 @@ pub fn drive<'a, R: Read, W: Write, E: Write>(
     }
 }
 
-/// The same of arguments that ask for no text.
+/// The same, if the arguments ask neither for help nor for the version.
 fn drive_survey<'a, R: Read, W: Write, E: Write>(
     alloc: Global,
     words: &'a [&'a str],
@@ -69,7 +69,7 @@ fn drive_survey<'a, R: Read, W: Write, E: Write>(
     }
 }
 
-/// Surveys the whole input, as the call asks for.
+/// Surveys the whole input, as the call asks.
 fn survey_input<R: Read, W: Write, E: Write>(
     alloc: Global,
     call: &Call,
@@ -93,7 +93,7 @@ fn survey_input<R: Read, W: Write, E: Write>(
     tell(errors, answer)
 }
 
-/// Writes the survey with all that follows it, and flushes what waits.
+/// Writes the survey with all that follows it, and flushes the sink.
 fn survey_and_flush<W: Write>(
     alloc: Global,
     dump: &[u8],
@@ -162,7 +162,7 @@ fn write_asked_map<W: Write>(
     Ok(())
 }
 
-/// Flushes what waits after a text, unless its sink failed: then no more is tried.
+/// Flushes the sink after a text. If the sink has failed, nothing more is written.
 fn flush_behind<W: Write>(
     sink: &mut OutMut<'_, W>,
     answer: Result<bool, SurveyFailure>,
@@ -183,7 +183,7 @@ fn flush_behind<W: Write>(
     }
 }
 
-/// A failure, with the bytes that the sink's writer took.
+/// A failure, and the number of bytes that the sink's writer took.
 fn broken_off<W: Write>(sink: &OutMut<'_, W>, failure: SurveyFailure) -> BrokenOff
     ensures { GrowsBy sink.now.out.start sink.now.out.taken result.written }
 {
@@ -193,7 +193,7 @@ fn broken_off<W: Write>(sink: &OutMut<'_, W>, failure: SurveyFailure) -> BrokenO
     }
 }
 
-/// The line of a survey that broke off, and the status.
+/// Writes the line of a survey that failed, and returns the status.
 fn tell<E: Write>(errors: &mut E, answer: Result<bool, BrokenOff>) -> u8
     ensures { result ≡ told_status answer }
 {
@@ -204,7 +204,7 @@ fn tell<E: Write>(errors: &mut E, answer: Result<bool, BrokenOff>) -> u8
     }
 }
 
-/// How the line of a failure names it.
+/// The name of a failure in its line.
 fn cause(failure: SurveyFailure) -> Cause {
     match failure {
         SurveyFailure::Sink => Cause::Sink,

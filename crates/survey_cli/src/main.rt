@@ -1,4 +1,4 @@
-//! A survey of Subversion dump files before they are filtered, over standard input and output.
+//! A survey of Subversion dumps before they are filtered, on standard input and output.
 #![tactic(auto)]
 
 mod command;
@@ -20,7 +20,7 @@ fn main(rt: HostRuntime) -> ExitCode {
     ExitCode::from(status)
 }
 
-/// The whole program on the arguments and the streams of the process.
+/// Runs the whole program with the arguments and the streams of the process.
 fn run_words(rt: &HostRuntime) -> Result<u8, Usage> {
     let alloc = rt.alloc();
     let words = arguments(rt)?;

@@ -1,4 +1,4 @@
-//! What no clause says: the lines as users see them, and streams that fail.
+//! What no contract says: the lines as users see them, and streams that fail.
 
 mod drive;
 mod words;

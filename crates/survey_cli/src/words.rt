@@ -10,20 +10,20 @@ use cli_support::{Usage, is_set, read_line, read_options, side_in};
 use dump_rules::{Options, Side};
 use std::alloc::Global;
 
-/// What a call asks for.
+/// The arguments of a call.
 #[derive(Drop)]
 pub struct Call {
     /// The options of the filter whose dump is surveyed.
     pub options: Options,
-    /// Whether the map of revisions is wanted.
+    /// Whether the call asks for the map of revisions.
     pub map: bool,
 }
 
-/// What the arguments ask for. `words[0]` is the program's name.
+/// Reads the arguments. `words[0]` is the program's name.
 pub fn call_of<'a>(alloc: Global, words: &'a [&'a str]) -> Result<Call, Usage>
     ensures meaning { TellsCall (call_of_words (map (λ word. word.now) words.now)) result }
 
-    // No lawful line is rejected as other arguments.
+    // A well-formed call is never rejected as wrong arguments.
     ensures lawful { is_survey_call (map (λ word. word.now) words.now) ≡ true → result ≢ Err Usage.Words }
     ensures takes { is_taken_call (map (λ word. word.now) words.now) ≡ true → result ≢ Err Usage.Words }
 {
@@ -42,7 +42,7 @@ pub fn call_of<'a>(alloc: Global, words: &'a [&'a str]) -> Result<Call, Usage>
     }
 }
 
-/// What a subcommand and what follows it ask for.
+/// Reads a subcommand and the arguments after it.
 fn read_call(alloc: Global, side: Side, matches: &ArgMatches<'_>) -> Result<Call, Usage>
     ensures { TellsCall (call_of_side side (rows_of (found_of matches.now))) result }
 {

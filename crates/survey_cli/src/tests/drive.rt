@@ -1,4 +1,4 @@
-//! The whole program on readers and writers of the tests' own.
+//! The whole program with readers and writers that the tests define.
 
 use crate::drive::drive;
 use std::alloc::Global;
@@ -25,7 +25,7 @@ total 1: copies whose source is excluded (fault 12): include the source too, or 
 total 1: copies that may lack the properties of their excluded source: include the source too\n\
 also exclude: /tags/one\n";
 
-/// Fails at once, in reading and in writing.
+/// A stream that fails at each call, in reading and in writing.
 #[derive(Drop)]
 struct Broken;
 
@@ -45,7 +45,7 @@ impl Write for Broken {
     }
 }
 
-/// Whether a survey under these arguments has this status, and leaves these lines and this on the streams.
+/// Whether a survey with these arguments has this status, and writes these lines and this text.
 fn is_survey<'a>(alloc: Global, words: &'a [&'a str], wanted: (u8, &[u8], &[u8])) -> bool {
     let mut reader = COPIED;
     let mut output = Vec::new(alloc);

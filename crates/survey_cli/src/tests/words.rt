@@ -48,7 +48,8 @@ fn has_prefixes(options: &Options, prefixes: &[&str]) -> bool {
     options.prefix(prefixes.len()).is_none()
 }
 
-/// Whether arguments give these options. The arguments and the prefixes are in one text each, with spaces between them.
+/// Whether arguments give these options. The arguments and the prefixes are each in one text, with spaces between
+/// them.
 fn is_read(alloc: Global, line: &str, prefixes: &str, wanted: Wanted) -> Result<bool, Fail> {
     let words: Vec<&str> = line.split(' ').collect(alloc)?;
     let prefixes: Vec<&str> = prefixes.split(' ').collect(alloc)?;
@@ -65,7 +66,7 @@ const FLAGS: Wanted = Wanted {
     map: true,
 };
 
-/// Words, and the prefixes and the rest of what they ask for.
+/// Arguments, and the call that they give: the prefixes and the rest.
 const READ: [(&str, &str, Wanted); 9] = [
     ("p include a", "a", PLAIN),
     (
@@ -139,7 +140,7 @@ fn is_refused<'a>(alloc: Global, words: &'a [&'a str], usage: Usage) -> bool {
     }
 }
 
-/// The same of arguments with spaces between them.
+/// Whether the arguments in this text, with spaces between them, are rejected in this way.
 fn is_line_refused(alloc: Global, line: &str, usage: Usage) -> Result<bool, Fail> {
     let words: Vec<&str> = line.split(' ').collect(alloc)?;
     Ok(is_refused(alloc, words.as_slice(), usage))
@@ -195,7 +196,7 @@ fn is_two_prefixes_renumbered(options: &Options) -> bool {
         && options.renumber()
 }
 
-/// Run with each allocation failing in turn: there are options, or no memory.
+/// Run with each allocation failing in turn: the call returns options, or the error for memory.
 #[test]
 fn options_or_no_memory(rt: HostRuntime) {
     let words = ["svndumpsurvey", "exclude", "--renumber-revs", "a", "b"];
