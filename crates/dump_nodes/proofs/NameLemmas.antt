@@ -7,7 +7,7 @@ use Rattle.dump_nodes.specs.declared.canonical_path.Name.TheVariants.{Empty, Oth
 abbrev is_good : List ℕ → Bool
 is_good name = nat_lt 0 (length name) && not (bytes_eq name (46 ∷ []))
 
--- the same of a name that goes on so behind what is known of it
+-- the same of a name that goes on so after what is known of it
 abbrev is_good_from : Name → List ℕ → Bool
 is_good_from known [] = is_whole known
 is_good_from known (b ∷ name) = is_good_from (name_with known b) name
@@ -62,7 +62,7 @@ short_is known (b ∷ text) = cases (short_is Empty text) (short_is (name_with k
     cases new more true = ap (λ c. is_whole known && c) (new ∙ goods_are (split text))
     cases new more false = more ∙ longer (split text) refl
 
--- the load takes a path that isn't empty as it stands where its names are so
+-- the load takes a path that isn't empty unchanged where its names are so
 pub short_path : (path : List ℕ) (b : ℕ) (text : List ℕ) → bare_path path ≡ b ∷ text
     → are_short_from Empty (b ∷ text) ≡ is_short path
 short_path path b text is =

@@ -22,7 +22,7 @@ line_zero h = list_any-append (λ c. c == 0) (header_text h) (10 ∷ []) ∙ or-
     ∙ list_any-append (λ c. c == 0) (h.name ++ codes ": ") h.value
     ∙ ap (λ b. b || has_byte 0 h.value) (list_any-append (λ c. c == 0) h.name (codes ": ") ∙ or-false (has_byte 0 h.name))
 
--- no zero byte stands in a block where none stands in its lines
+-- no zero byte is in a block where none is in its lines
 pub plain_block : (headers : List Header) → not (has_byte 0 (block_text headers)) ≡ list_all is_plain_line headers
 plain_block [] = refl
 plain_block (h ∷ headers) =

@@ -1,4 +1,4 @@
-//! What the header lines of a node say of its action and its kind.
+//! Reads the action and the kind of a node from its header lines.
 ghost use Rattle.std.specs.Prelude.{◌≡◌, [], unwrap_or};
 ghost use Rattle.dump_text.specs.HeaderLine.{header_value};
 ghost use Rattle.dump_text.specs.Names.{node_kind_name};
@@ -18,14 +18,14 @@ const DELETE: &[u8] = b"delete";
 
 const REPLACE: &[u8] = b"replace";
 
-/// What a node does at its path, by its line `Node-action`.
+/// What a node does at its path, as its line `Node-action` says.
 #[derive(Clone, Copy, Debug, PartialEq, Eq)]
 pub enum Action {
     Add,
     Change,
     Delete,
     Replace,
-    /// The node has no action, or one that the format doesn't have.
+    /// The node has no `Node-action`, or the format doesn't have this one.
     Unknown,
 }
 
@@ -54,7 +54,7 @@ impl Action {
         !matches!(self, Action::Unknown)
     }
 
-    /// Whether it deletes what exists at the path.
+    /// Whether it deletes what is at the path.
     pub fn deletes(self) -> bool
         ensures { result ≡ is_deleting self }
     {
@@ -69,7 +69,7 @@ impl Action {
     }
 }
 
-/// The value of the line of this name; no bytes where there is none.
+/// The value of the line of this name; empty if there is none.
 fn value_of<'a>(item: &Record<'a>, name: HeaderName) -> &'a [u8]
     ensures { result.now ≡ unwrap_or (header_value (name_text name) (record_item item.now).headers) [] }
 {
@@ -79,21 +79,21 @@ fn value_of<'a>(item: &Record<'a>, name: HeaderName) -> &'a [u8]
     }
 }
 
-/// Whether the node says that its properties or its text are a delta, where version 3 isn't in force.
+/// Whether the node says that its properties or its text are a delta, although version 3 isn't in force.
 pub fn has_odd_delta(item: &Record<'_>) -> bool
     ensures { result ≡ has_odd_delta (record_item item.now) }
 {
     item.version() != 3 && item.says_delta()
 }
 
-/// The action of the node. It takes a search through the node's lines.
+/// The action of the node. It searches the node's lines.
 pub fn action_of(item: &Record<'_>) -> Action
     ensures { IsActionOf (record_item item.now) result }
 {
     Action::named(value_of(item, HeaderName::NodeAction))
 }
 
-/// The kind that the node states, as it is spelled; no bytes where it states none.
+/// The kind that the node says it has, as the dump spells it; empty if there is none.
 pub fn kind_of<'a>(item: &Record<'a>) -> &'a [u8]
     ensures { result.now ≡ unwrap_or (header_value node_kind_name (record_item item.now).headers) [] }
 {

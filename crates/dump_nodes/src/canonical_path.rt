@@ -1,4 +1,4 @@
-//! Whether a path is canonical, so that `svnadmin load` takes it as it is.
+//! Whether a path is canonical, so that `svnadmin load` uses it unchanged.
 ghost use Rattle.std.specs.Prelude.{◌≡◌};
 ghost use Rattle.dump_trees.specs.Paths.{is_short};
 ghost use Rattle.dump_nodes.specs.steps.Names.{name_with, is_whole, are_short_from};
@@ -6,10 +6,10 @@ ghost use Rattle.dump_nodes.specs.declared.canonical_path.Name.TheVariants.{Empt
 
 use dump_rules::bare_path;
 
-/// What a name is, as far as it was read.
+/// What is known of a name, after a part of it was read.
 #[derive(Clone, Copy)]
 enum Name {
-    /// It has no byte.
+    /// It has no byte so far.
     Empty,
     /// It is a dot.
     Dot,
@@ -58,7 +58,7 @@ fn are_canonical(text: &[u8]) -> bool
     name.is_whole()
 }
 
-/// Whether the path is canonical: none of its names is empty or a dot. One leading slash doesn't count.
+/// Whether the path is canonical: none of its names is empty or a dot. One leading slash is ignored.
 pub fn is_canonical(path: &[u8]) -> bool
     ensures { result ≡ is_short path.now }
 {

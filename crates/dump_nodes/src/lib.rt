@@ -1,9 +1,9 @@
-//! What the record of a node says of its change.
+//! Reads from the record of a node which change the node makes.
 //!
-//! [`action_of`] reads what the node does at its path, [`path_of`], [`copy_path_of`] and
-//! [`copy_revision_of`] where it does so, and [`kind_of`] and [`is_whole_file`] what it is.
-//! [`has_plain_texts`] and [`has_odd_delta`] find the nodes whose change isn't modelled.
-//! [`is_canonical`] is about the path as a text.
+//! [`action_of`] reads what the node does at its path. [`path_of`], [`copy_path_of`] and
+//! [`copy_revision_of`] read where it does so, and [`kind_of`] and [`is_whole_file`] what kind of node
+//! it is. [`has_plain_texts`] and [`has_odd_delta`] find the nodes whose change isn't modelled.
+//! [`is_canonical`] tests a path.
 //!
 //! ```
 //! let action = action_of(item);
@@ -12,8 +12,8 @@
 //! action.makes() && !action.deletes() && path == B && source == A && copy_revision_of(item) == 1
 //! ```
 //!
-//! `tests::is_copied` runs this on a node that copies `a` of revision 1 to `b`; `A` and `B` are these paths, and
-//! `bare_path` is of `dump_rules`. Of paths, these are canonical or not:
+//! `tests::is_copied` runs this on a node that copies `a` of revision 1 to `b`; `A` and `B` are these
+//! paths, and `bare_path` is in `dump_rules`. These paths are canonical or not:
 //!
 //! ```
 //! assert!(rt; is_canonical(b"/a/b") && !is_canonical(b"a/./b") && !is_canonical(b"a/"));
@@ -21,8 +21,8 @@
 //!
 //! `tests::names_between_single_slashes_are_canonical` runs this.
 //!
-//! Lines of a record are looked up by their names. Each question takes a search through the lines, but for
-//! those that the cutter kept. Nothing is allocated.
+//! Each function searches the lines of the record by name, except for those whose places the cutter has
+//! stored. Nothing is allocated.
 #![tactic(auto)]
 
 mod action;

@@ -1,4 +1,4 @@
-//! The parts of a node's record that its change is read from.
+//! Reads the parts of a node's record that say which change the node makes.
 ghost use Rattle.std.specs.Prelude.{◌≡◌, IsTrue, unwrap_or};
 ghost use Rattle.dump_text.specs.Names.{copy_revision_name};
 ghost use Rattle.dump_records.specs.HeaderRules.{header_number};
@@ -11,7 +11,7 @@ ghost use Rattle.dump_history.specs.Findings.{makes_copy};
 use crate::action::action_of;
 use dump_records::Record;
 
-/// The path of the node, as the dump spells it; no bytes of another record.
+/// The path of the node, as the dump spells it; empty for another record.
 pub fn path_of<'a>(item: &Record<'a>) -> &'a [u8]
     ensures { result.now ≡ node_path (record_item item.now) }
 {
@@ -21,7 +21,7 @@ pub fn path_of<'a>(item: &Record<'a>) -> &'a [u8]
     }
 }
 
-/// The path of the node's copy source, as the dump spells it; no bytes where it has none.
+/// The path of the node's copy source, as the dump spells it; empty if there is none.
 pub fn copy_path_of<'a>(item: &Record<'a>) -> &'a [u8]
     requires { IsTrue (is_node (record_item item.now)) }
     ensures { result.now ≡ copy_path (record_item item.now) }
@@ -32,7 +32,7 @@ pub fn copy_path_of<'a>(item: &Record<'a>) -> &'a [u8]
     }
 }
 
-/// The revision of the node's copy source; 0 where it has none.
+/// The revision of the node's copy source; 0 if there is none.
 pub fn copy_revision_of(item: &Record<'_>) -> u64
     requires { IsTrue (is_node (record_item item.now)) }
     ensures { result ≡ unwrap_or (header_number copy_revision_name (record_item item.now).headers) 0 }
@@ -43,7 +43,7 @@ pub fn copy_revision_of(item: &Record<'_>) -> u64
     }
 }
 
-/// Whether the node has a copy source. One that changes or deletes may have the lines too; no load reads them there.
+/// Whether the node has a copy source. A node that changes or deletes may have the lines too, but a load ignores them.
 pub fn is_copy(item: &Record<'_>) -> bool
     requires { IsTrue (is_node (record_item item.now)) }
     ensures { result ≡ is_copy (record_item item.now) }

@@ -1,4 +1,4 @@
-//! Whether `svnadmin load` reads the texts of a node as they are.
+//! Whether `svnadmin load` reads the texts of a node unchanged.
 ghost use Rattle.std.specs.Prelude.{◌≡◌, List, Option, [], IsTrue, not, unwrap_or};
 ghost use Rattle.std.specs.List.{list_all};
 ghost use Rattle.dump_text.specs.HeaderLine.{has_byte};
@@ -22,7 +22,7 @@ fn has_zero(text: &[u8]) -> bool
     text.contains(&0)
 }
 
-/// Whether no header line has a zero byte. The block of the lines is asked: its other bytes are colons, blanks and LFs.
+/// Whether no header line has a zero byte. It searches the whole block, whose other bytes are colons, blanks and LFs.
 fn are_lines_plain(item: &Record<'_>) -> bool
     ensures { result ≡ list_all is_plain_line (record_item item.now).headers }
 {
@@ -43,7 +43,7 @@ fn are_names_plain(props: &Props<'_>) -> bool
     true
 }
 
-/// Whether no name of the record's properties has a zero byte; where they can't be read, it has no names.
+/// Whether no name of the record's properties has a zero byte; true if the properties can't be read.
 fn are_properties_plain(item: &Record<'_>, props: &Option<Props<'_>>) -> bool
     requires { ArePropertiesOf (record_item item.now) props.now }
     ensures { (ps : Option (List Property)) → IsReadBlock (record_item item.now) ps
@@ -55,8 +55,8 @@ fn are_properties_plain(item: &Record<'_>, props: &Option<Props<'_>>) -> bool
     }
 }
 
-/// Whether `svnadmin load` reads the texts of the node, whose properties these are, as they are: it cuts a value at a zero
-/// byte, rejects a name with one, and makes paths canonical.
+/// Whether `svnadmin load` reads the texts of the node unchanged; `props` are the node's properties. A load cuts a
+/// value at a zero byte, rejects a name with one, and makes paths canonical.
 pub fn has_plain_texts(item: &Record<'_>, props: &Option<Props<'_>>) -> bool
     requires node { IsTrue (is_node (record_item item.now)) }
     requires props { ArePropertiesOf (record_item item.now) props.now }

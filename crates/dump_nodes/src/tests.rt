@@ -1,4 +1,4 @@
-//! Each call once: on a node that copies, on one that replaces a file, and on paths that aren't canonical.
+//! One call of each function: on a node that copies, on one that replaces a file, and on paths that aren't canonical.
 ghost use Rattle.std.specs.Prelude.{IsTrue};
 ghost use Rattle.dump_records.specs.steps.RecordViews.{record_item};
 ghost use Rattle.dump_digest.specs.RecordParts.{is_node};

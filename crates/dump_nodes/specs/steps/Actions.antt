@@ -1,4 +1,4 @@
--- What a node does at its path, as the program has its action.
+-- What a node does at its path, as the program reads it.
 use Rattle.std.specs.Prelude.{◌≡◌, ℕ, Bool, true, false, List, bytes_eq, codes, if◌then◌else◌}
 use Rattle.dump_records.specs.RecordText.{DumpRecord}
 use Rattle.dump_history.specs.RecordChanges.{deletes, has_known_action, makes}
@@ -14,12 +14,12 @@ action_named name =
     else if bytes_eq name (codes "replace") then Replace
     else Unknown
 
--- whether it is one of the four that there are
+-- whether it is one of the four actions of the format
 abbrev pub is_known_action : Action → Bool
 is_known_action Unknown = false
 is_known_action _ = true
 
--- whether it deletes what stands at the path
+-- whether it deletes what is at the path
 abbrev pub is_deleting : Action → Bool
 is_deleting Delete = true
 is_deleting Replace = true

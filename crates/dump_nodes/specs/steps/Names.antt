@@ -15,7 +15,7 @@ is_whole Empty = false
 is_whole Dot = false
 is_whole Other = true
 
--- whether this name, with what stands before the first slash, and all names behind it are so
+-- whether this name with the bytes before the first slash, and all names after that, are neither empty nor a dot
 abbrev pub are_short_from : Name → List ℕ → Bool
 are_short_from name [] = is_whole name
 are_short_from name (b ∷ text) =
