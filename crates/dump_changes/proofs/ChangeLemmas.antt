@@ -1,4 +1,4 @@
--- Which change a node makes, told from what is read of it.
+-- Which change a node makes, as determined by what is read of it.
 use Rattle.dump_changes.proofs.Prelude.{◌≡◌, Bool, true, false, not, ◌&&◌, cond, List, Option, Some, None, refl, sym, ap, ◌∙◌, and_parts, and_from, HasPropertyBlock, HasPropertyList, node_path, DumpRecord, IsReadBlock, Patching, MakesChange, Property, Props, path_of}
 use Rattle.std.proofs.Common.{IsSome, ◌↔◌}
 use Rattle.dump_trees.specs.Changes.{Change}
@@ -15,7 +15,7 @@ told_change patched r ps = record {
   text = text_change_of patched r;
 }
 
--- a node whose change is told makes it
+-- a node whose change is modelled makes it
 pub makes_told : (patched : Patching) (r : DumpRecord) (ps : List Property) → HasPropertyList r ps → is_told r (Some ps) ≡ true
     → MakesChange patched r (told_change patched r ps)
 makes_told patched r ps has told =
@@ -28,7 +28,7 @@ makes_told patched r ps has told =
           (and_from (has_known_action r) (not (has_odd_delta r)) known.0 odd.0),
     )
 
--- a node that makes a change is told
+-- a node that makes a change is modelled
 pub told_if_makes : (patched : Patching) (r : DumpRecord) (c : Change) → MakesChange patched r c
     → (ps : List Property) × HasPropertyList r ps × (is_told r (Some ps) ≡ true)
 told_if_makes patched r c (ps, has, plain, is) =

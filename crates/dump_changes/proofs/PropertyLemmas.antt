@@ -68,7 +68,7 @@ changed_by patched r c (ps, has, plain, is) setting says old new made =
     subst (λ (change : Option PropertyChange). props_by change old ≡ Some new) same
     (made ps has.0 (subst (λ (change : Option PropertyChange). HasProps setting change) (sym same) says))
 
--- the listed change tells of the change of a repository that a record makes, which comes so many records after the first
+-- the listed change describes the change of a repository that a record makes, which comes this many records after the first
 pub record IsMadeBy (patched : Patching) (records : List DumpRecord) (number : ℕ) (l : Listed) (p : Placed) : Type 0 where
   pub further : ℕ
   pub number_is : l.record_number ≡ number + further

@@ -90,7 +90,7 @@ zip_push [] (q ∷ placed) all l p is = absurd all
 zip_push (k ∷ listed) [] all l p is = absurd all
 zip_push (k ∷ listed) (q ∷ placed) all l p is = (all.0, zip_push listed placed all.1 l p is)
 
--- the revision to which nodes belong behind one more record
+-- the revision to which nodes belong after one more record
 present_next : (present : Option ℕ) (before : List DumpRecord) (r : DumpRecord)
     → present_behind present (before ++ r ∷ []) ≡ revision_behind r (present_behind present before)
 present_next present [] r = refl
@@ -185,7 +185,7 @@ module _ (dump : List ℕ) (cutter after : CutterState) (at : Position) (changes
         present_next None so_far.before (record_item item)
         ∙ ap (revision_behind (record_item item)) so_far.present ∙ is
 
-    -- a record that makes no change, behind which there are these numbers
+    -- a record that makes no change, after which there are these numbers
     read_on : (next : Position) (all : List ℕ) → is_node (record_item item) ≡ false
         → GoesOnFrom (record_item item) at next → IsBeforeNext (record_item item) at next
         → CountsTo (record_item item) at next → revision_behind (record_item item) at.present ≡ next.present
@@ -350,7 +350,7 @@ module _ (dump : List ℕ) (cutter after : CutterState) (at : Position) (changes
 
 -- one record
 
--- a node of a revision behind the first one
+-- a node of a revision after the first one
 pub node_reads : (patched : Patching) (present : Option ℕ) (number : ℕ) (r : DumpRecord) (change : Change)
     (revision : ℕ) (records : List DumpRecord) (placed : List Placed) → is_revision_record r ≡ false → is_node r ≡ true
     → MakesChange patched r change → present ≡ Some number → 0 < number → number ≡ revision

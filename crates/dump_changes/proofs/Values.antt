@@ -79,7 +79,7 @@ stored_whole = inr (
   (refl, refl),
 )
 
--- behind it not
+-- after the second change it is stored as a delta
 stored_delta : IsStoredAt (text ∷ no_text ∷ []) changes (codes "f") 2 (TextStored.Delta 1)
 stored_delta = inr (
   1,

@@ -1,4 +1,4 @@
-//! Laws of what is read of a dump, each the contract of a function that does nothing.
+//! Laws of what is read from a dump. Each law is the contract of a function that does nothing.
 ghost use Rattle.dump_changes.specs.FileTexts.{TextsAreOfTrees, WholeTextsAreFound};
 ghost use Rattle.dump_changes.specs.NodeProperties.{PropertiesAreOfTrees};
 

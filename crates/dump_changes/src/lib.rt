@@ -1,8 +1,9 @@
-//! The changes that the nodes of a dump make, read from its bytes, as `dump_index` takes them.
+//! Reads the changes that the nodes of a dump make from its bytes, in the form that `dump_index` takes.
 //!
-//! [`read_changes`] reads those of a whole dump, and [`node_change`] that of one node. If a node makes no change that is
-//! modelled, or the numbers of the revisions don't rise, the reading ends there and says at which record. If the revisions
-//! aren't numbered 0, 1, 2 and so on, [`with_loaded_source`] says of which one a load takes a copy.
+//! [`read_changes`] reads the changes of a whole dump, and [`node_change`] that of one node. If a node
+//! makes no change that is modelled, or the numbers of the revisions don't rise, the reading ends there
+//! and says at which record. If the revisions aren't numbered 0, 1, 2 and so on, [`with_loaded_source`]
+//! says from which one a load takes a copy.
 //!
 //! ```
 //! let none = read_changes(rt.alloc(), b"SVN-fs-dump-format-version: 2\n\n")?;
@@ -17,8 +18,9 @@
 //!
 //! `tests::other_ends_are_told` runs this.
 //!
-//! [`properties_at`] finds the properties of the node at a path after some of the changes. It takes a [`PropertyTable`] of the
-//! dump. [`text_at`] finds the text of a file in the same way, if the dump has it as a whole. It takes a [`TextTable`].
+//! [`properties_at`] finds the properties of the node at a path after some of the changes, with a
+//! [`PropertyTable`] of the dump. [`text_at`] finds the text of a file in the same way, if the dump has
+//! it as a whole, with a [`TextTable`].
 #![tactic(auto)]
 
 pub mod laws;

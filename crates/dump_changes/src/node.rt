@@ -1,4 +1,4 @@
-//! The change that a node makes.
+//! Reads the change that a node makes.
 ghost use Rattle.std.specs.Prelude.{◌≡◌, List, Option, [], IfSome, IsTrue, not, option_map, unwrap_or};
 ghost use Rattle.std.specs.List.{list_all};
 ghost use Rattle.dump_text.specs.Names.{copy_revision_name, property_length_name};
@@ -46,7 +46,7 @@ fn is_told(item: &Record<'_>, action: Action, props: &Option<Props<'_>>) -> bool
     read & !delta & action.is_known() & plain
 }
 
-/// What is made of a node's kind.
+/// What a node makes, according to its kind.
 fn made_by_kind<'a>(item: &Record<'_>) -> Option<NodeMade<'a>>
     ensures { option_map listed_made result ≡ made_by_kind (record_item item.now) }
 {
@@ -89,7 +89,7 @@ fn has_entry(props: &Props<'_>) -> bool
     }
 }
 
-/// What a property delta does to the properties.
+/// How a property delta changes the properties.
 fn edit_of(item: &Record<'_>, props: &Option<Props<'_>>) -> Setting
     requires { ArePropertiesOf (record_item item.now) props.now }
     ensures { (ps : List Property) → HasPropertyList (record_item item.now) ps
@@ -107,7 +107,7 @@ fn edit_of(item: &Record<'_>, props: &Option<Props<'_>>) -> Setting
     }
 }
 
-/// What a node, whose properties these are, does to properties.
+/// How a node with these properties changes properties.
 fn props_of(item: &Record<'_>, props: &Option<Props<'_>>) -> Setting
     requires { ArePropertiesOf (record_item item.now) props.now }
     ensures { (ps : List Property) → HasPropertyList (record_item item.now) ps
@@ -122,7 +122,7 @@ fn props_of(item: &Record<'_>, props: &Option<Props<'_>>) -> Setting
     }
 }
 
-/// What a node does to a text.
+/// How a node changes a text.
 fn text_of(item: &Record<'_>) -> Setting
     ensures { (patched : Patching) → HasText result (text_change_of patched (record_item item.now)) }
 {
@@ -135,7 +135,7 @@ fn text_of(item: &Record<'_>) -> Setting
     }
 }
 
-/// The change that a node of the revision with this number makes; none if it makes none that is modelled.
+/// The change that a node of the revision with this number makes; `None` if it makes none that is modelled.
 pub fn node_change<'a>(item: &Record<'a>, revision: u64) -> Option<NodeChange<'a>>
     requires { IsTrue (is_node (record_item item.now)) }
     ensures change { IsChangeOf (record_item item.now) revision (option_map listed_of result) }

@@ -1,6 +1,6 @@
 //! The text of a file.
 
-/// The text of a file, with the digests that the lines of its record give, in hexadecimal. All are parts of the dump.
+/// The text of a file, with the digests that the lines of its record give, in hexadecimal. All are slices of the dump.
 #[derive(Clone, Copy, Debug, PartialEq, Eq)]
 pub struct NodeText<'a> {
     pub text: &'a [u8],

@@ -11,7 +11,7 @@ use dump_index::{ChangeIndex, NodeChange, Part};
 use dump_rules::Memory;
 use std::alloc::Global;
 
-/// Makes of a node's properties what the change makes of them.
+/// Changes a node's properties as the change does.
 fn apply_change<'a>(
     props: &mut Vec<NodeProperty<'a>>,
     table: &PropertyTable<'a>,
@@ -22,15 +22,16 @@ fn apply_change<'a>(
 {
     match table.block(change.record_number) {
         Some(block) => apply_block(props, change.props, block),
-        // the table is of another dump
+        // the table has no such record if it is of another dump
         None => Ok(()),
     }
 }
 
-/// The properties of the node at the path after the first `count` changes. The table and the index have to be of one dump.
+/// The properties of the node at the path after the first `count` changes. The table and the index have to be of one
+/// dump.
 ///
-/// Of two properties that differ in when they were set last, the later one comes last. If no node is at the path, the result
-/// means nothing.
+/// If two properties were last set by different changes, the one that was set later comes later. If no node is at the
+/// path, the result has no meaning.
 pub fn properties_at<'a>(
     alloc: Global,
     table: &PropertyTable<'a>,

@@ -1,4 +1,4 @@
-//! What the property block of a change makes of a node's properties.
+//! How the property block of a change changes a node's properties.
 ghost use Rattle.std.specs.Prelude.{◌≡◌, List, Some, OnOk, map};
 ghost use Rattle.dump_text.specs.PropertyList.{IsPropertyBlock, Property};
 ghost use Rattle.dump_text.specs.steps.PropertyViews.{entry_property, props_bytes};
@@ -46,7 +46,7 @@ fn apply_entries<'a>(props: &mut Vec<NodeProperty<'a>>, block: &Props<'a>) -> Re
     Ok(())
 }
 
-/// Makes of a node's properties what a change with this setting and this property block makes of them.
+/// Changes a node's properties as a change with this setting and this property block does.
 pub(crate) fn apply_block<'a>(
     props: &mut Vec<NodeProperty<'a>>,
     setting: Setting,
@@ -58,7 +58,7 @@ pub(crate) fn apply_block<'a>(
         ≡ Some (map as_property props.new.items)) }
 {
     let Some(block) = Props::read_with_deletes(block) else {
-        // no node with such a block makes a change
+        // a node with such a block makes no change
         return Ok(());
     };
     match setting {

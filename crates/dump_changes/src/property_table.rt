@@ -9,9 +9,10 @@ use dump_rules::Memory;
 use std::alloc::Global;
 use std::marker::Model;
 
-/// The property blocks of a dump's records, by the numbers of the records. A record without properties has an empty one.
+/// The property blocks of a dump's records; the index is the number of the record. A record without properties has an
+/// empty one.
 ///
-/// Each block is a part of the dump: no bytes are copied.
+/// Each block is a slice of the dump: no bytes are copied.
 #[derive(Drop)]
 pub struct PropertyTable<'a> {
     blocks: Vec<&'a [u8]>,
@@ -26,7 +27,7 @@ impl<'a> Model for PropertyTable<'a> {
 }
 
 impl<'a> PropertyTable<'a> {
-    /// The blocks of the records of a dump. If it has a fault, those of the records before the fault.
+    /// The blocks of the records of a dump. If the dump has a fault, those of the records before the fault.
     pub fn of(alloc: Global, dump: &'a [u8]) -> Result<PropertyTable<'a>, Memory>
         ensures { IfOk result (λ table. (records : List DumpRecord) (ending : Ending) → HasRecords dump.now records ending
             → table ≡ property_blocks records) }

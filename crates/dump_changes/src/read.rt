@@ -1,4 +1,4 @@
-//! The changes of a whole dump.
+//! Reads the changes of a whole dump.
 ghost use Rattle.std.specs.Prelude.{◌≡◌, false, true, IfOk};
 ghost use Rattle.dump_records.specs.steps.RecordViews.{record_item, record_number};
 ghost use Rattle.dump_digest.specs.RecordParts.{is_node, is_revision_record};
@@ -22,19 +22,19 @@ pub enum End {
     /// At the record with this number: a node of revision 0 or of no revision, or a revision whose number isn't above the one
     /// before, or is the largest that there is.
     OutOfOrder(u64),
-    /// At this byte of the dump, at which no record is, for this fault.
+    /// At this byte of the dump, where no record is because of this fault.
     Broken { kind: FaultKind, place: usize },
 }
 
-/// What is read of a dump.
+/// What was read from a dump.
 #[derive(Drop)]
 pub struct Reading<'a> {
-    /// The changes of the nodes up to the end of the reading, in order. Revisions, and those of which nodes are copied, have
-    /// the numbers that the dump gives them. No node is in revision 0.
+    /// The changes of the nodes up to the end of the reading, in order. The numbers of revisions, also of copied ones,
+    /// are those in the dump. No node is in revision 0.
     pub changes: Vec<NodeChange<'a>>,
-    /// The numbers of the revisions up to there. Each is above the one before.
+    /// The numbers of the revisions up to there. Each is larger than the one before.
     pub numbers: Vec<u64>,
-    /// Whether there are some, and they are 0, 1, 2 and so on.
+    /// Whether there is a revision, and the revisions are numbered 0, 1, 2 and so on.
     pub numbered: bool,
     pub end: End,
 }
@@ -44,7 +44,7 @@ pub struct Reading<'a> {
 pub(crate) struct Position {
     /// The least number of the next revision.
     next: u64,
-    /// The revision to which a node belongs that comes next, if there is one.
+    /// The revision to which the next node belongs, if there is one.
     present: Option<u64>,
     /// Whether the revisions so far are numbered 0, 1, 2 and so on.
     numbered: bool,
@@ -66,7 +66,7 @@ pub(crate) enum Step<'a> {
 }
 
 impl Position {
-    /// What a revision is.
+    /// Reads a revision.
     fn revision<'a>(&self, item: &Record<'a>) -> Step<'a>
         requires node { is_node (record_item item.now) ≡ false }
         requires revision { is_revision_record (record_item item.now) ≡ true }
@@ -90,7 +90,7 @@ impl Position {
         Step::Revision { number, behind }
     }
 
-    /// What a node is.
+    /// Reads a node.
     fn node<'a>(&self, item: &Record<'a>) -> Step<'a>
         requires node { is_node (record_item item.now) ≡ true }
         requires revision { is_revision_record (record_item item.now) ≡ false }
@@ -109,7 +109,7 @@ impl Position {
         }
     }
 
-    /// What was read up to here, if the reading ends in this way.
+    /// The result of the reading, if it ends here and in this way.
     fn ended<'a>(&self, changes: Vec<NodeChange<'a>>, numbers: Vec<u64>, end: End) -> Reading<'a>
         ensures { EndsAt self.now changes.entry numbers end result }
     {
@@ -121,7 +121,7 @@ impl Position {
         }
     }
 
-    /// What the record is.
+    /// Reads a record.
     fn step<'a>(&self, item: &Record<'a>) -> Step<'a>
         ensures reading { IsReadingStep (record_item item.now) self.now result }
         ensures first { IsBeforeFirst (record_item item.now) self.now result }

@@ -1,4 +1,4 @@
-//! What no clause says: worked dumps, and allocations that fail.
+//! What no contract says: worked dumps, and allocations that fail.
 use crate::{
     End, Memory, NodeProperty, NodeText, PropertyTable, Reading, StoredText, TextTable,
     copies_from_gap, properties_at, read_changes, text_at, with_loaded_source,
@@ -11,7 +11,7 @@ use std::alloc::Global;
 use std::process::Abort;
 use std::test::Fail;
 
-/// trunk with a file in r1, a copy of it in r2 whose file is deleted.
+/// Revision 1 has trunk with a file; revision 2 has a copy of it and deletes the file in the copy.
 const BRANCHED: &[u8] = b"SVN-fs-dump-format-version: 2\n\n\
 Revision-number: 0\n\n\
 Revision-number: 1\n\n\
@@ -144,7 +144,7 @@ fn other_ends_are_told(rt: HostRuntime) -> Result<(), Fail> {
     Ok(())
 }
 
-/// The number of the revision of which a load takes the copy that revision 9 makes of this one.
+/// The number of the revision from which a load takes a copy, if revision 9 copies from this one.
 fn taken(numbers: &[u64], number: u64) -> Option<u64> {
     let source = Source {
         revision: number,
@@ -157,7 +157,7 @@ fn taken(numbers: &[u64], number: u64) -> Option<u64> {
     }
 }
 
-/// As `svnadmin load` of Subversion 1.14 takes them: it loads 2, 5, 6 and 9 as revisions 2 to 5.
+/// Checked against `svnadmin load` of Subversion 1.14: it loads 2, 5, 6 and 9 as revisions 2 to 5.
 #[test]
 fn sources_are_those_that_a_load_takes(rt: HostRuntime) {
     let gaps: &[u64] = &[0, 1, 2, 5, 6, 9];
@@ -193,7 +193,7 @@ fn copies_from_a_gap_are_found(rt: HostRuntime) {
     assert!(rt; !copies_from_gap(&[0, 2], &changes[3]));
 }
 
-/// Run with each allocation failing in turn: the changes are read, or there is no memory.
+/// Run with each allocation failing in turn: the call returns the changes, or the error for memory.
 #[test]
 fn changes_or_no_memory(rt: HostRuntime) {
     let answered = match read_changes(rt.alloc(), BRANCHED) {
@@ -203,7 +203,8 @@ fn changes_or_no_memory(rt: HostRuntime) {
     assert!(rt; answered);
 }
 
-/// trunk has a and b in r1, loses a and has another b in r2, and has c alone in r4. In r3 a copy of trunk in r1 has another a.
+/// In r1 trunk has a and b. In r2 it loses a and gets another b, and in r4 it has c alone. In r3 a copy of trunk in r1
+/// has another a.
 const SET: &[u8] = b"SVN-fs-dump-format-version: 3\n\n\
 Revision-number: 0\n\n\
 Revision-number: 1\n\n\
@@ -268,7 +269,7 @@ fn properties_of_the_past_are_found(rt: HostRuntime) {
     assert!(rt; are_found(alloc, b"trunk", 4, &[property(b"c", b"4")]));
 }
 
-/// Run with each allocation failing in turn: the properties are found, or there is no memory.
+/// Run with each allocation failing in turn: the call returns the properties, or the error for memory.
 #[test]
 fn properties_or_no_memory(rt: HostRuntime) {
     let wanted: &[NodeProperty<'_>] = &[property(b"b", b"3")];
@@ -279,7 +280,8 @@ fn properties_or_no_memory(rt: HostRuntime) {
     assert!(rt; answered);
 }
 
-/// f gets a text in r1, another one with its digests in r2, and a delta in r3, in which copy is copied from r2. g has no text.
+/// f gets a text in r1, another one with its digests in r2, and a delta in r3. In r3, copy is copied from f in r2. g
+/// has no text.
 const TEXTS: &[u8] = b"SVN-fs-dump-format-version: 3\n\n\
 Revision-number: 0\n\n\
 Revision-number: 1\n\n\
@@ -350,7 +352,7 @@ fn texts_of_the_past_are_found(rt: HostRuntime) {
     assert!(rt; is_stored(alloc, b"g", 5, StoredText::Whole(text(b""))));
 }
 
-/// Run with each allocation failing in turn: the text is found, or there is no memory.
+/// Run with each allocation failing in turn: the call returns the text, or the error for memory.
 #[test]
 fn texts_or_no_memory(rt: HostRuntime) {
     let answered = match stored(rt.alloc(), TEXTS, b"copy", 5) {

@@ -12,9 +12,10 @@ use dump_rules::Memory;
 use std::alloc::Global;
 use std::marker::Model;
 
-/// The texts of a dump's records, with their digests, by the numbers of the records. A record without a text has an empty one.
+/// The texts of a dump's records, with their digests; the index is the number of the record. A record without a text
+/// has an empty one.
 ///
-/// Each text is a part of the dump: no bytes are copied.
+/// Each text is a slice of the dump: no bytes are copied.
 #[derive(Drop)]
 pub struct TextTable<'a> {
     texts: Vec<NodeText<'a>>,
@@ -42,7 +43,7 @@ fn text_of<'a>(item: &Record<'a>) -> NodeText<'a>
 }
 
 impl<'a> TextTable<'a> {
-    /// The texts of the records of a dump. If it has a fault, those of the records before the fault.
+    /// The texts of the records of a dump. If the dump has a fault, those of the records before the fault.
     pub fn of(alloc: Global, dump: &'a [u8]) -> Result<TextTable<'a>, Memory>
         ensures { IfOk result (λ table. (records : List DumpRecord) (ending : Ending) → HasRecords dump.now records ending
             → table ≡ record_texts records) }

@@ -18,13 +18,13 @@ const NO_TEXT: NodeText<'static> = NodeText {
     sha1: None,
 };
 
-/// How the text is stored that the change at this place sets.
+/// How the text is stored that is set by the change at this place.
 fn stored_by<'a>(table: &TextTable<'a>, index: &ChangeIndex<'_>, place: usize) -> StoredText<'a>
     ensures { (l : Listed) → slice_get index.now place ≡ Some l → IsStoredBy table.now place l (stored_of result) }
 {
     match index.get(place) {
         Some(change) if change.text == Setting::Replaces => {
-            // the table is of another dump, if it has no such record
+            // the table has no such record if it is of another dump
             StoredText::Whole(table.text(change.record_number).unwrap_or(NO_TEXT))
         }
         _ => StoredText::Delta(place),

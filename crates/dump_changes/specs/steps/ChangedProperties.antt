@@ -1,4 +1,4 @@
--- What the changes of a dump make of a node's properties.
+-- How the changes of a dump change a node's properties.
 use Rattle.std.specs.Prelude.{◌≡◌, ℕ, List, Some, map, slice_get}
 use Rattle.dump_text.specs.PropertyList.{Property}
 use Rattle.dump_records.specs.RecordText.{DumpRecord}
@@ -23,8 +23,8 @@ AreChangedBy blocks l old new = (patched : Patching) (records : List DumpRecord)
     blocks ≡ property_blocks records → slice_get records l.record_number ≡ Some r → MakesChange patched r c
     → HasProps l.props c.props → props_by c.props old ≡ Some new
 
--- the changes of a trail set these properties of what is at the path after so many changes, if they are of the nodes of records
--- that have these property blocks
+-- the changes of a trail set these properties of what is at the path after the first `count` changes, if they are of
+-- the nodes of records that have these property blocks
 abbrev pub AreMadeOnTrail : List (List ℕ) → List Listed → List ℕ → ℕ → List Property → Type 0
 AreMadeOnTrail blocks listed path count props = (trail : List ℕ) × IsTrail Props listed count path trail
     × ((patched : Patching) (records : List DumpRecord) (changes : List NodeChange) (placed : List Placed) →

@@ -1,4 +1,4 @@
--- What is read of a dump.
+-- What is read from a dump.
 use Rattle.std.specs.Prelude.{◌≡◌, ℕ, true, List, [], ◌∷◌, ◌++◌, length}
 use Rattle.dump_records.specs.RecordText.{DumpRecord}
 use Rattle.dump_records.specs.DumpText.{BeginsWithRecords, Ending, HasRecords}
@@ -24,7 +24,7 @@ EndsReading dump records (NoChange number) = (r : DumpRecord) × IsNext dump rec
 EndsReading dump records (OutOfOrder number) = (r : DumpRecord) × IsNext dump records number r × IsOutOfPlace records r
 EndsReading dump records (Broken kind place) = HasRecords dump records (Ending.Broken kind place)
 
--- what is read
+-- the result of reading a dump
 pub record IsReadingOfDump (dump : List ℕ) (reading : Reading) : Type 0 where
   pub records : List DumpRecord
   pub begins : BeginsWithRecords dump records

@@ -20,8 +20,8 @@ use Rattle.dump_changes.specs.declared.read.Reading.{Reading}
 use Rattle.dump_changes.specs.declared.read.Step.{Step}
 use Rattle.dump_changes.specs.declared.read.Step.TheVariants as steps
 
--- these records make these changes. Their next revision has this number, and a node before it belongs to the present revision,
--- if there is one. At their end at least one revision has come; revision 0 has no node
+-- these records make these changes; their next revision has this number, and a node before that belongs to the present
+-- revision, if there is one; at their end there has been at least one revision; revision 0 has no node
 pub data Reads (patched : Patching) : ℕ → Option ℕ → List DumpRecord → List Placed → Type 0 where
   NoMore : (next : ℕ) (present : Option ℕ) → Reads patched (suc next) present [] []
   Revision : (next : ℕ) (present : Option ℕ) (r : DumpRecord) (records : List DumpRecord) (placed : List Placed)
@@ -42,7 +42,7 @@ IsOutOfPlaceAt r at = ((is_node r ≡ true) × (takes_nodes at.present ≡ false
     ⊎ ((is_revision_record r ≡ true) × ((number : ℕ) → header_number revision_name r.headers ≡ Some number
     → number < 18446744073709551615 → rise_from at.next (revision_numbers (r ∷ [])) ≡ false))
 
--- no revision has come before the next position exactly if none has before this one, and the record is none
+-- whether a revision has come before the next position: only if one has before this position, or the record is one
 abbrev pub IsBeforeNext : DumpRecord → Position → Position → Type 0
 IsBeforeNext r at next = (next.next ≡ 0 → (at.next ≡ 0) × (is_revision_record r ≡ false))
     × (at.next ≡ 0 → is_revision_record r ≡ false → next.next ≡ 0)
@@ -81,7 +81,7 @@ abbrev pub CountsTo : DumpRecord → Position → Position → Type 0
 CountsTo r at next = (records : List DumpRecord) → (counts_on at (r ∷ records) ≡ counts_on next records)
     × (rise_from at.next (revision_numbers (r ∷ records)) ≡ rise_from next.next (revision_numbers records))
 
--- the step says whether they are numbered so, and gives the record's number, if it is a revision
+-- the step says whether they are numbered so, and has the record's number if it is a revision
 abbrev pub IsCountingStep : DumpRecord → Position → Step → Type 0
 IsCountingStep r at steps.NoChange = ⊤
 IsCountingStep r at steps.OutOfOrder = ⊤
@@ -100,7 +100,7 @@ IsPresentStep r at (steps.Revision number next) = revision_behind r at.present �
 IsPresentStep r at (steps.Other next) = revision_behind r at.present ≡ next.present
 IsPresentStep r at (steps.Makes c) = revision_behind r at.present ≡ at.present
 
--- the step says whether the record, which has this number, is a node; its change has the number
+-- the step says whether the record with this number is a node; the change of a node has this number
 abbrev pub IsNumberedStep : DumpRecord → ℕ → Step → Type 0
 IsNumberedStep r number steps.NoChange = ⊤
 IsNumberedStep r number steps.OutOfOrder = ⊤
