@@ -1,4 +1,4 @@
--- The directories above paths, told from the texts of the paths.
+-- The directories above paths, as determined by the texts of the paths.
 use Rattle.std.proofs.Common.{◌≡◌, ℕ, ◌+◌, ◌<◌, ◌≤◌, Bool, true, false, not, ◌&&◌, ◌||◌, ◌==◌, List, [], ◌∷◌, length, take, get_or, nat_eq, nat_lt, bytes_eq, Bor, Some, refl, sym, ap, ap₂, ◌∙◌, subst, inl, inr, arith}
 use Rattle.std.specs.List.{dedup, list_any}
 use Rattle.std.specs.List.Sorted.{IsSorted, IsStrictlySortedBy}
@@ -106,7 +106,7 @@ front_all path front k low = both_ways _ _ (λ is. (and_parts (goes_on front pat
     let cut = goes_on_cut front path is in let less = cut.0 in
     and_from (goes_on front path) (nat_lt (length front) k) is (lt-ltb (length front) k (omega (arith, low, less))))
 
--- the directories above paths are those that the texts of the paths go on behind, and the root
+-- the directories above paths are those that the texts of the paths go on after, and the root
 
 below_text : (top text : List ℕ) → has_name_behind (below (names_of top) (names_of text)) ≡ is_text_below top text
 below_text top text = cases (bytes_eq top text) (stands_over text top) refl refl

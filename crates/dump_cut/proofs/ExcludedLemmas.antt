@@ -1,4 +1,4 @@
--- Excluded paths, told from their texts.
+-- Excluded paths, as determined by their texts.
 use Rattle.std.proofs.Common.{◌≡◌, ℕ, ◌<◌, Bool, true, false, ◌||◌, List, [], ◌∷◌, length, map, take, get_or, bytes_eq, refl, sym, ap, subst, ◌∙◌, is_some}
 use Rattle.std.proofs.lemmas.Bool.{or_parts, or_from, or_left, or_right, eqb-true, eq-eqb, false_from_ne_true}
 use Rattle.std.proofs.lemmas.Map.Text.{is_eq-slice_cmp}

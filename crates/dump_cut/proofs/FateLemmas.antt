@@ -22,7 +22,7 @@ use Rattle.dump_cut.specs.RevisionFates.{fate_of_group, fates_of_groups}
 use Rattle.dump_cut.proofs.CutterLemmas.{ReadSoFar, none_read, read_ends, read_more}
 use Rattle.dump_cut.specs.steps.OpenRevisions.{AreFatesIn, ended_fates, fates_before, open_after, open_with}
 
--- the fates that are added behind an open revision, up to the end of these records
+-- the fates that are added after an open revision, up to the end of these records
 abbrev pub fates_by : Settings → Option OpenRevision → List DumpRecord → List RevisionFate
 fates_by settings present [] = ended_fates settings present
 fates_by settings present (r ∷ records) =

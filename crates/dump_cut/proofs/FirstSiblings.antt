@@ -40,7 +40,7 @@ use Rattle.dump_cut.proofs.LaterRecords.{before_first, both_parts, first_is_dump
 
 -- the changes of the first revisions
 
--- all of one revision stand in one up to a number that isn't lower
+-- all of one revision are in one up to a number that isn't lower
 one_up_to : (bound number : ℕ) (changes : List Change) → number ≤ bound
     → list_all (λ (p : Placed). nat_le p.revision bound) (of_one number changes) ≡ true
 one_up_to bound number [] low = refl
@@ -48,7 +48,7 @@ one_up_to bound number (c ∷ changes) low =
     and_from (nat_le number bound) (list_all (λ (p : Placed). nat_le p.revision bound) (of_one number changes))
     (le-leb number bound low) (one_up_to bound number changes low)
 
--- as many as the first revisions have stand in revisions up to the number of their last one
+-- as many as the first revisions have are in revisions up to the number of their last one
 end_is : (n start bound : ℕ) (revisions : List (List Change)) → start + n ≡ suc bound
     → end_of (placed_from start revisions) bound ≡ length (placed_from start (take n revisions))
 end_is zero start bound revisions same =
@@ -64,7 +64,7 @@ end_is (suc n) start bound (changes ∷ revisions) same =
     (end_is n (suc start) bound revisions (omega (arith, same)))
     ∙ sym (length-append (of_one start changes) (placed_from (suc start) (take n revisions))))
 
--- so they are the first ones, so many
+-- so they are the first ones, this many
 placed_taken : (number : ℕ) (revisions : List (List Change))
     → take (end_of (placed_from 1 revisions) number) (placed_from 1 revisions) ≡ placed_from 1 (take number revisions)
 placed_taken number revisions =

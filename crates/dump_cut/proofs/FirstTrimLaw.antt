@@ -1,4 +1,4 @@
--- The first part of a dump with deletes behind its nodes.
+-- The first part of a dump with deletes after its nodes.
 use Rattle.std.proofs.Common.{◌≡◌, ℕ, suc, Bool, true, false, List, [], ◌∷◌, ◌++◌, if◌then◌else◌, length, map, take, refl, sym, ap, ◌∙◌, subst, IsTrue}
 use Rattle.std.specs.List.{AllZip}
 use Rattle.dump_text.specs.HeaderBlock.{block_text}
@@ -59,7 +59,7 @@ module _ (number : ℕ) where
       rw (written_node place version w).no_revision
       (ap (λ (rs : List DumpRecord). node_record place version w ∷ rs) (nodes_pass place version nodes rest))
 
-  -- behind the records before it stand the nodes that stand behind them
+  -- after the records before it are the nodes that follow them
   firsts_behind : (records : List DumpRecord) (behind : List (List WrittenNode))
       → before_first (is_later_revision number) (records_behind records behind)
       ≡ records_behind (before_first (is_later_revision number) records)
@@ -86,7 +86,7 @@ module _ (number : ℕ) where
           ap (λ (rs : List DumpRecord). r ∷ rs) (nodes_pass r.place r.version nodes (records_behind records behind)
           ∙ ap (λ (rs : List DumpRecord). map (node_record r.place r.version) nodes ++ rs) more)
 
--- behind the first records stand the first deletes
+-- after the first records are the first deletes
 deletes_front : (xs ys : List DumpRecord) (deletes : List (List (List ℕ)))
     → take (length xs) (deletes_behind (xs ++ ys) deletes) ≡ deletes_behind xs deletes
 deletes_front [] ys deletes = refl
@@ -134,7 +134,7 @@ texts_trimmed number deletes part records parts may same (lfs, front, spelled, t
           (same_firsts number (records_behind records behind) parts same) texts);
     }
 
--- with deletes behind its nodes, the first part of a dump is the first part of the dump with them
+-- with deletes after its nodes, the first part of a dump is the first part of the dump with them
 pub first_parts_are_trimmed : FirstPartsAreTrimmed
 first_parts_are_trimmed number deletes dump text first part records has trimmed is_first is_part again has_again =
     let firsts = before_first (is_later_revision number) records in

@@ -71,7 +71,7 @@ at_listed way tops told placed (suc count) place rest low there =
         (map (λ r. record { place = count; rest = r }) (rests_at way tops told placed (slice_get placed count)))
         (record { place = place; rest = rest }) (further less there)
 
--- a copy that an index tells of is followed to what is told
+-- a copy that an index lists is followed to what it says
 
 pub followed_at : (way : Way) (tops : List NodePath) (listed : List Listed) (place : ℕ) (l : Listed) (number : ℕ)
     (source : NodePath) (revisions : List (List Change)) (trees : List Tree) (rest : NodePath)
@@ -256,7 +256,7 @@ map_contains to (rest ∷ rests) path there =
           let (found, among, same) = map_contains to rests path later in (found, contains_later rest rests found among, same)
     ]
 
--- the paths to which the copies of a change are followed, from the rests that are told
+-- the paths to which the copies of a change are followed, from the rests that are given
 pub paths_followed : (way : Way) (tops : List NodePath) (listed : List Listed) (l : Listed) (number : ℕ) (source : NodePath)
     (paths : List NodePath) (to : NodePath) (rests : List NodePath) → l.made ≡ Some (Made.Copied number source)
     → to ≡ to_of way (names_of l.path) source → paths ≡ map (λ rest. to ++ rest) rests

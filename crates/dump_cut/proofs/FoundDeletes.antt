@@ -40,7 +40,7 @@ read_named (path ∷ paths) named =
     (list_all (λ p. has_node_names (names_of p.items)) paths) named in
     ap₂ (λ (p : NodePath) (ps : List NodePath). p ∷ ps) (named_bare path.items parts.0) (read_named paths parts.1)
 
--- the paths that a change takes, by what an index tells of it
+-- the paths that a change takes, by what an index says about it
 pub lost_told : (excluded : List NodePath) (told : ToldKinds) (placed : List Placed) (p : Placed) (path : NodePath)
     (made : Option Made) (paths : List (Vec ℕ)) → p.change.path ≡ path → p.change.made ≡ made
     → list_all (λ text. has_node_names (names_of text.items)) paths ≡ true
@@ -76,7 +76,7 @@ plain_more deletes all paths joined are plain =
     ∙ (list_all-append (λ texts. list_all is_plain_path texts) (delete_texts_of deletes) (delete_texts_of (paths ∷ []))
     ∙ and_from _ _ are (and_from _ _ plain refl))
 
--- the deletes of the first changes, so many
+-- the deletes of the first changes, this many
 pub record AreDeletesUpTo (excluded : List NodePath) (told : ToldKinds) (placed : List Placed) (count : ℕ)
     (deletes : List (Vec (Vec ℕ))) : Type 0 where
   pub paths : map (map path_of) (delete_texts_of deletes)

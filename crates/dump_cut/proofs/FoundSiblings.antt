@@ -1,4 +1,4 @@
--- Siblings, as they are found among the names that can stand in the directories above included paths.
+-- Siblings, as they are found among the names that can be in the directories above included paths.
 use Rattle.std.proofs.Common.{◌≡◌, ℕ, zero, suc, true, false, not, ◌&&◌, ◌||◌, ◌==◌, List, [], ◌∷◌, ◌++◌, length, map, take, get_or, ◌+◌, ◌<◌, Option, Some, None, Bor, bytes_eq, refl, sym, ap, ap₂, ◌∙◌, subst, inl, inr, arith, append-nil, ◌≤◌, Bool, option_map}
 use Rattle.std.specs.Prelude.{Contains}
 use Rattle.std.specs.List.{filter, list_all, list_any}
@@ -186,7 +186,7 @@ at_texts (n ∷ names) zero d low = or_left _ (is_child_named (texts_of names) n
 at_texts (n ∷ names) (suc k) d low =
     or_right (bytes_eq n.now (get_or names k d).now) _ (at_texts names k d (omega (arith, low)))
 
--- each of the names that can stand in a directory is the name of a node
+-- each of the names that can be in a directory is the name of a node
 pub ever_named : (listed : List Listed) → list_all has_named_paths listed ≡ true → (path : NodePath) (names : List (Bor (List ℕ)))
     → AreNamesEver listed path (texts_of names) → (k : ℕ) (d : Bor (List ℕ)) → k < length names
     → is_node_name (get_or names k d).now ≡ true

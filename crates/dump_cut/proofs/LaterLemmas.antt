@@ -62,7 +62,7 @@ module _ (is_such : DumpRecord → Bool) (dump : List ℕ) (cutter after : Cutte
       absurd (not_broken dump records cutter.number kind place has
       (subst (λ d. EndsAfter d cutter.number (Ending.Broken kind place)) known.read.dump_is step.0))
 
--- the revisions that the cutter has given are numbered 0, 1, 2 and so on, and there are so many
+-- the revisions that the cutter has given are numbered 0, 1, 2 and so on, and there are this many
 pub record CountedSoFar (dump : List ℕ) (cutter : CutterState) (count : ℕ) : Type 0 where
   pub read : ReadSoFar dump cutter
   pub counted : (rest : List DumpRecord) → counted_from 0 (revision_numbers (read.before ++ rest))

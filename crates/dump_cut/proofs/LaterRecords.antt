@@ -54,7 +54,7 @@ pub fit_parts : (xs ys : List DumpRecord) → AllFit (xs ++ ys) → AllFit xs ×
 fit_parts [] ys fit = (tt, fit)
 fit_parts (x ∷ xs) ys (fits, fit) = let parts = fit_parts xs ys fit in ((fits, parts.0), parts.1)
 
--- records behind others have their versions
+-- records after others have their versions
 pub versions_rest : (version : ℕ) (rs ss : List DumpRecord) → HaveVersions version (rs ++ ss)
     → HaveVersions (last_version version rs) ss
 versions_rest version [] ss have = have
@@ -119,7 +119,7 @@ module _ (is_such : DumpRecord → Bool) where
       cases true more = refl
       cases false more = ap (λ (rs : List DumpRecord). r ∷ rs) more
 
-  -- the version in force behind the first ones
+  -- the version in force after the first ones
   pub version_before : (version : ℕ) (records : List DumpRecord)
       → last_version version (before_first is_such records) ≡ version_before_first is_such version records
   version_before version [] = refl
@@ -254,7 +254,7 @@ no_groups_before (r ∷ records) = cases (is_revision_record r) refl (no_groups_
 pub later_revision : (number : ℕ) (r : DumpRecord) → is_later_revision number r ≡ true → is_revision_record r ≡ true
 later_revision number r later = (and_parts (is_revision_record r) _ later).0
 
--- whether a record is one is told by its lines
+-- the lines of a record say whether it is one
 pub same_later : (number : ℕ) (r s : DumpRecord) → s.headers ≡ r.headers
     → is_later_revision number s ≡ is_later_revision number r
 same_later number r s same =

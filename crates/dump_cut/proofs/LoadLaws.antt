@@ -101,7 +101,7 @@ below_some [] place p there = absurd (let bad : None ≡ Some p = there in cc)
 below_some (q ∷ placed) zero p there = omega arith
 below_some (q ∷ placed) (suc place) p there = let low = below_some placed place p there in omega (arith, low)
 
--- above the root nothing is told
+-- above the root nothing is given
 none_above : (told : ToldKinds) (placed : List Placed) (place : ℕ) (p : Placed) → is_root p.change.path ≡ true
     → (kinds_told told placed place p).parent ≡ None
 none_above told placed place p root = cases p.change.path root

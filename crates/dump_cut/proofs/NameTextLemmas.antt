@@ -18,7 +18,7 @@ one_name : (name : List ℕ) → is_node_name name ≡ true → names_of name �
 one_name [] is = absurd (let bad : false ≡ true = is in cc)
 one_name (b ∷ name) is = split_name (b ∷ name) (name_parts (b ∷ name) is)
 
--- the names of a text behind which a name is written
+-- the names of a text after which a name is written
 pub first_pushed : (text name : List ℕ) → (length text == 0) ≡ true → is_node_name name ≡ true
     → names_of (text ++ name) ≡ names_of text ++ name ∷ []
 first_pushed [] name none is = one_name name is

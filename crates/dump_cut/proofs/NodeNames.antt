@@ -1,4 +1,4 @@
--- Each name that can stand in a directory is the name of a node, where the paths of the changes have such names.
+-- Each name that can be in a directory is the name of a node, where the paths of the changes have such names.
 use Rattle.std.proofs.Common.{◌≡◌, ℕ, zero, suc, true, false, List, [], ◌∷◌, Option, Some, None, bytes_eq, refl, sym, ap, ◌∙◌, inl, inr}
 use Rattle.std.specs.Prelude.{slice_get, option_map}
 use Rattle.std.specs.List.{list_all}
@@ -17,7 +17,7 @@ use Rattle.dump_index.specs.Listed.{Listed, all_placed, placed_of}
 use Rattle.dump_index.proofs.KeyLemmas.{get-map}
 use Rattle.dump_cut.specs.NamedPaths.{has_named_paths}
 
--- what is behind the top has the names of the path
+-- what is after the top has the names of the path
 rest_named : (top path rest : NodePath) → below top path ≡ Some rest → has_node_names path ≡ true → has_node_names rest ≡ true
 rest_named top path rest is named = rest_names top rest (ap has_node_names (sym (below_rest top path rest is)) ∙ named)
 
@@ -109,7 +109,7 @@ placed_named listed all place p is = cases (slice_get listed place) refl (sym (g
         at_named (x ∷ ls) (suc n) l all at =
             at_named ls n l (and_parts (has_named_paths x) (list_all has_named_paths ls) all).1 at
 
--- each name that can stand in a directory is the name of a node
+-- each name that can be in a directory is the name of a node
 pub look_named : (listed : List Listed) → list_all has_named_paths listed ≡ true → (count : ℕ) (path : NodePath) (name : List ℕ)
     → is_child_named (names_look (all_placed listed) count path) name ≡ true → is_node_name name ≡ true
 look_named listed all count path name is =

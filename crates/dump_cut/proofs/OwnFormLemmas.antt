@@ -17,7 +17,7 @@ use Rattle.dump_history.specs.ExpandedDumps.{OwnForm, Stead, may_stand, expanded
 use Rattle.dump_history.specs.ExpandedText.{AreRecordTexts, expanded_changes, expanded_revisions, node_steads, stead_groups, made_in_stead}
 use Rattle.dump_cut.specs.TakenCopies.{SeparatedDumpIsItsExpansion}
 
--- in place of each record it stands itself
+-- each record is in its own place
 abbrev itself : DumpRecord → Stead
 itself r = record { nodes = []; own = OwnForm.AsItIs }
 

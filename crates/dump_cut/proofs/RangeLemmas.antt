@@ -57,7 +57,7 @@ slash_between c text = cases (sides 47 c) (sides 48 c)
         ap (λ o. test o (nat_cmp 48 c)) is
         ∙ sym (false_from_ne_true (nat_eq c 47) (λ eq. let e = eqb-true c 47 eq in absurd (omega arith)))
 
--- between a top and a slash, and the top and the next byte, are the texts that go on behind the top
+-- between a top and a slash, and the top and the next byte, are the texts that go on after the top
 pub between_goes_on : (top text : List ℕ) → is_between (top ++ 47 ∷ []) (top ++ 48 ∷ []) text ≡ goes_on top text
 between_goes_on [] [] = refl
 between_goes_on [] (c ∷ text) = slash_between c text
@@ -81,7 +81,7 @@ between_goes_on (b ∷ top) (c ∷ text) = cases (between_goes_on top text) (sid
     cases further (Sides.Higher high is) =
         ap test is ∙ differ (false_from_ne_true (nat_eq b c) (λ eq. let e = eqb-true b c eq in absurd (omega arith)))
 
--- a text doesn't go on behind itself
+-- a text doesn't go on after itself
 goes_on_other : (top text : List ℕ) → goes_on top text ≡ true → bytes_eq top text ≡ false
 goes_on_other [] [] is = absurd (let bad : false ≡ true = is in cc)
 goes_on_other [] (c ∷ text) is = refl

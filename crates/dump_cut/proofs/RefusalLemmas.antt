@@ -1,4 +1,4 @@
--- Why a load rejects a change, told from what an index says of it.
+-- Why a load rejects a change, as determined by what an index says of it.
 use Rattle.std.proofs.Common.{◌≡◌, Option, Some, None, is_some, refl, [], ◌∷◌, Result, Ok, Err, IfOk}
 use Rattle.dump_trees.specs.Changes.{PropertyChange, TextChange}
 use Rattle.dump_trees.specs.LoadCheck.{Kinds, kind_left, kind_made, sets_props}

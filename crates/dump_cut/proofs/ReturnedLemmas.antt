@@ -32,7 +32,7 @@ pub ok_always : {A E P : Type 0} (r : Result A E) → P → OnOk r P
 ok_always (Ok a) it = it
 ok_always (Err e) it = tt
 
--- the paths are the rests, behind the top
+-- the paths are the rests, after the top
 pub paths_behind : (top : NodePath) (shown : List (Bor (List ℕ))) (rests : List (Bor (List ℕ))) (paths : List NodePath)
     → shown ≡ rests → paths ≡ map (λ rest. top ++ names_of rest.now) shown
     → paths ≡ map (λ rest. top ++ rest) (map (λ rest. names_of rest.now) rests)

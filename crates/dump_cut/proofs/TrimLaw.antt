@@ -1,4 +1,4 @@
--- What the filter writes of a dump, with deletes behind its copies, is trimmed.
+-- What the filter writes of a dump, with deletes after its copies, is trimmed.
 use Rattle.std.proofs.Common.{◌≡◌, ◌+◌, ◌≤◌, ℕ, true, false, ◌==◌, List, [], ◌∷◌, ◌++◌, drop, length, map, sym, ap, ap₂, ◌∙◌, subst, arith}
 use Rattle.std.specs.List.{list_any}
 use Rattle.std.proofs.lemmas.Bool.{MatchBool-at_true, or_left, or_right}

@@ -1,4 +1,4 @@
--- What is deleted behind the copies of a dump that loads is just what they take to excluded paths.
+-- What is deleted after the copies of a dump that loads is just what they take to excluded paths.
 use Rattle.std.proofs.Common.{◌≡◌, ℕ, suc, ◌+◌, cond, take, drop, Bool, true, false, not, List, [], ◌∷◌, ◌++◌, length, map, filter, Option, Some, None, option_and_then, refl, sym, ap, ap₂, ◌∙◌, subst, Contains, inl, inr, MatchBool}
 use Rattle.std.specs.Prelude.{slice_get}
 use Rattle.std.specs.List.{list_all, list_any}

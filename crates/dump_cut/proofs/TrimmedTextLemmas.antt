@@ -1,4 +1,4 @@
--- What is written so far of a dump with deletes behind its nodes.
+-- What is written so far of a dump with deletes after its nodes.
 use Rattle.std.proofs.Common.{◌≡◌, ℕ, ◌+◌, ◌-◌, ◌≤◌, Bool, true, false, List, [], ◌∷◌, ◌++◌, if◌then◌else◌, length, length-append, map, take, drop, get_or, codes, Vec, Global, refl, sym, ap, ◌∙◌, subst, arith, append-nil, append_assoc, IsTrue}
 use Rattle.std.proofs.lemmas.Bool.{and_from, and_parts}
 use Rattle.std.proofs.lemmas.List.{drop-drop, length-drop, take-append-drop, take_rest}
@@ -76,7 +76,7 @@ plain_texts deletes plain =
 
 -- texts that join
 
--- texts of these records join those of others behind them, whatever line feeds stand between
+-- texts of these records join those of others after them, whatever line feeds are between
 abbrev pub Joins : List DumpRecord → List ℕ → Type 0
 Joins records text = (lfs : ℕ) (behind : List ℕ) (rest : List DumpRecord) → AreRecordTexts rest behind
     → (more : ℕ) × (front : List ℕ) × (text ++ (line_feeds lfs ++ behind) ≡ line_feeds more ++ front)
@@ -110,7 +110,7 @@ deletes_join place version (path ∷ paths) =
 
 -- a text that is cut
 
--- up to behind this record, and from there on
+-- up to the end of this record, and from there on
 record CutBehind (place : ℕ) (text : List ℕ) (rs : List DumpRecord) (r : DumpRecord) (rest : List DumpRecord)
     (end : List ℕ) : Type 0 where
   front : List ℕ
@@ -162,16 +162,16 @@ cut_texts number place text (r ∷ records) (lfs, front, after, is, at, b, more)
     let (n, t, at_end, texts) = cut_texts (number + 1) (r.place + length (record_text r)) after records more in
     (lfs, front, is, (n, t, b.spelled ∙ ap (λ u. record_text r ++ u) at_end, texts))
 
--- the byte behind a record
+-- the byte after a record
 behind_is : (r : DumpRecord) → place_after r ≡ r.place + length (record_text r)
 behind_is r =
     let all = length-append (block_text r.headers ++ r.props) r.text in
     let front = length-append (block_text r.headers) r.props in
     omega arith
 
--- deletes behind records
+-- deletes after records
 
--- the records with the deletes behind them
+-- the records with the deletes after them
 abbrev pub with_deletes : List DumpRecord → List (List (List ℕ)) → List DumpRecord
 with_deletes records deletes = records_behind records (deletes_behind records deletes)
 
@@ -180,19 +180,19 @@ none_left : (records : List DumpRecord) → with_deletes records [] ≡ records
 none_left [] = refl
 none_left (r ∷ records) = ap (λ (rs : List DumpRecord). r ∷ rs) (none_left records)
 
--- behind a record that is no node there are none
+-- after a record that is no node there are none
 pub other_passes : (r : DumpRecord) (left : List (List (List ℕ))) → is_node r ≡ false → (rest : List DumpRecord)
     → with_deletes (r ∷ rest) left ≡ r ∷ with_deletes rest left
 other_passes r [] other rest = refl
 other_passes r (paths ∷ left) other rest = rw other refl
 
--- behind a node stand the next ones
+-- after a node are the next ones
 node_takes : (r : DumpRecord) (paths : List (List ℕ)) (left : List (List (List ℕ))) → is_node r ≡ true
     → (rest : List DumpRecord) → with_deletes (r ∷ rest) (paths ∷ left)
     ≡ r ∷ (map (node_record r.place r.version) (delete_nodes paths) ++ with_deletes rest left)
 node_takes r paths left node rest = rw node refl
 
--- behind a node where the next ones are none there are none
+-- after a node where the next ones are none there are none
 pub none_taken : (r : DumpRecord) (left later : List (List (List ℕ))) → is_node r ≡ true → left ≡ [] ∷ later
     → (rest : List DumpRecord) → with_deletes (r ∷ rest) left ≡ r ∷ with_deletes rest later
 none_taken r left later node is rest = ap (with_deletes (r ∷ rest)) is ∙ node_takes r [] later node rest
@@ -231,8 +231,8 @@ may_all (r ∷ records) (paths ∷ deletes) plain =
 
 -- what is written so far
 
--- the records up to the byte `from`, the done ones, are written, as these texts; the pending ones behind them have no
--- deletes behind them
+-- the records up to the byte `from`, the done ones, are written, as these texts; the pending ones after them have no
+-- deletes after them
 pub record TrimmedSoFar (deletes : List (List (List ℕ))) (dump : List ℕ) (cutter : CutterState) (piece : List ℕ)
     (left : List (List (List ℕ))) (from : ℕ) : Type 0 where
   pub dump_is : cutter.dump ≡ dump
@@ -300,7 +300,7 @@ module _ (deletes : List (List (List ℕ))) (dump : List ℕ) (cutter after : Cu
         let number = ap (λ (c : CutterState). c.number) step.3 in
         (number, omega arith)
 
-    -- a record with no deletes behind it
+    -- a record with no deletes after it
     pub trim_on : (later : List (List (List ℕ)))
         → ((rest : List DumpRecord) → with_deletes (given ∷ rest) left ≡ given ∷ with_deletes rest later)
         → TrimmedSoFar deletes dump after piece later from
@@ -323,7 +323,7 @@ module _ (deletes : List (List (List ℕ))) (dump : List ℕ) (cutter after : Cu
           (sym (append_assoc so_far.pending (given ∷ []) (with_deletes rest later)));
     }
 
-    -- the dump behind the done records is cut up to behind the record
+    -- the dump after the done records is cut up to after the record
     cut_here : (rest : List DumpRecord) (end : List ℕ)
         → IsCutInto 0 0 dump (so_far.done ++ (so_far.pending ++ given ∷ rest)) end
         → CutBehind from (drop from dump) so_far.pending given rest end
@@ -360,7 +360,7 @@ module _ (deletes : List (List (List ℕ))) (dump : List ℕ) (cutter after : Cu
           ∙ ap (take (length here.front)) here.is
           ∙ take-append_seam here.front here.after
 
-      -- a node with deletes behind it
+      -- a node with deletes after it
       pub trim_more : (paths : List (List ℕ)) (later : List (List (List ℕ))) (more : List ℕ) → is_node given ≡ true
           → left ≡ paths ∷ later → more ≡ (piece ++ take (place - from) (drop from dump)) ++ delete_texts paths
           → TrimmedSoFar deletes dump after more later place
@@ -429,7 +429,7 @@ module _ (deletes : List (List (List ℕ))) (dump : List ℕ) (cutter after : Cu
               ∙ append_assoc so_far.done so_far.pending (drop (length before) records),
         )
 
-    -- where no deletes stand behind the rest, all is written with the rest of the dump
+    -- where no deletes follow the rest, all is written with the rest of the dump
     with_rest : (rest : List DumpRecord) → records ≡ so_far.done ++ (so_far.pending ++ rest)
         → with_deletes rest left ≡ rest → list_all (λ texts. list_all is_plain_path texts) deletes ≡ true
         → IsTrimmedText records (deletes_behind records deletes) (piece ++ drop from dump)

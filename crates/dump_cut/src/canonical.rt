@@ -10,7 +10,7 @@ use std::alloc::Global;
 
 const DOT: &[u8] = b".";
 
-/// Whether a name of a path, which has no slash, can be the name of a node.
+/// Whether a name in a path can be the name of a node. It has no slash.
 pub(crate) fn is_node_name(name: &[u8]) -> bool
     requires { IsTrue (has_no_slash name.now) }
     ensures { result ≡ is_node_name name.now }
@@ -18,7 +18,7 @@ pub(crate) fn is_node_name(name: &[u8]) -> bool
     !name.is_empty() && name != DOT
 }
 
-/// Adds a name to the text of a path.
+/// Appends a name to the text of a path.
 pub(crate) fn push_name(text: &mut Vec<u8>, name: &[u8]) -> Result<(), Memory>
     requires { IsTrue (is_node_name name.now) }
     ensures { OnOk result (names_of text.new.items ≡ names_of text.old.items ++ name.now ∷ []) }

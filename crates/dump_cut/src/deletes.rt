@@ -1,4 +1,4 @@
-//! What copies take to excluded paths, and so has to be deleted after them.
+//! The paths to delete after copies that take something to excluded paths.
 ghost use Rattle.std.specs.Prelude.{◌≡◌, ◌++◌, IfOk, IsTrue, List, map, option_map};
 ghost use Rattle.std.specs.List.{AllZip, list_all};
 ghost use Rattle.dump_history.specs.WrittenNodes.{is_plain_path};
@@ -34,7 +34,7 @@ fn is_plain_path(path: &[u8]) -> bool
     !path.contains(&b'\n') && !path.contains(&0) && is_canonical(path)
 }
 
-/// Whether it reads each of these texts unchanged.
+/// Whether `svnadmin load` reads each of these texts unchanged, as the path of a node.
 fn are_plain_paths(paths: &[Vec<u8>]) -> bool
     ensures { result ≡ list_all (λ path. is_plain_path path.items) paths.now }
 {
@@ -67,8 +67,8 @@ fn lost_paths(
     joined_rests(alloc, change.path, &rests)
 }
 
-/// For each change of a dump at a path that isn't excluded, and so for each node that the filter keeps, the paths to delete
-/// after it.
+/// The paths to delete after each node that the filter keeps, which is each change of the dump at a path that isn't
+/// excluded.
 #[derive(Drop)]
 pub struct Deletes {
     behind: Vec<Vec<Vec<u8>>>,
@@ -87,9 +87,9 @@ impl Model for Deletes {
 }
 
 impl Deletes {
-    /// The paths of a copy are the topmost excluded paths to which it takes what isn't excluded at its source: with these
-    /// deletes the copy can stay as it is. Another change has no paths. An error is the place of a copy with a path that no
-    /// line of a dump can hold.
+    /// Finds the paths to delete after each kept change. After a copy they are the topmost excluded paths to which it
+    /// takes what isn't excluded at its source: with these deletes the copy can stay. Other changes have no paths. The
+    /// error is the place of a copy with a path that no header line can have.
     pub fn find(
         alloc: Global,
         index: &ChangeIndex<'_>,

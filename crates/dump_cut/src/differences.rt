@@ -1,4 +1,4 @@
-//! At which paths two cuts of a dump differ.
+//! The paths at which two cuts of a dump differ.
 ghost use Rattle.std.specs.Prelude.{◌≡◌, ◌++◌, IfOk, IsTrue, List, OnOk, filter, map};
 ghost use Rattle.std.specs.List.{list_all};
 ghost use Rattle.dump_trees.specs.Paths.{names_of};
@@ -11,7 +11,7 @@ use dump_index::ChangeIndex;
 use dump_rules::Memory;
 use std::alloc::Global;
 
-/// Adds those of the paths at which something exists at some time, and which the others don't cover.
+/// Appends those of the paths at which something exists in some revision, and which the others don't cover.
 fn push_alone(
     alloc: Global,
     index: &ChangeIndex<'_>,
@@ -31,9 +31,9 @@ fn push_alone(
     Ok(())
 }
 
-/// The paths at which two cuts of a dump differ; one excludes these paths, and one the others. They are each excluded path that
-/// the other cut doesn't exclude and at which something exists at some time, and each path that mergeinfo names and one cut
-/// excludes alone.
+/// The paths at which two cuts of a dump differ; one excludes these paths, and the other one the others. They are of
+/// two kinds: excluded paths at which something exists in some revision and which the other cut doesn't exclude, and
+/// paths that mergeinfo names and only one of the cuts excludes.
 pub fn cut_differences(
     alloc: Global,
     dump: &[u8],

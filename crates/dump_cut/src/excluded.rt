@@ -23,11 +23,11 @@ use std::alloc::Global;
 use std::collections::BTreeSet;
 use std::marker::Model;
 
-/// The byte after that of a slash: texts that begin with a path and a slash come before the path and this byte.
+/// The byte after a slash. Texts that begin with a path and a slash are sorted before the path and this byte.
 const BEHIND_SLASH: u8 = b'0';
 
-/// Paths in canonical form, without a leading slash. Each of them is excluded, with all that is below it. None of them is
-/// at or below another one.
+/// Paths in canonical form, without a leading slash. Each is excluded with all that is below it. None is at or below
+/// another one.
 #[derive(Drop)]
 pub struct Excluded {
     paths: BTreeSet<Vec<u8>>,
@@ -53,7 +53,7 @@ fn with_byte(alloc: Global, path: &[u8], byte: u8) -> Result<Vec<u8>, Memory>
     Ok(text)
 }
 
-/// The prefix that names the path to the filter: with a slash before each name.
+/// The prefix that names the path for the filter, with a slash before each name.
 fn prefix_of(alloc: Global, path: &[u8]) -> Result<Vec<u8>, Memory>
     ensures { IfOk result (λ prefix. prefix.items ≡ path_text (names_of path.now)) }
 {
@@ -65,7 +65,7 @@ fn prefix_of(alloc: Global, path: &[u8]) -> Result<Vec<u8>, Memory>
     Ok(prefix)
 }
 
-/// Whether the path is strictly below the top.
+/// Whether the path is below `top`, and isn't `top`.
 fn is_below(top: &[u8], path: &[u8]) -> bool
     ensures { result ≡ is_text_below top.now path.now }
 {
@@ -79,7 +79,7 @@ fn is_below(top: &[u8], path: &[u8]) -> bool
     path[end] == b'/' && &path[..end] == top
 }
 
-/// Adds each part of the path before a slash.
+/// Appends each part of the path before a slash.
 fn push_fronts<'p>(fronts: &mut Vec<&'p [u8]>, path: &'p [u8]) -> Result<(), Memory>
     ensures { OnOk result (AddsNames fronts.old.items fronts.new.items (λ front. goes_on front path.now)) }
 {
@@ -92,7 +92,7 @@ fn push_fronts<'p>(fronts: &mut Vec<&'p [u8]>, path: &'p [u8]) -> Result<(), Mem
 }
 
 impl Excluded {
-    /// No path.
+    /// The empty set.
     pub fn new(alloc: Global) -> Excluded
         ensures { result ≡ [] }
     {
@@ -101,14 +101,14 @@ impl Excluded {
         }
     }
 
-    /// Whether the path is one of them.
+    /// Whether the path is one of these.
     fn has(&self, path: &[u8]) -> bool
         ensures { result ≡ list_any (λ other. bytes_eq path.now other) self.now }
     {
         self.paths.contains(path)
     }
 
-    /// Whether the path is at or below one of them. It looks up the path and each part of it before a slash.
+    /// Whether the path is at or below one of these. It looks up the path and each part of it before a slash.
     pub fn covers(&self, path: &[u8]) -> bool
         ensures { result ≡ is_covered (paths_of self.now) (names_of path.now) }
     {
@@ -123,7 +123,7 @@ impl Excluded {
         false
     }
 
-    /// The paths below the top, in the order of their bytes. The top isn't covered.
+    /// The paths below `top`, sorted by their bytes. `top` isn't covered.
     pub(crate) fn below(&self, alloc: Global, top: &[u8]) -> Result<Vec<&[u8]>, Memory>
         requires { is_covered (paths_of self.now) (names_of top.now) ≡ false }
         ensures rests { IfOk result (λ rests. map (λ rest. rest.now) rests.items ≡ texts_below top.now self.now) }
@@ -144,7 +144,7 @@ impl Excluded {
         Ok(rests)
     }
 
-    /// The rests of paths at or below the top from which on they cover what is there: all of it, if they cover the top.
+    /// The rests of `top` at which the paths begin to cover what is there; the empty rest if they cover `top`.
     pub fn rests_covered(&self, alloc: Global, top: &[u8]) -> Result<Vec<&[u8]>, Memory>
         ensures rests { IfOk result (λ rests. map (λ rest. names_of rest.now) rests.items
             ≡ rests_covered (names_of top.now) (paths_of self.now)) }
@@ -159,7 +159,7 @@ impl Excluded {
         Ok(whole)
     }
 
-    /// The paths, in the order of their bytes.
+    /// The paths, sorted by their bytes.
     pub fn paths(&self, alloc: Global) -> Result<Vec<&[u8]>, Memory>
         ensures texts { IfOk result (λ paths. map (λ path. path.now) paths.items ≡ self.now) }
         ensures named { OnOk result (IsTrue (list_all has_node_names (paths_of self.now))) }
@@ -171,8 +171,8 @@ impl Excluded {
         Ok(paths)
     }
 
-    /// The directories above these paths, each once and in the order of their bytes: the root, and each part of a path before
-    /// a slash.
+    /// The directories above these paths, each once and sorted by their bytes: the root, and each part of a path
+    /// before a slash.
     pub fn directories_above(&self, alloc: Global) -> Result<Vec<&[u8]>, Memory>
         ensures named { OnOk result (IsTrue (list_all has_node_names (paths_of self.now))) }
         ensures above { IfOk result (λ directories. (directory : List ℕ) → is_child_named (texts_of directories.items) directory
@@ -189,7 +189,7 @@ impl Excluded {
         Ok(directories)
     }
 
-    /// Adds a path, and removes those below it. A path that they cover adds nothing. Gives whether the path is added.
+    /// Adds a path, and removes those below it, unless the path is already covered. Returns whether it was added.
     pub fn add(&mut self, alloc: Global, path: &[u8]) -> Result<bool, Memory>
         requires { IsTrue (has_node_names (names_of path.now)) }
         ensures new { IfOk result (λ added. added ≡ not (is_covered (paths_of self.old) (names_of path.now))) }
@@ -208,7 +208,7 @@ impl Excluded {
         Ok(true)
     }
 
-    /// The paths that these prefixes name, read as `svnadmin load` reads paths, but for those at or below others.
+    /// The paths that these prefixes name, read as `svnadmin load` reads paths. Paths at or below others are omitted.
     pub fn of(alloc: Global, prefixes: &[&[u8]]) -> Result<Excluded, Memory>
         ensures { IfOk result (λ excluded. (path : NodePath) → is_covered (paths_of excluded) path
             ≡ is_covered (canonical_paths (map (λ prefix. prefix.now) prefixes.now)) path) }
@@ -221,7 +221,7 @@ impl Excluded {
         Ok(excluded)
     }
 
-    /// The prefixes that name the paths to the filter, in the order of the paths.
+    /// The prefixes that name the paths for the filter, in the order of the paths.
     fn prefixes(&self, alloc: Global) -> Result<Vec<Vec<u8>>, Memory>
         ensures texts { IfOk result (λ prefixes. map (λ prefix. prefix.items) prefixes.items ≡ map path_text (paths_of self.now)) }
         ensures named { OnOk result (IsTrue (list_all has_node_names (paths_of self.now))) }
@@ -235,9 +235,9 @@ impl Excluded {
         Ok(prefixes)
     }
 
-    /// The options of the filter that excludes these paths. Under them the filter omits lines of mergeinfo whose paths are
-    /// excluded. Each revision is kept, with its own number and properties; or those that lose all of their nodes are dropped,
-    /// and the others are renumbered and keep their properties.
+    /// The options of a filter that excludes these paths and omits the lines of mergeinfo with excluded paths. If
+    /// `drops` is false, it keeps each revision with its number and properties. Otherwise it drops revisions that lose
+    /// all of their nodes; the others get new numbers and keep their properties.
     pub fn filter_options(&self, alloc: Global, drops: bool) -> Result<Options, Memory>
         ensures excludes { IfOk result (λ options. ExcludesPaths options (paths_of self.now)) }
         ensures revisions { IfOk result (λ options. (options.empty ≡ emptied_by drops) × (options.renumber ≡ drops)

@@ -15,7 +15,7 @@ pub struct RevisionFate {
     pub stays: bool,
 }
 
-/// A revision to which nodes may follow.
+/// A revision after which the dump may still have nodes of it.
 #[derive(Clone, Copy)]
 struct OpenRevision {
     number: u64,
@@ -26,7 +26,7 @@ struct OpenRevision {
 }
 
 impl OpenRevision {
-    /// What becomes of it, if it has no more nodes.
+    /// Whether the filter keeps it, if it has no more nodes.
     fn fate(self, options: &Options) -> RevisionFate
         ensures { result ≡ open_fate options.now self }
     {
@@ -42,7 +42,7 @@ impl OpenRevision {
     }
 }
 
-/// Adds what becomes of the open revision, if it has no more nodes.
+/// Appends the open revision, if it has no more nodes.
 fn push_ended(
     fates: &mut Vec<RevisionFate>,
     present: Option<OpenRevision>,
@@ -56,7 +56,7 @@ fn push_ended(
     Ok(())
 }
 
-/// The same, if this record isn't one more node of it.
+/// The same, unless this record is one more node of it.
 fn push_before(
     fates: &mut Vec<RevisionFate>,
     present: Option<OpenRevision>,

@@ -1,4 +1,4 @@
-//! What is excluded too, since copies are followed from what is excluded.
+//! The paths that are excluded too, because copies are followed from excluded paths.
 ghost use Rattle.std.specs.Prelude.{◌≡◌, ◌<◌, ◌≤◌, [], ℕ, List, IfOk, IsTrue, OnOk, Some, length, map, option_map, slice_get};
 ghost use Rattle.std.specs.List.{AllZip, list_all};
 ghost use Rattle.dump_trees.specs.FollowedRests.{all_rests};
@@ -27,9 +27,9 @@ use std::alloc::Global;
 /// A path that is excluded too.
 #[derive(Drop)]
 pub struct Addition {
-    /// Which change of the dump is the copy that is followed to it, from 0 on.
+    /// The index of the change in the dump whose copy is followed to the path, from 0.
     pub place: usize,
-    /// Without a leading slash.
+    /// The path, without a leading slash.
     pub path: Vec<u8>,
 }
 
@@ -129,8 +129,8 @@ fn follow_at(
     Ok(())
 }
 
-/// Follows each copy of the dump once: in its order, or to sources from its end back, so that a chain of copies takes one
-/// pass.
+/// Follows each copy of the dump once. The order is that of the dump, or if copies are followed to sources, the
+/// reverse, so that one pass follows a chain of copies.
 fn follow_each(
     alloc: Global,
     index: &ChangeIndex<'_>,
@@ -155,8 +155,8 @@ fn follow_each(
     Ok(())
 }
 
-/// Follows the copies of a dump that loads until no copy is followed to a path that isn't excluded yet, and gives the paths
-/// that are excluded too, in this order. On an error the paths may have grown.
+/// Follows the copies of a dump that loads, until no copy is followed to a path that isn't excluded yet. Returns the
+/// paths that are excluded too, in this order. If an allocation fails, some paths may already be excluded.
 pub fn follow(
     alloc: Global,
     index: &ChangeIndex<'_>,
@@ -171,7 +171,7 @@ pub fn follow(
         → all_rests (way_meant way) (paths_of excluded.new) (kinds_told_by index.now) placed (length placed) ≡ []) }
 {
     let mut additions = Vec::new(alloc);
-    // each pass but the last adds a path, and no memory holds so many
+    // each pass except the last adds a path, and no memory holds this many
     for _ in 0..u64::MAX {
         let before = additions.len();
         follow_each(alloc, index, excluded, way, &mut additions)?;

@@ -1,4 +1,4 @@
-//! Rests of a path, joined to it.
+//! Joins rests to a path.
 ghost use Rattle.std.specs.Prelude.{◌≡◌, ◌++◌, IfOk, map};
 ghost use Rattle.dump_trees.specs.Paths.{names_of};
 

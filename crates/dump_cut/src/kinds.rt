@@ -1,8 +1,8 @@
-//! What kind of node exists at the paths on which a change depends.
+//! The kinds of nodes at the paths on which a change depends.
 use dump_index::NodeKind;
 
-/// What kind of node exists at the path of a change, at the directory that it is in, and at the source of its copy, if it
-/// makes one. The root is in no directory.
+/// The kind of node at the path of a change, at the directory that contains it, and at the source of its copy, if it
+/// makes one. No directory contains the root.
 #[derive(Clone, Copy, Debug, PartialEq, Eq)]
 pub struct Kinds {
     pub here: Option<NodeKind>,

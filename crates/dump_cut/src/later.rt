@@ -1,4 +1,4 @@
-//! The parts of a dump up to a revision, and after it.
+//! The part of a dump up to a revision, and the part after it.
 ghost use Rattle.std.specs.Prelude.{◌≡◌, ◌++◌, ◌≤◌, List, length};
 ghost use Rattle.dump_records.specs.DumpText.{Ending, HasRecords};
 ghost use Rattle.dump_records.specs.RecordText.{DumpRecord};
@@ -9,7 +9,7 @@ ghost use Rattle.dump_cut.specs.steps.CountedRevisions.{counted_from, is_after};
 
 use dump_records::{Cut, Cutter, Record};
 
-/// The part of a dump after a revision, in two pieces.
+/// The part of a dump after a revision, in two slices.
 #[derive(Clone, Copy, Debug, PartialEq, Eq)]
 pub struct LaterPart<'t> {
     /// What the dump has before its first revision.
@@ -23,7 +23,7 @@ pub struct LaterPart<'t> {
 pub enum NoPart {
     /// Its revisions aren't numbered 0, 1, 2 and so on.
     NotNumbered,
-    /// It has no such revision.
+    /// It doesn't have this revision.
     NoRevision,
 }
 
@@ -53,7 +53,7 @@ fn first_place(dump: &[u8], number: Option<u64>) -> usize
     dump.len()
 }
 
-/// The part of a whole dump up to the revision with this number, which it has too.
+/// The part of a whole dump up to the revision with this number, and with it.
 pub fn first_part(dump: &[u8], number: u64) -> &[u8]
     ensures { IsFirstPart number dump.now result.now }
 {
@@ -74,7 +74,7 @@ pub fn later_part(dump: &[u8], number: u64) -> LaterPart<'_>
     }
 }
 
-/// How many revisions a dump has; none if they aren't numbered 0, 1, 2 and so on.
+/// The number of revisions of a dump; `None` if they aren't numbered 0, 1, 2 and so on.
 fn count_revisions(dump: &[u8]) -> Option<u64>
     ensures { (records : List DumpRecord) → HasRecords dump.now records Ending.Whole
         → result ≡ counted_from 0 (revision_numbers records) }

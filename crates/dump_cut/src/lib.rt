@@ -1,7 +1,7 @@
-//! What a cut of a dump finds before it writes.
+//! Examines a dump before the cut is written.
 //!
-//! [`canonical_prefix`] reads a prefix as `svnadmin load` reads paths. [`first_refused`] finds the first change of a dump
-//! that the load would reject, as far as paths and kinds of node go, and why.
+//! [`canonical_prefix`] reads a prefix as `svnadmin load` reads paths. [`first_refused`] finds the first
+//! change of a dump that a load would reject, and why, as far as paths and kinds of nodes go.
 //!
 //! ```
 //! let text = canonical_prefix(alloc, prefix.as_bytes())?;
@@ -10,8 +10,9 @@
 //!
 //! `tests::is_read` runs this.
 //!
-//! An [`Excluded`] holds the paths that a cut excludes. [`all_followed`] finds what copies bring back of them, and
-//! [`first_not_taken`] the first change that the filter doesn't take as it is, if there is one:
+//! An [`Excluded`] is the set of paths that a cut excludes. [`all_followed`] finds what copies bring
+//! back of them. [`first_not_taken`] finds the first change, if there is one, that the filter can
+//! neither drop nor write unchanged:
 //!
 //! ```
 //! let excluded = Excluded::of(alloc, prefixes)?;
@@ -19,8 +20,9 @@
 //! let not_taken = first_not_taken(alloc, &index, &excluded)?;
 //! ```
 //!
-//! `tests::brings` runs this. [`Deletes`] are what copies take to excluded paths. With these deletes after its nodes, what the
-//! filter writes is the cut, if nothing excluded comes back:
+//! `tests::brings` runs this. [`Deletes`] are the paths to delete after copies that take something to
+//! excluded paths. If nothing excluded comes back, the output of the filter with these deletes after its
+//! nodes is the cut:
 //!
 //! ```
 //! let Ok(deletes) = Deletes::find(alloc, &index, &excluded)? else {
@@ -31,36 +33,38 @@
 //! };
 //! ```
 //!
-//! `tests::deletes` runs this. [`follow`] excludes these paths too, and what copies bring of them, until nothing more comes
-//! back:
+//! `tests::deletes` runs this. [`follow`] also excludes the paths to which copies bring excluded
+//! content, until nothing more comes back:
 //!
 //! ```
 //! let additions = follow(alloc, &index, &mut excluded, way)?;
 //! ```
 //!
-//! `tests::follows` runs this. [`find_siblings`] finds what is excluded so that included paths are kept, and the directories
-//! above them:
+//! `tests::follows` runs this. [`find_siblings`] finds the paths to exclude so that only included paths,
+//! and the directories above them, are kept:
 //!
 //! ```
 //! let included = Excluded::of(alloc, &[prefix])?;
 //! let siblings = find_siblings(alloc, &index, &included)?;
 //! ```
 //!
-//! `tests::leaves` runs this. [`merge_paths`] are the paths that mergeinfo in a dump names, each once:
+//! `tests::leaves` runs this. [`merge_paths`] returns the paths that mergeinfo in a dump names, each
+//! once:
 //!
 //! ```
 //! let found = merge_paths(alloc, MERGED.as_bytes())?;
 //! ```
 //!
-//! `tests::names_paths` runs this. [`revision_fates`] are the revisions of a dump, and whether the filter keeps each of
-//! them:
+//! `tests::names_paths` runs this. [`revision_fates`] returns the revisions of a dump, and whether the
+//! filter keeps each:
 //!
 //! ```
 //! let options = excluded.filter_options(alloc, true)?;
 //! let fates = revision_fates(alloc, &dump, &options)?;
 //! ```
 //!
-//! `tests::drops` runs this. [`later_part`] is what a dump has after a revision, with what is before its first revision:
+//! `tests::drops` runs this. [`later_part`] returns what a dump has after a revision, with what is
+//! before its first revision:
 //!
 //! ```
 //! let part = later_part(dump, number);

@@ -19,15 +19,15 @@ use dump_index::{ChangeIndex, NodeChange, NodeKind};
 use dump_rules::Memory;
 use std::alloc::Global;
 
-/// A change that a load rejects.
+/// A change that a load would reject.
 #[derive(Clone, Copy, Debug, PartialEq, Eq)]
 pub struct Refused {
-    /// Which change of the dump it is, from 0 on.
+    /// The index of the change in the dump, from 0.
     pub place: usize,
     pub refusal: Refusal,
 }
 
-/// What exists at the directory that the path is in, after the changes that are known.
+/// What exists at the directory that contains the path, after the changes in `known`.
 fn parent_kind(
     alloc: Global,
     index: &ChangeIndex<'_>,
@@ -73,7 +73,7 @@ fn source_kind(
     index.kind_known(alloc, source.path, end, known)
 }
 
-/// What exists at the paths on which the change depends, after the changes that are known and before it is made.
+/// What exists at the paths on which the change depends, after the changes in `known` and before this one.
 fn kinds_before(
     alloc: Global,
     index: &ChangeIndex<'_>,
@@ -96,8 +96,8 @@ fn kinds_before(
     })
 }
 
-/// The first change of the index that `svnadmin load` would reject, and why; none if it would accept them all. It checks only
-/// what exists at paths, not whether a text delta applies to the old text.
+/// The first change of the index that `svnadmin load` would reject, and why; `None` if it would accept them all. Only
+/// what exists at paths is checked, not whether a text delta applies to the old text.
 pub fn first_refused(alloc: Global, index: &ChangeIndex<'_>) -> Result<Option<Refused>, Memory>
     requires { IsTrue (list_all has_named_paths index.now) }
     ensures { IfOk result (λ found. IsFirstRefused index.now found) }

@@ -1,4 +1,4 @@
-//! The paths that mergeinfo in a dump names. Nothing has to exist there.
+//! The paths that mergeinfo in a dump names, whether something exists there or not.
 ghost use Rattle.std.specs.Prelude.{IfOk, IsTrue, List, OnOk, map};
 ghost use Rattle.std.specs.List.{list_all};
 ghost use Rattle.dump_text.specs.PropertyList.{IsPropertyBlock, Property};
@@ -31,7 +31,7 @@ fn add_value(alloc: Global, value: &[u8], paths: &mut BTreeSet<Vec<u8>>) -> Resu
     Ok(())
 }
 
-/// Adds the paths that the mergeinfo among some properties names. The name of the property may occur more than once.
+/// Adds the paths that the mergeinfo in these properties names. There may be several properties of the name.
 fn add_properties(
     alloc: Global,
     props: &Props<'_>,
@@ -61,8 +61,8 @@ fn add_record(alloc: Global, item: &Record<'_>, paths: &mut BTreeSet<Vec<u8>>) -
     Ok(())
 }
 
-/// The paths that mergeinfo in a dump names, in canonical form, each once and in the order of their bytes. Their texts have
-/// names of nodes.
+/// The paths that mergeinfo in a dump names, in canonical form, each once and sorted by their bytes. Each name in them
+/// can be the name of a node.
 pub fn merge_paths(alloc: Global, dump: &[u8]) -> Result<BTreeSet<Vec<u8>>, Memory>
     ensures paths { IfOk result (λ paths. AreMergePaths dump.now (map (λ path. names_of path.items) paths.keys)) }
     ensures named { IfOk result (λ paths. IsTrue (list_all has_node_names (map (λ path. names_of path.items) paths.keys))) }

@@ -1,4 +1,4 @@
-//! The siblings of included paths that mergeinfo names. Nothing has to exist there.
+//! The siblings of included paths that mergeinfo names, whether something exists there or not.
 ghost use Rattle.std.specs.Prelude.{◌≡◌, ◌||◌, IsTrue, OnOk};
 ghost use Rattle.dump_trees.specs.CanonicalPaths.{canonical_path};
 ghost use Rattle.dump_cut.specs.NamedLines.{CoverMergeinfo, is_left_by};
@@ -12,7 +12,8 @@ use crate::siblings::is_in_cut;
 use dump_rules::Memory;
 use std::alloc::Global;
 
-/// Adds the first path that isn't in the cut, on the way from the root to the path that this prefix names, if there is one.
+/// Adds the first path that isn't in the cut, on the way from the root to the path that this prefix names, if there is
+/// one.
 fn add_on_way(
     alloc: Global,
     included: &Excluded,
@@ -35,8 +36,8 @@ fn add_on_way(
     Ok(())
 }
 
-/// Adds the siblings of included paths that the mergeinfo in a dump names, so that the filter omits lines that name paths
-/// outside of the cut. It keeps those of paths that aren't excluded, whether something exists there or not.
+/// Adds the siblings of included paths that the mergeinfo in a dump names. So the filter omits lines that name paths
+/// outside of the cut. It keeps lines with other paths, whether something exists there or not.
 pub fn add_named_siblings(
     alloc: Global,
     dump: &[u8],

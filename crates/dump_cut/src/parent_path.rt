@@ -1,4 +1,4 @@
-//! The directory that a path is in.
+//! The directory that contains a path.
 ghost use Rattle.std.specs.Prelude.{◌≡◌, ◌==◌, length};
 ghost use Rattle.dump_trees.specs.Paths.{names_of};
 ghost use Rattle.dump_trees.specs.Restriction.{is_root};
@@ -11,7 +11,7 @@ pub(crate) fn is_root(path: &[u8]) -> bool
     path.is_empty()
 }
 
-/// The text before the last slash of the path; no bytes, if it has none.
+/// The text before the last slash of the path; empty if there is none.
 pub(crate) fn parent_text(path: &[u8]) -> &[u8]
     ensures { result.now ≡ parent_text path.now }
 {

@@ -31,7 +31,7 @@ pub enum Refusal {
     TextOnDirectory,
 }
 
-/// Why a load would reject what the change deletes.
+/// Why a load would reject the deletion that the change makes.
 fn deletion_refused(change: &NodeChange<'_>, here: Option<NodeKind>) -> Option<Refusal>
     ensures { result ≡ deletion_refused change.now.deletes (is_root (names_of change.now.path.now)) (option_map kind_meant here) }
 {
@@ -47,14 +47,14 @@ fn deletion_refused(change: &NodeChange<'_>, here: Option<NodeKind>) -> Option<R
     }
 }
 
-/// What exists at the path after the change has deleted, if it deletes.
+/// What exists at the path after the deletion, if the change makes one.
 fn left_by(change: &NodeChange<'_>, here: Option<NodeKind>) -> Option<NodeKind>
     ensures { option_map kind_meant result ≡ kind_left change.now.deletes (option_map kind_meant here) }
 {
     if change.deletes { None } else { here }
 }
 
-/// Why a load would reject a parent that is of this kind.
+/// Why a load would reject a new node if its parent is of this kind.
 fn parent_refused(parent: Option<NodeKind>) -> Option<Refusal>
     ensures { result ≡ parent_refused (option_map kind_meant parent) }
 {
@@ -64,7 +64,7 @@ fn parent_refused(parent: Option<NodeKind>) -> Option<Refusal>
     }
 }
 
-/// Why a load would reject something new, if this is left at its path.
+/// Why a load would reject a new node if `left` exists at its path.
 fn new_refused(at_root: bool, left: Option<NodeKind>, parent: Option<NodeKind>) -> Option<Refusal>
     ensures { result ≡ new_refused at_root (option_map kind_meant left) (option_map kind_meant parent) }
 {
@@ -94,7 +94,7 @@ fn copying_refused(
     }
 }
 
-/// Why a load would reject what the change makes, if this is left at its path.
+/// Why a load would reject what the change makes, if `left` exists at its path.
 fn making_refused(change: &NodeChange<'_>, left: Option<NodeKind>, kinds: &Kinds) -> Option<Refusal>
     ensures { result ≡ making_refused (option_map listed_made change.now.made) (is_root (names_of change.now.path.now))
         (option_map kind_meant left) (kinds_meant kinds.now) }
@@ -111,7 +111,8 @@ fn making_refused(change: &NodeChange<'_>, left: Option<NodeKind>, kinds: &Kinds
     }
 }
 
-/// What exists at the path after the change has made something, if this is left there and exists at its copy's source.
+/// What exists at the path after the change has made something, if `left` was there and `source` exists at its copy
+/// source.
 fn made_by(
     change: &NodeChange<'_>,
     left: Option<NodeKind>,
@@ -128,14 +129,14 @@ fn made_by(
     }
 }
 
-/// Whether properties or a text are set, so that a node has to exist.
+/// Whether properties or a text are set. Then a node has to exist.
 fn sets_some(setting: Setting) -> bool
     ensures { result ≡ sets_some setting }
 {
     matches!(setting, Setting::Replaces | Setting::Edits)
 }
 
-/// Why a load would reject properties that are set on this.
+/// Why a load would reject the properties that are set on a node of this kind.
 fn props_refused(sets: bool, made: Option<NodeKind>) -> Option<Refusal>
     ensures { result ≡ props_refused sets (option_map kind_meant made) }
 {
@@ -148,7 +149,7 @@ fn props_refused(sets: bool, made: Option<NodeKind>) -> Option<Refusal>
     }
 }
 
-/// Why a load would reject a text that is set on this.
+/// Why a load would reject the text that is set on a node of this kind.
 fn text_refused(sets: bool, made: Option<NodeKind>) -> Option<Refusal>
     ensures { result ≡ text_refused sets (option_map kind_meant made) }
 {
@@ -162,7 +163,7 @@ fn text_refused(sets: bool, made: Option<NodeKind>) -> Option<Refusal>
     }
 }
 
-/// Why a load would reject the properties and the text that the change sets on this.
+/// Why a load would reject the properties and the text that the change sets on a node of this kind.
 fn setting_refused(change: &NodeChange<'_>, made: Option<NodeKind>) -> Option<Refusal>
     ensures { result ≡ setting_refused (sets_some change.now.props) (sets_some change.now.text) (option_map kind_meant made) }
 {
@@ -172,8 +173,8 @@ fn setting_refused(change: &NodeChange<'_>, made: Option<NodeKind>) -> Option<Re
     }
 }
 
-/// Why `svnadmin load` would reject the change, if these kinds of node exist; none if it accepts the change. Whether a text
-/// delta applies to the old text isn't checked.
+/// Why `svnadmin load` would reject the change, if these kinds of nodes exist; `None` if it accepts the change. This
+/// doesn't check whether a text delta applies to the old text.
 pub fn refusal_of(change: &NodeChange<'_>, kinds: &Kinds) -> Option<Refusal>
     ensures { (p : Placed) → IsListed (listed_of change.now) p → result ≡ refused_for p.change (kinds_meant kinds.now) }
 {

@@ -22,21 +22,21 @@ use dump_index::{ChangeIndex, NodeChange, Source, joined};
 use dump_rules::Memory;
 use std::alloc::Global;
 
-/// Which way copies are followed.
+/// The direction in which copies are followed.
 #[derive(Clone, Copy, Debug, PartialEq, Eq)]
 pub enum Way {
-    /// From what is covered at the source of a copy to the copy.
+    /// From paths that are covered at the source of a copy to the copy.
     ToCopies,
-    /// From what is covered at a copy to its source.
+    /// From paths that are covered at a copy to its source.
     ToSources,
 }
 
-/// What a copy brings that is covered on the one side alone.
+/// What a copy brings that is covered on one side only.
 #[derive(Clone, Copy, Debug, PartialEq, Eq)]
 pub struct PlacedRest<'e> {
-    /// Which change of the dump the copy is, from 0 on.
+    /// The index of the change in the dump that makes the copy, from 0.
     pub place: usize,
-    /// The path below that of the copy, and below its source; empty, if it is all that is copied.
+    /// The path below that of the copy, and below its source; empty if it is all that is copied.
     pub rest: &'e [u8],
 }
 
@@ -63,7 +63,7 @@ impl Way {
         }
     }
 
-    /// The path to which it is followed.
+    /// The path to which a copy is followed.
     pub(crate) fn to<'p>(self, path: &'p [u8], source: &'p [u8]) -> &'p [u8]
         ensures { names_of result.now ≡ to_of (way_meant self) (names_of path.now) (names_of source.now) }
     {
@@ -74,8 +74,8 @@ impl Way {
     }
 }
 
-/// Whether something exists at this rest of the source after the first `count` changes, and the paths don't cover this rest at
-/// the path to which the copy is followed.
+/// Whether something exists at this rest of the source after the first `count` changes, and `excluded` doesn't cover
+/// this rest at the path to which the copy is followed.
 fn is_new_there(
     alloc: Global,
     index: &ChangeIndex<'_>,
@@ -100,8 +100,8 @@ fn is_new_there(
     Ok(kind.is_some())
 }
 
-/// The rests of a path to which this source is copied, from which on the copy is followed: something exists there at the
-/// source, in the revision that is copied; the paths cover it on the one side, and don't on the other.
+/// The rests at which a copy of this source is followed. At each, something exists in the copied revision of the
+/// source, and `excluded` covers it on one side and not on the other.
 pub fn followed_rests<'e>(
     alloc: Global,
     index: &ChangeIndex<'_>,
@@ -129,7 +129,7 @@ pub fn followed_rests<'e>(
     Ok(rests)
 }
 
-/// Adds the rests of the copy that the change at this place makes, if it makes one.
+/// Appends the rests of the copy that the change at this place makes, if it makes one.
 fn push_followed<'e>(
     alloc: Global,
     index: &ChangeIndex<'_>,
@@ -155,7 +155,7 @@ fn push_followed<'e>(
     Ok(())
 }
 
-/// The rests of all copies of the dump, in its order.
+/// The rests of all copies of the dump, in the order of the dump.
 pub fn all_followed<'e>(
     alloc: Global,
     index: &ChangeIndex<'_>,

@@ -1,4 +1,4 @@
-//! The directories that the last changes are in.
+//! Caches the directories that contain the last changes.
 ghost use Rattle.std.specs.Prelude.{◌≡◌, ◌<◌, ℕ, IfSome, List, MatchOption, length, true};
 ghost use Rattle.dump_trees.specs.Paths.{names_of};
 ghost use Rattle.dump_trees.specs.Restriction.{is_root};
@@ -9,22 +9,22 @@ ghost use Rattle.dump_cut.specs.steps.KindsBefore.{AreSeen, IsParentOf, IsSeen};
 use crate::parent_path::{is_root, parent_text};
 use dump_index::{NodeChange, NodeKind};
 
-/// The directory that a change is in, and what exists there.
+/// The directory that contains a change, and what exists there.
 #[derive(Clone, Copy)]
 pub(crate) struct SeenParent<'a> {
     pub(crate) path: &'a [u8],
     pub(crate) kind: Option<NodeKind>,
 }
 
-/// The directory that the last change is in, and another one that a change before it is in. The next changes are often in
-/// one of them, too.
+/// The directory that contains the last change, and another one that contains a change before it. The next changes are
+/// often in one of these too.
 #[derive(Clone, Copy)]
 pub(crate) struct Seen<'a> {
     pub(crate) last: Option<SeenParent<'a>>,
     pub(crate) other: Option<SeenParent<'a>>,
 }
 
-/// What exists at this directory, if it is the one that was seen.
+/// What exists at this directory, if it is the cached one.
 fn kind_if_seen(seen: Option<SeenParent<'_>>, path: &[u8]) -> Option<Option<NodeKind>>
     ensures { (listed : List Listed) (count : ℕ) → IsSeen listed count seen.entry
         → IfSome result (λ kind. kind ≡ kind_look listed count (names_of path.now)) }
@@ -37,7 +37,7 @@ fn kind_if_seen(seen: Option<SeenParent<'_>>, path: &[u8]) -> Option<Option<Node
     }
 }
 
-/// What exists at this directory, if it is one of those that were seen.
+/// What exists at this directory, if it is one of the cached ones.
 pub(crate) fn kind_seen(seen: &Seen<'_>, path: &[u8]) -> Option<Option<NodeKind>>
     ensures { (listed : List Listed) (count : ℕ) → AreSeen listed count seen.now
         → IfSome result (λ kind. kind ≡ kind_look listed count (names_of path.now)) }
@@ -48,7 +48,7 @@ pub(crate) fn kind_seen(seen: &Seen<'_>, path: &[u8]) -> Option<Option<NodeKind>
     }
 }
 
-/// Of the directories that were seen, the one that isn't this one; if neither is this one, the last.
+/// The cached directory that isn't this one; if neither is this one, the last.
 fn seen_beside<'a>(seen: &Seen<'a>, path: &[u8]) -> Option<SeenParent<'a>>
     ensures { (listed : List Listed) (count : ℕ) → AreSeen listed count seen.now → IsSeen listed count result }
 {
@@ -58,7 +58,8 @@ fn seen_beside<'a>(seen: &Seen<'a>, path: &[u8]) -> Option<SeenParent<'a>>
     }
 }
 
-/// The directory that was seen, if its path is shorter than this one: then a change at this one changes nothing there.
+/// The cached directory, if its path is shorter than this one. In this case, a change at this path changes nothing
+/// there.
 fn seen_above<'a>(seen: Option<SeenParent<'a>>, path: &[u8]) -> Option<SeenParent<'a>>
     ensures same { (listed : List Listed) (count : ℕ) → IsSeen listed count seen.entry → IsSeen listed count result }
     ensures shorter { IfSome result (λ parent. length parent.path.now < length path.now) }
@@ -71,7 +72,7 @@ fn seen_above<'a>(seen: Option<SeenParent<'a>>, path: &[u8]) -> Option<SeenParen
     }
 }
 
-/// The directory that the change is in, and at which this exists; the root is in none.
+/// The directory that contains the change, where this kind of node exists; `None` for the root.
 fn seen_parent<'a>(change: &NodeChange<'a>, kind: Option<NodeKind>) -> Option<SeenParent<'a>>
     ensures { MatchOption result (is_root (names_of change.now.path.now) ≡ true) (IsParentOf change.now kind) }
 {
@@ -82,7 +83,7 @@ fn seen_parent<'a>(change: &NodeChange<'a>, kind: Option<NodeKind>) -> Option<Se
     Some(SeenParent { path, kind })
 }
 
-/// The directories that were seen, after a change that is in a directory at which this exists.
+/// The cached directories after a change whose directory has this kind.
 pub(crate) fn seen_behind<'a>(
     seen: &Seen<'a>,
     change: &NodeChange<'a>,

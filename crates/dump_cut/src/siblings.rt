@@ -1,4 +1,4 @@
-//! What is excluded so that included paths are kept, and the directories above them.
+//! The paths to exclude so that only included paths, and the directories above them, are kept.
 ghost use Rattle.std.specs.Prelude.{◌≡◌, ◌++◌, ◌∷◌, [], ℕ, List, IfOk, IsTrue, OnOk, map};
 ghost use Rattle.std.specs.List.{list_all};
 ghost use Rattle.dump_trees.specs.Paths.{names_of};
@@ -23,7 +23,7 @@ pub(crate) fn is_in_cut(alloc: Global, included: &Excluded, path: &[u8]) -> Resu
     Ok(!included.below(alloc, path)?.is_empty())
 }
 
-/// Adds what ever exists right below a directory above included paths, and isn't in the cut.
+/// Adds what exists in some revision directly in a directory above included paths, and isn't in the cut.
 fn add_siblings(
     alloc: Global,
     index: &ChangeIndex<'_>,
@@ -46,8 +46,8 @@ fn add_siblings(
     Ok(())
 }
 
-/// The siblings of included paths: what ever exists in a directory above one of them, and isn't in the cut itself. What
-/// is kept without them is what is at or below an included path, and the directories above.
+/// The siblings of included paths: what exists in some revision in a directory above one of them, and isn't in the
+/// cut. A filter that excludes the siblings keeps what is at or below an included path, and the directories above.
 pub fn find_siblings(
     alloc: Global,
     index: &ChangeIndex<'_>,

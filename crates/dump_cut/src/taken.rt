@@ -1,4 +1,4 @@
-//! Which changes the filter takes as they are.
+//! Which changes the filter takes as they are: it drops the change, or it can write the change unchanged.
 ghost use Rattle.std.specs.Prelude.{◌≡◌, List, IfOk, IsTrue, option_map};
 ghost use Rattle.std.specs.List.{AllZip, list_all};
 ghost use Rattle.dump_trees.specs.Looking.{Placed};
@@ -18,8 +18,8 @@ use dump_index::{ChangeIndex, NodeChange, Source};
 use dump_rules::Memory;
 use std::alloc::Global;
 
-/// Whether the filter takes a copy of this source as it is: its path is excluded, or the paths exclude the same of what is
-/// copied at the source and at the path.
+/// Whether the filter takes a copy of this source as it is. Either its path is excluded, or the same is excluded of
+/// what is copied at the source and at the path.
 fn is_copy_taken(
     alloc: Global,
     index: &ChangeIndex<'_>,
@@ -61,9 +61,9 @@ fn is_made_taken(
     }
 }
 
-/// The first change of the index that the filter doesn't take as it is, if these paths are excluded. It is a copy with which
-/// something comes back, or one that would bring what is excluded at its path alone. If there is none, the filter writes the
-/// cut of the dump as it is.
+/// The first change of the index that the filter doesn't take as it is, if these paths are excluded. It is a copy that
+/// brings something back, or takes something to an excluded path. If there is none, the output of the filter is the
+/// cut.
 pub fn first_not_taken(
     alloc: Global,
     index: &ChangeIndex<'_>,

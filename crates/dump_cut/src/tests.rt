@@ -1,5 +1,5 @@
-//! What no clause says: each refusal on an example, prefixes in canonical form, copies of excluded paths, and failures of
-//! allocations.
+//! What no contract says: each refusal with an example, prefixes in canonical form, copies of excluded paths, and
+//! allocations that fail.
 ghost use Rattle.std.specs.Prelude.{IfOk, IfSome, IsTrue};
 ghost use Rattle.std.specs.List.{list_all};
 ghost use Rattle.dump_cut.specs.NamedPaths.{has_named_paths};
@@ -19,7 +19,7 @@ const HEAD: &str = "SVN-fs-dump-format-version: 3\n\nRevision-number: 0\n\nRevis
 Node-path: d\nNode-kind: dir\nNode-action: add\n\n\n\
 Node-path: d/f\nNode-kind: file\nNode-action: add\n\n\nRevision-number: 2\n\n";
 
-/// The index of the changes of a dump; None if it can't be read.
+/// The index of the changes of a dump; `None` if it can't be read.
 fn index_of<'a>(alloc: Global, dump: &'a [u8]) -> Result<Option<ChangeIndex<'a>>, Memory>
     ensures { IfOk result (λ read. IfSome read (λ index. IsTrue (list_all has_named_paths index))) }
 {
@@ -31,7 +31,7 @@ fn index_of<'a>(alloc: Global, dump: &'a [u8]) -> Result<Option<ChangeIndex<'a>>
     Ok(Some(index))
 }
 
-/// What a dump is rejected for; None if it can't be read.
+/// Why a load would reject a dump; `None` if it can't be read.
 fn refused(alloc: Global, dump: &[u8]) -> Result<Option<Option<Refused>>, Memory> {
     match index_of(alloc, dump)? {
         Some(index) => Ok(Some(first_refused(alloc, &index)?)),
@@ -39,7 +39,7 @@ fn refused(alloc: Global, dump: &[u8]) -> Result<Option<Option<Refused>>, Memory
     }
 }
 
-/// A dump with this node, in a revision after that of a directory `d` with a file `f`.
+/// A dump with this node, in a revision after one that adds a directory `d` with a file `f`.
 fn dump_with(alloc: Global, node: &str) -> Result<Vec<u8>, Memory> {
     let mut dump = Vec::from_slice(alloc, HEAD.as_bytes())?;
     dump.extend_from_slice(node.as_bytes())?;
@@ -47,7 +47,7 @@ fn dump_with(alloc: Global, node: &str) -> Result<Vec<u8>, Memory> {
     Ok(dump)
 }
 
-/// Whether the node is the first to be rejected, for this reason; or none is.
+/// Whether the node is the first that a load would reject, for this reason; or it would reject none.
 fn is_refused(alloc: Global, node: &str, refusal: Option<Refusal>) -> Result<bool, Memory> {
     let dump = dump_with(alloc, node)?;
     let found = refused(alloc, &dump)?;
@@ -119,7 +119,7 @@ fn a_prefix_or_no_memory(rt: HostRuntime) {
 
 const COPY: &str = "Node-path: e\nNode-action: add\nNode-copyfrom-rev: 1\nNode-copyfrom-path: d\n";
 
-/// Whether the copy of `d` to `e` alone was found, and this is its rest; or nothing was found.
+/// Whether only the copy of `d` to `e` was found, with this rest; or nothing was found.
 fn is_rest(found: &[PlacedRest<'_>], rest: Option<&[u8]>) -> bool {
     match (found, rest) {
         ([one], Some(rest)) => one.place == 2 && one.rest == rest,
@@ -128,8 +128,8 @@ fn is_rest(found: &[PlacedRest<'_>], rest: Option<&[u8]>) -> bool {
     }
 }
 
-/// Whether the copy of `d` to `e` brings this rest back, if these prefixes are excluded, and this change is the first that
-/// isn't taken.
+/// Whether the copy of `d` to `e` brings back this rest, if these prefixes are excluded, and this change is the first
+/// that the filter doesn't take as it is.
 fn brings(
     alloc: Global,
     prefixes: &[&[u8]],
@@ -183,7 +183,7 @@ fn no_path_covers_nothing(rt: HostRuntime) -> Result<(), Fail> {
     Ok(())
 }
 
-/// Whether this path alone was added.
+/// Whether exactly this path was added.
 fn is_added(additions: &[Addition], path: &[u8]) -> bool {
     match additions {
         [one] => one.place == 2 && one.path.as_slice() == path,
@@ -191,7 +191,8 @@ fn is_added(additions: &[Addition], path: &[u8]) -> bool {
     }
 }
 
-/// Whether the copy of `d` to `e` is followed from this prefix to the path, and then each change is taken.
+/// Whether the copy of `d` to `e` is followed from this prefix to the path, and the filter then takes each change as
+/// it is.
 fn follows(alloc: Global, prefix: &[u8], way: Way, path: &[u8]) -> Result<bool, Memory> {
     let dump = dump_with(alloc, COPY)?;
     let Some(index) = index_of(alloc, &dump)? else {
@@ -217,7 +218,7 @@ fn paths_or_no_memory(rt: HostRuntime) {
     assert!(rt; matches!(answer, Ok(true) | Err(Memory)));
 }
 
-/// Whether one of these two is excluded if this prefix is included, and the other one is kept, if `e` is a copy of `d`.
+/// Whether `excluded` is excluded and `left` is kept, if this prefix is included and `e` is a copy of `d`.
 fn leaves(alloc: Global, prefix: &[u8], excluded: &[u8], left: &[u8]) -> Result<bool, Memory> {
     let dump = dump_with(alloc, COPY)?;
     let Some(index) = index_of(alloc, &dump)? else {
@@ -250,7 +251,7 @@ K 13\nsvn:mergeinfo\nV 13\n//a/b/:1\n/c:2\nPROPS-END\n\n\n\
 Node-path: d\nProp-content-length: 42\nContent-length: 42\n\n\
 K 13\nsvn:mergeinfo\nV 8\n/a/b:3\nd\nPROPS-END\n\n";
 
-/// Whether mergeinfo in that dump names these paths.
+/// Whether mergeinfo in `MERGED` names these paths.
 fn names_paths(alloc: Global, paths: &[&[u8]]) -> Result<bool, Memory> {
     let found = merge_paths(alloc, MERGED.as_bytes())?;
     let mut wanted = paths.iter();
@@ -324,7 +325,7 @@ fn deletes_or_no_memory(rt: HostRuntime) {
     assert!(rt; matches!(answer, Ok(true) | Err(Memory)));
 }
 
-/// Whether revision 2, which copies `d` to `e`, is the one that is dropped if this prefix is excluded.
+/// Whether exactly revision 2, which copies `d` to `e`, is dropped if this prefix is excluded.
 fn drops(alloc: Global, prefix: &[u8]) -> Result<bool, Memory> {
     let dump = dump_with(alloc, COPY)?;
     let excluded = Excluded::of(alloc, &[prefix])?;
@@ -349,7 +350,7 @@ fn fates_or_no_memory(rt: HostRuntime) {
     assert!(rt; matches!(answer, Ok(true) | Err(Memory)));
 }
 
-/// Whether these are the two pieces of what a dump has after a revision.
+/// Whether the part of a dump after a revision has these two slices.
 fn is_part(dump: &[u8], number: u64, head: &str, revisions: &str) -> bool {
     let part = later_part(dump, number);
     part.head == head.as_bytes() && part.revisions == revisions.as_bytes()
@@ -376,7 +377,7 @@ const MERGE: &str =
     "Node-path: d\nNode-action: change\nProp-content-length: 38\nContent-length: 38\n\n\
 K 13\nsvn:mergeinfo\nV 4\n/g:1\nPROPS-END\n";
 
-/// Whether cuts without these two prefixes of a dump with this node differ at these paths.
+/// Whether the cuts that exclude these two prefixes, of a dump with this node, differ at these paths.
 fn differ(
     alloc: Global,
     node: &str,

@@ -1,4 +1,4 @@
-//! Deletes after the nodes of a dump.
+//! Writes deletes after the nodes of a dump.
 ghost use Rattle.std.specs.Prelude.{◌≡◌, IfOk, IsTrue, map};
 ghost use Rattle.std.specs.List.{list_all};
 ghost use Rattle.dump_history.specs.WrittenNodes.{is_plain_path};
@@ -22,8 +22,8 @@ fn delete_nodes(alloc: Global, paths: &[Vec<u8>]) -> Result<Vec<u8>, Memory>
     Ok(text)
 }
 
-/// A whole dump, with deletes of these paths after its nodes: the first paths after the first node, and so on. After further
-/// nodes there are none.
+/// The whole dump, with deletes after its nodes. The first paths are deleted after the first node, and so on; after
+/// the nodes for which there are no paths, nothing is deleted.
 pub fn trimmed<'t>(
     alloc: Global,
     dump: &'t [u8],

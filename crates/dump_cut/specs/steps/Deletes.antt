@@ -10,8 +10,7 @@ use Rattle.dump_cut.specs.TrimmedCopies.{AreDeletes, HasOddDelete}
 abbrev pub delete_texts_of : List (Vec (Vec ℕ)) → List (List (List ℕ))
 delete_texts_of deletes = map (λ paths. map (λ path. path.items) paths.items) deletes
 
--- for each kept change the paths to delete after it; or the place of a change with such a path that no load reads
--- unchanged
+-- for each kept change the paths to delete after it; or the place of a change with a path that no load reads unchanged
 abbrev pub AreFoundDeletes : List NodePath → ToldKinds → List Placed → Result (List (List (List ℕ))) ℕ → Type 0
 AreFoundDeletes excluded told placed (Ok deletes) = AreDeletes excluded told placed deletes
 AreFoundDeletes excluded told placed (Err place) = HasOddDelete excluded told placed place

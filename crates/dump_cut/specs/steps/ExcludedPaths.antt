@@ -1,4 +1,4 @@
--- The paths that a cut excludes, spelled by texts without a leading slash.
+-- The paths that a cut excludes, as texts without a leading slash.
 use Rattle.std.specs.Prelude.{◌≡◌, ℕ, Bool, true, false, List, map}
 use Rattle.dump_trees.specs.Following.{IsGrown}
 use Rattle.dump_trees.specs.Paths.{NodePath, names_of}
@@ -7,7 +7,7 @@ use Rattle.dump_trees.specs.Paths.{NodePath, names_of}
 abbrev pub paths_of : List (List ℕ) → List NodePath
 paths_of texts = map names_of texts
 
--- the paths have grown by this one, if it is added; else they are the same
+-- the paths have this one in addition, if it is added; otherwise they are the same
 abbrev pub IsGrownIf : List NodePath → NodePath → List NodePath → Bool → Type 0
 IsGrownIf old path new true = IsGrown old path new
 IsGrownIf old path new false = new ≡ old

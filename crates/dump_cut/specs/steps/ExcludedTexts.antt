@@ -11,7 +11,7 @@ use Rattle.dump_cut.specs.steps.ExcludedPaths.{paths_of}
 abbrev pub AreExcluded : List (List ℕ) → Type 0
 AreExcluded texts = IsTrue (list_all has_node_names (paths_of texts)) × IsTrue (lie_apart (paths_of texts))
 
--- whether a text is strictly below the top
+-- whether a text is below `top`, and isn't `top`
 abbrev pub is_text_below : List ℕ → List ℕ → Bool
 is_text_below top text = stands_over text top && not (bytes_eq top text)
 

@@ -1,4 +1,4 @@
--- The paths to which one copy is followed, and what more additions keep.
+-- The paths to which one copy is followed, and how more additions extend them.
 use Rattle.std.specs.List.{All, AllZip, list_all}
 use Rattle.std.specs.Prelude.{◌⊎◌, ℕ, Option, Some, None, ◌≡◌, ◌-◌, ◌++◌, ◌∷◌, [], Bool, not, List, map, Contains, IsTrue, slice_get, if◌then◌else◌}
 use Rattle.dump_trees.specs.Changes.{Made, Change}
@@ -48,7 +48,7 @@ pub record AddsPath (old before : List NodePath) (added : NodePath) (new after :
   pub grown : IsGrownIf old added new is_new
   pub more : after ≡ (if is_new then before ++ added ∷ [] else before)
 
--- at most one addition is new: that of the path, by the copy at this place
+-- at most one addition is new: this path, with the place of the copy
 abbrev pub AddsOne : ℕ → NodePath → List Addition → List Addition → Type 0
 AddsOne place path old new = (new ≡ old)
     ⊎ ((added : Addition) × (new ≡ old ++ added ∷ []) × (added.place ≡ place) × (names_of added.path.items ≡ path))
@@ -84,8 +84,8 @@ abbrev pub IsIdleAt : Way → List Listed → List NodePath → ℕ → List Nod
 IsIdleAt way listed old place new = (new ≡ old) × ((placed : List Placed) → AllZip IsListed listed placed
     → rests_at way new (kinds_told_by listed) placed (slice_get placed place) ≡ [])
 
--- the place to which a pass over so many changes comes at this turn: from the first one on, or from the last one back if copies
--- are followed to their sources
+-- the place at which a pass over `count` changes is at this turn: it goes from the first to the last, or from the last
+-- to the first if copies are followed to their sources
 abbrev pub place_at_turn : Way → ℕ → ℕ → ℕ
 place_at_turn Way.ToCopies turn count = turn
 place_at_turn Way.ToSources turn count = count - 1 - turn

@@ -1,4 +1,4 @@
--- Kinds as an index finds them, and as the laws of loading name them.
+-- Kinds as an index finds them, and as the laws of loading describe them.
 use Rattle.std.specs.Prelude.{Bool, true, false, option_map}
 use Rattle.dump_trees.specs.LoadCheck as LoadCheck
 use Rattle.dump_index.specs.ToldKinds.{kind_meant}
@@ -6,7 +6,7 @@ use Rattle.dump_index.specs.declared.change.Setting.{Setting}
 use Rattle.dump_index.specs.declared.change.Setting.TheVariants.{Keeps, Replaces, Edits, EditsNothing}
 use Rattle.dump_cut.specs.declared.kinds.Kinds.{Kinds}
 
--- the kinds that were found, as these laws name them
+-- the kinds that were found, as these laws describe them
 abbrev pub kinds_meant : Kinds → LoadCheck.Kinds
 kinds_meant kinds = record {
   here = option_map kind_meant kinds.here;
@@ -14,7 +14,7 @@ kinds_meant kinds = record {
   source = option_map kind_meant kinds.source;
 }
 
--- whether something is set, so that a node has to exist
+-- whether something is set; then a node has to exist
 abbrev pub sets_some : Setting → Bool
 sets_some Keeps = false
 sets_some Replaces = true

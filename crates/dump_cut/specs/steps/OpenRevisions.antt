@@ -9,19 +9,19 @@ use Rattle.dump_cut.specs.RevisionFates.{fates_of_groups}
 use Rattle.dump_cut.specs.declared.fates.OpenRevision.{OpenRevision}
 use Rattle.dump_cut.specs.declared.fates.RevisionFate.{RevisionFate}
 
--- what becomes of a revision, if it has no more nodes
+-- whether the filter keeps a revision, if it has no more nodes
 abbrev pub open_fate : Settings → OpenRevision → RevisionFate
 open_fate settings p = record {
   number = p.number;
   stays = p.number == 0 || p.kept || keeps_empty settings.empty p.bare;
 }
 
--- what becomes of the open revision, if there is one, and it has no more nodes
+-- the open revision, if there is one and it has no more nodes, and whether the filter keeps it
 abbrev pub ended_fates : Settings → Option OpenRevision → List RevisionFate
 ended_fates settings None = []
 ended_fates settings (Some p) = open_fate settings p ∷ []
 
--- the same, if this record comes next; a node is one more node of the open revision
+-- the same if this record comes next, which may be one more node of the open revision
 abbrev pub fates_before : Settings → Option OpenRevision → DumpRecord → List RevisionFate
 fates_before settings present r = if is_node r then [] else ended_fates settings present
 
@@ -36,7 +36,7 @@ open_after settings present r =
     if is_revision_record r then Some (record { number = revision_number r; bare = true; kept = false })
     else if is_node r then open_with (is_kept_node settings r) present else None
 
--- these are the revisions of a dump, up to where its list of records ends
+-- these are the revisions of a dump, up to the end of its list of records
 pub record AreFatesIn (settings : Settings) (dump : List ℕ) (fates : List RevisionFate) : Type 0 where
   pub records : List DumpRecord
   pub ending : Ending

@@ -1,7 +1,7 @@
--- The directory that a path is in, as determined by the text of the path.
+-- The directory that contains a path, as a text.
 use Rattle.std.specs.Prelude.{ℕ, ◌==◌, List, [], ◌∷◌, reverse, if◌then◌else◌}
 
--- what comes after the first slash
+-- what follows the first slash
 abbrev pub after_slash : List ℕ → List ℕ
 after_slash [] = []
 after_slash (b ∷ text) = if b == 47 then text else after_slash text

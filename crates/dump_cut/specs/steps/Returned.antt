@@ -1,4 +1,4 @@
--- What copies bring that is excluded on the one side alone, as a cut finds it.
+-- What copies bring that is excluded on one side only, as the program finds it.
 use Rattle.std.specs.Prelude.{ℕ, List, map}
 use Rattle.dump_trees.specs.Following as Following
 use Rattle.dump_trees.specs.FollowedRests as FollowedRests
@@ -7,7 +7,7 @@ use Rattle.dump_cut.specs.declared.returns.PlacedRest.{PlacedRest}
 use Rattle.dump_cut.specs.declared.returns.Way.{Way}
 use Rattle.dump_cut.specs.declared.returns.Way.TheVariants.{ToCopies, ToSources}
 
--- the same way, as the laws of following name it
+-- the same direction, as the laws of following name it
 abbrev pub way_meant : Way → Following.Way
 way_meant ToCopies = Following.Way.ToCopies
 way_meant ToSources = Following.Way.ToSources
