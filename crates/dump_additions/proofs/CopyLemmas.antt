@@ -69,7 +69,7 @@ module _ (changes : List NodeChange) (revisions : List (List Change)) (trees : L
   abbrev listed : List Listed
   listed = map listed_of changes
 
-  -- what the index tells of the tree of a revision
+  -- what the index says about the tree of a revision
   kinds_at : (number : ℕ) (old : Tree) → slice_get trees number ≡ Some old → (p : NodePath)
       → kind_look listed (end_of (all_placed listed) number) p ≡ option_map node_kind (old p)
   kinds_at number old there p =

@@ -317,7 +317,7 @@ module _ (top path : NodePath) where
   copies_none (Some []) c plain = and_left (is_copied c.made) (not c.deletes) plain
   copies_none (Some (name ∷ rest)) c plain = refl
 
-  -- behind a root that is no copy, and replaces what exists
+  -- after a root that is no copy, and replaces what exists
   none_in_addition : (before : Tree) → HasFolders before → (changed : Bool)
       → (changed ≡ true → is_some (before path) ≡ true) → (root : Change) → root.path ≡ top
       → root.deletes ≡ is_some (before top) → is_copied root.made ≡ false → (parts : List PartMeant) (xs : List Change)
@@ -346,7 +346,7 @@ module _ (top path : NodePath) where
           subst (λ b. copies_over_changed path b xs ≡ false) (sym (replaced name rest at changed refl))
           (none_apart parts xs apart are)
 
--- a copy behind a deletion at its path
+-- a copy after a deletion at its path
 none_cleared : (o : Option NodePath) (c : Change) (changed : Bool)
     → ((changed && copies_to o (deletion_of c.path))
     || ((is_changed_after o (deletion_of c.path) changed && copies_to o c) || false)) ≡ false

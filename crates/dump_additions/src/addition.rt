@@ -1,4 +1,5 @@
-//! What is written in place of the copies with which something excluded comes back, and before copies over something.
+//! Finds what to write in place of copies that bring back excluded content, and before copies to a path where
+//! something is.
 ghost use Rattle.std.specs.Prelude.{◌≡◌, ◌<◌, ◌-◌, ◌++◌, ◌∷◌, [], List, IfOk, IsTrue, map, Some};
 ghost use Rattle.std.specs.List.{list_all};
 ghost use Rattle.dump_trees.specs.Changes.{is_copied};
@@ -52,7 +53,7 @@ fn copy_node<'a>(
     })
 }
 
-/// The node that makes a directory as it is in a part of the source.
+/// The node that makes a directory with the properties that it has at a rest of the source.
 fn directory_node<'a>(
     alloc: Global,
     table: &PropertyTable<'a>,
@@ -76,7 +77,8 @@ fn directory_node<'a>(
     })
 }
 
-/// The node that makes a file as it is in a part of the source, or the place of the change that stores its text as a delta.
+/// The node that makes a file as it is at a rest of the source. The error is the place of the change that stores its
+/// text as a delta.
 fn file_node<'a>(
     alloc: Global,
     table: &PropertyTable<'a>,
@@ -110,7 +112,8 @@ fn file_node<'a>(
     }))
 }
 
-/// The node that writes a part of what is copied, or the place of the change that stores its text as a delta.
+/// The node that writes a part of what is copied. The error is the place of the change that stores its text as a
+/// delta.
 fn node_of<'a>(
     alloc: Global,
     table: &PropertyTable<'a>,
@@ -133,7 +136,8 @@ fn node_of<'a>(
     }
 }
 
-/// Adds the nodes that write these parts. If the text of one is stored as a delta, the place of the change that does so.
+/// Appends the nodes that write these parts. If the text of one is stored as a delta, returns the place of the change
+/// that does this.
 fn push_nodes<'a>(
     alloc: Global,
     table: &PropertyTable<'a>,
@@ -160,8 +164,8 @@ fn push_nodes<'a>(
     Ok(None)
 }
 
-/// The text that is at the path of this change after it, the last of so many, if it copies a file; none, if it copies a
-/// directory. Or why it can't be written.
+/// The text at the path of the last of the first `count` changes, after it, if it copies a file; `None` if it copies a
+/// directory. The error says why the text can't be written.
 fn root_text<'a>(
     alloc: Global,
     texts: &TextTable<'a>,
@@ -187,8 +191,8 @@ fn root_text<'a>(
     }
 }
 
-/// The node that makes the directory or the file which this change copies, the last of so many, as it is after the copy. Or
-/// why none does.
+/// The node that makes the directory or file that the last of the first `count` changes copies, as it is after the
+/// copy. The error says why there is none.
 fn root_node<'a>(
     alloc: Global,
     table: &PropertyTable<'a>,
@@ -228,7 +232,8 @@ fn root_node<'a>(
     }
 }
 
-/// These nodes for this change, which follows them or doesn't. Or that one of them can't be written.
+/// These nodes in place of this change, or before it if `keeps` is true. The error says that one of them can't be
+/// written.
 fn stead_for<'a>(
     change: &NodeChange<'_>,
     nodes: Vec<NewNode<'a>>,
@@ -247,8 +252,8 @@ fn stead_for<'a>(
     Ok(stead)
 }
 
-/// What is written in place of this change, the last of so many, which copies something in this form. These are the parts in
-/// it. Or why nothing can be written.
+/// What is written in place of the last of the first `count` changes, which copies something in this form. `parts` are
+/// the parts in it. The error says why nothing can be written.
 fn stead_of<'a>(
     alloc: Global,
     table: &PropertyTable<'a>,
@@ -282,8 +287,9 @@ fn stead_of<'a>(
     Ok(stead_for(change, nodes, false))
 }
 
-/// What is written before this change, the last of so many, which is a copy: a node that deletes what exists at its path, if
-/// something does, and the change doesn't delete it itself. Or why that can't be written.
+/// What is written before the last of the first `count` changes, which is a copy. It is a node that deletes what
+/// exists at its path, if something does and the change doesn't delete it itself. The error says why this can't be
+/// written.
 fn clearing_of<'a>(
     alloc: Global,
     index: &ChangeIndex<'_>,
@@ -308,8 +314,9 @@ fn clearing_of<'a>(
     }
 }
 
-/// What is written in place of this change, the last of so many, which is a copy, if something excluded comes back with it, and
-/// else before it, if it is over something. Or why nothing can be written.
+/// What is written for the last of the first `count` changes, which is a copy: nodes in its place, if it brings back
+/// excluded content; otherwise a deletion before it, if something is at its path. The error says why nothing can be
+/// written.
 fn addition_of<'a>(
     alloc: Global,
     table: &PropertyTable<'a>,
@@ -342,10 +349,11 @@ fn addition_of<'a>(
     }
 }
 
-/// What is written in place of each copy with which something excluded comes back: the directory or the file that it makes,
-/// with the directories and files in it that come back, and copies of all else. Before each other copy over something is a node
-/// that deletes this: `svnadmin load` rejects a copy over what the same revision added. An error is the first copy for which
-/// nothing can be written, with the reason. Both tables and the index have to be of one dump.
+/// What is written in place of each copy that brings back excluded content: the directory or file that it makes, with
+/// the directories and files in it that come back, and copies of everything else. Before each other copy to a path
+/// where something is, a node deletes this: `svnadmin load` rejects a copy over what the same revision added. The
+/// error is the first copy for which nothing can be written, with the reason. Both tables and the index have to be of
+/// one dump.
 pub fn additions<'a>(
     alloc: Global,
     table: &PropertyTable<'a>,

@@ -1,7 +1,7 @@
-//! What is written in place of a copy with which something excluded comes back.
+//! Finds what to write in place of a copy that brings back excluded content.
 //!
-//! [`parts_of`] divides what a copy takes. A part is copied if nothing excluded comes back with it. Else it is written as a
-//! directory, and the parts in it follow, or as a file.
+//! [`parts_of`] divides what a copy takes into parts. A part is copied if no excluded content comes back
+//! with it. Otherwise it is written as a directory, followed by the parts in it, or as a file.
 //!
 //! ```
 //! let source = Source {
@@ -11,8 +11,8 @@
 //! let parts = parts_of(alloc, &index, &excluded, path, source)?;
 //! ```
 //!
-//! `tests::divides` runs this. [`additions`] finds what is in place of each such copy of a dump, and `dump_expansion` writes the
-//! dump with it:
+//! `tests::divides` runs this. [`additions`] finds what to write in place of each such copy of a dump,
+//! and `dump_expansion` writes the dump with it:
 //!
 //! ```
 //! let table = PropertyTable::of(alloc, &dump)?;
@@ -24,9 +24,9 @@
 //! let text = expanded(alloc, &dump, &steads)?;
 //! ```
 //!
-//! `tests::expands` runs this. A file is written with its whole text, which is lent from the dump. If the dump has only a delta
-//! of it, nothing can be written in place of the copy; [`NotAdded`] says which copy that is, and why. [`laws`] says that the new
-//! dump loads to the same trees.
+//! `tests::expands` runs this. A file is written with its whole text, which is a slice of the dump. If
+//! the dump has only a delta of it, nothing can be written in place of the copy; [`NotAdded`] says which
+//! copy that is, and why. [`laws`] says that the new dump loads to the same trees.
 #![tactic(auto)]
 
 mod addition;

@@ -1,18 +1,19 @@
-//! Copies in whose place nothing can be written.
+//! Copies for which no other nodes can be written.
 
 /// Why nothing can be written in place of a copy.
 #[derive(Clone, Copy, Debug, PartialEq, Eq)]
 pub enum Reason {
     /// The text of a file that comes back is stored as a delta, by the change at this place of the index.
     Delta(usize),
-    /// No load takes the copy: nothing exists at its source, or a directory does, and is given a text.
+    /// A load would reject the copy: nothing exists at its source, or a directory does and the change sets a text.
     NoLoad,
-    /// A load would not read one of the nodes as it is meant, as [`dump_expansion::NewNode::can_be_written`] says. A path, a
-    /// digest or the name of a property has a byte that it can't have, or a number is too large.
+    /// A load would read one of the nodes in another way than the program means it, as
+    /// [`dump_expansion::NewNode::can_be_written`] says. A path, a digest or the name of a property has a byte that it
+    /// can't have, or a number is too large.
     NotWritable,
 }
 
-/// A copy with which something excluded comes back, and in whose place nothing can be written.
+/// A copy that brings back excluded content, and for which no other nodes can be written.
 #[derive(Clone, Copy, Debug, PartialEq, Eq)]
 pub struct NotAdded {
     /// The copy's place in the index.

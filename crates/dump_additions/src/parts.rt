@@ -1,4 +1,4 @@
-//! The parts in which a copy is written.
+//! The parts into which a copy is divided.
 ghost use Rattle.std.specs.Prelude.{◌≡◌, ◌++◌, [], IfOk, IsTrue, OnOk, map};
 ghost use Rattle.std.specs.List.{list_all};
 ghost use Rattle.dump_trees.specs.Paths.{names_of};
@@ -16,7 +16,7 @@ use std::alloc::Global;
 /// How a part of what a copy takes is written.
 #[derive(Clone, Copy, Debug, PartialEq, Eq)]
 pub enum Form {
-    /// It is copied, with all that is in it.
+    /// As a copy, with all that is in it.
     Copy,
     /// As a directory. The parts in it are written after it.
     Directory,
@@ -27,11 +27,11 @@ pub enum Form {
 #[derive(Drop)]
 pub struct Part {
     pub form: Form,
-    /// The path below that of the copy, and below its source; empty, if it is all that is copied.
+    /// The path below that of the copy, and below its source; empty if it is all that is copied.
     pub rest: Vec<u8>,
 }
 
-/// How what exists at this rest of the source is written; none, if nothing exists there.
+/// How to write what exists at this rest of the source; `None` if nothing exists there.
 fn form_at(
     alloc: Global,
     index: &ChangeIndex<'_>,
@@ -59,7 +59,7 @@ fn form_at(
     Ok(form_of(kind))
 }
 
-/// How a node of this kind is written that isn't copied.
+/// How to write a node of this kind that isn't copied.
 fn form_of(kind: Option<NodeKind>) -> Option<Form>
     ensures { result ≡ form_of kind }
 {
@@ -70,7 +70,7 @@ fn form_of(kind: Option<NodeKind>) -> Option<Form>
     }
 }
 
-/// Adds these names, each joined to the rest, so that the first one is the last that is added.
+/// Pushes these names on the stack, each joined to the rest, so that the first name is popped first.
 fn push_joined(
     alloc: Global,
     rest: &[u8],
@@ -86,7 +86,7 @@ fn push_joined(
     Ok(())
 }
 
-/// Adds the rests of what is in the directory at this rest of the source, so that the first one is the last that is added.
+/// Pushes the rests of what is in the directory at this rest of the source, so that the first one is popped first.
 fn push_inside(
     alloc: Global,
     index: &ChangeIndex<'_>,
@@ -105,8 +105,8 @@ fn push_inside(
     push_joined(alloc, rest, &names, left)
 }
 
-/// The parts in which a copy of this source to the path is written, from the top on, the names in each directory in the order
-/// of their bytes. A part is copied if nothing excluded comes back with it.
+/// The parts into which a copy of this source to the path is divided, from the top on. The names in each directory are
+/// sorted by their bytes. A part is copied if no excluded content comes back with it.
 pub fn parts_of(
     alloc: Global,
     index: &ChangeIndex<'_>,
@@ -123,7 +123,7 @@ pub fn parts_of(
     let mut parts = Vec::new(alloc);
     let mut left = Vec::new(alloc);
     left.push(Vec::new(alloc))?;
-    // no memory holds so many paths
+    // no memory holds this many paths
     for _ in 0..u64::MAX {
         let Some(rest) = left.pop() else {
             return Ok(parts);

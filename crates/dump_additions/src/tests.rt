@@ -1,4 +1,5 @@
-//! Each call once: what a copy takes in parts, and what is written in its place, compared with what the format says.
+//! One call of each function: the parts of a copy, and what is written in its place, compared with what the format
+//! says.
 ghost use Rattle.std.specs.Prelude.{IfOk, IfSome, IsTrue};
 ghost use Rattle.std.specs.List.{list_all};
 ghost use Rattle.dump_cut.specs.NamedPaths.{has_named_paths};
@@ -29,7 +30,7 @@ K 1\np\nV 1\ny\nPROPS-END\n\n\nRevision-number: 3\n\n";
 const COPY: &str = "Node-path: new\nNode-kind: dir\nNode-action: add\n\
 Node-copyfrom-rev: 1\nNode-copyfrom-path: old\n\n\n";
 
-/// What is in place of the copy, if `old/sub/f` is excluded.
+/// What is written in place of the copy, if `old/sub/f` is excluded.
 const FILE_ADDED: &str =
     "Node-path: new\nNode-kind: dir\nNode-action: add\nProp-content-length: 22\n\
 Content-length: 22\n\nK 1\np\nV 1\nx\nPROPS-END\n\n\n\
@@ -43,34 +44,34 @@ Text-content-md5: b1946ac92492d2347c6235b4d2611184\n\
 Text-content-sha1: f572d396fae9206628714fb2ce00f72e94f2258f\nContent-length: 42\n\n\
 K 14\nsvn:executable\nV 1\n*\nPROPS-END\nhello\n\n\n";
 
-/// A file, and in the next revision in its place a copy of another one, which is given a text.
+/// A file. In the next revision, a copy of another file replaces it, and gets a text.
 const FILE_COPY: &str =
     "Node-path: g\nNode-kind: file\nNode-action: add\n\n\nRevision-number: 4\n\n\
 Node-path: g\nNode-kind: file\nNode-action: replace\n\
 Node-copyfrom-rev: 1\nNode-copyfrom-path: old/sub/f\n\
 Text-content-length: 3\nContent-length: 3\n\nhi\n\n\n";
 
-/// The same, if `old` is excluded.
+/// The same if `old` is excluded.
 const FILE_REPLACED: &str =
     "Node-path: g\nNode-kind: file\nNode-action: add\n\n\nRevision-number: 4\n\n\
 Node-path: g\nNode-kind: file\nNode-action: replace\n\
 Prop-content-length: 36\nText-content-length: 3\nContent-length: 39\n\n\
 K 14\nsvn:executable\nV 1\n*\nPROPS-END\nhi\n\n\n";
 
-/// A file, and in the next revision a copy of another one over it.
+/// A file, and in the next revision a copy of another file over it.
 const COPY_OVER: &str =
     "Node-path: g\nNode-kind: file\nNode-action: add\n\n\nRevision-number: 4\n\n\
 Node-path: g\nNode-kind: file\nNode-action: add\n\
 Node-copyfrom-rev: 1\nNode-copyfrom-path: old/sub/f\n\n\n";
 
-/// The same, if nothing comes back with the copy.
+/// The same if the copy brings nothing back.
 const FILE_DELETED: &str =
     "Node-path: g\nNode-kind: file\nNode-action: add\n\n\nRevision-number: 4\n\n\
 Node-path: g\nNode-action: delete\n\n\n\
 Node-path: g\nNode-kind: file\nNode-action: add\n\
 Node-copyfrom-rev: 1\nNode-copyfrom-path: old/sub/f\n\n\n";
 
-/// What is in place of the copy, if `new/readme` and `new/sub/f` are excluded too.
+/// What is written in place of the copy, if `new/readme` and `new/sub/f` are excluded too.
 const ADDED: &str = "Node-path: new\nNode-kind: dir\nNode-action: add\nProp-content-length: 22\n\
 Content-length: 22\n\nK 1\np\nV 1\nx\nPROPS-END\n\n\n\
 Node-path: new/readme\nNode-kind: file\nNode-action: add\nNode-copyfrom-rev: 1\n\
@@ -87,7 +88,7 @@ fn dump_with(alloc: Global, node: &str) -> Result<Vec<u8>, Memory> {
     Ok(dump)
 }
 
-/// The index of the changes of a dump; none if it can't be read.
+/// The index of the changes of a dump; `None` if it can't be read.
 fn index_of<'a>(alloc: Global, dump: &'a [u8]) -> Result<Option<ChangeIndex<'a>>, Memory>
     ensures { IfOk result (λ read. IfSome read (λ index. IsTrue (list_all has_named_paths index))) }
 {
@@ -112,7 +113,7 @@ fn are(parts: &[Part], wanted: &[(Form, &str)]) -> bool {
     true
 }
 
-/// Whether the copy of the dump is divided so, if these paths are excluded.
+/// Whether the copy of the dump is divided into these parts, if these paths are excluded.
 fn divides(alloc: Global, prefixes: &[&[u8]], wanted: &[(Form, &str)]) -> Result<bool, Memory> {
     let dump = dump_with(alloc, COPY)?;
     let Some(index) = index_of(alloc, &dump)? else {
@@ -154,7 +155,7 @@ fn files_come_back(rt: HostRuntime) -> Result<(), Fail> {
     Ok(())
 }
 
-/// Whether this is in place of a node, if these paths are excluded.
+/// Whether `wanted` is written in place of a node, if these paths are excluded.
 fn expands(alloc: Global, node: &str, prefixes: &[&[u8]], wanted: &str) -> Result<bool, Memory> {
     let dump = dump_with(alloc, node)?;
     let Some(index) = index_of(alloc, &dump)? else {
@@ -202,7 +203,7 @@ fn added_or_no_memory(rt: HostRuntime) {
     assert!(rt; matches!(answer, Ok(true) | Err(Memory)));
 }
 
-/// A delta of a text, and a copy of the directory in which the file is.
+/// A delta of a text, and a copy of the directory that contains the file.
 const DELTA: &str = "Node-path: old/sub/f\nNode-kind: file\nNode-action: change\nText-delta: true\n\
 Text-content-length: 1\nContent-length: 1\n\nd\n\nRevision-number: 4\n\n\
 Node-path: new\nNode-kind: dir\nNode-action: add\n\
@@ -215,11 +216,11 @@ Text-content-length: 1\nContent-length: 1\n\nd\n\nRevision-number: 4\n\n\
 Node-path: g\nNode-kind: file\nNode-action: add\n\
 Node-copyfrom-rev: 3\nNode-copyfrom-path: old/sub/f\n\n\n";
 
-/// A copy of a directory, which is given a text.
+/// A copy of a directory that sets a text.
 const TEXT_COPY: &str = "Node-path: new\nNode-kind: dir\nNode-action: add\n\
 Node-copyfrom-rev: 1\nNode-copyfrom-path: old\nText-content-length: 1\nContent-length: 1\n\nx\n\n";
 
-/// The first copy in whose place nothing can be written, if these paths are excluded.
+/// The first copy for which no other nodes can be written, if these paths are excluded.
 fn not_added(alloc: Global, node: &str, prefixes: &[&[u8]]) -> Result<Option<NotAdded>, Memory> {
     let dump = dump_with(alloc, node)?;
     let Some(index) = index_of(alloc, &dump)? else {

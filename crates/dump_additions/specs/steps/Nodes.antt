@@ -34,8 +34,8 @@ IsDirectoryNode blocks listed number path source rest w =
     × (written_change w ≡ folder_of (path ++ rest) entries)
     × ArePropertiesAt blocks listed text (end_of (all_placed listed) number) entries
 
--- the change at this place, which makes a copy in this form, leaves a file with this text at its path; or it copies a
--- directory, and gives it no text. Else the text is stored as a delta, or a directory is given one
+-- the change at this place, which makes a copy in this form, leaves a file with this text at its path, or copies a
+-- directory and sets no text; otherwise the text is stored as a delta, or a text is set on a directory
 abbrev pub IsRootText : List ToldText → List Listed → ℕ → Listed → Form → Result (Option NodeText) Reason → Type 0
 IsRootText texts listed place l form (Ok (Some text)) = (form ≡ File)
     × IsStoredAt texts listed l.path (suc place) (TextStored.Whole (told_of text))
@@ -45,7 +45,7 @@ IsRootText texts listed place l form (Err (Delta at)) = (form ≡ File)
 IsRootText texts listed place l form (Err NoLoad) = (form ≡ Directory) × (l.text ≢ Keeps)
 IsRootText texts listed place l form (Err NotWritable) = ⊥
 
--- what is found, as it is given
+-- the result of the code, as a value of the definitions
 abbrev pub given_found : Result (Vec code.Stead) NotAdded → Result (List GivenStead) NotAdded
 given_found (Ok steads) = Ok (map given_of steads.items)
 given_found (Err not_added) = Err not_added
@@ -57,19 +57,19 @@ module _ (blocks : List (List ℕ)) (texts : List ToldText) (listed : List Liste
   IsNodeOrDelta part (Ok node) = IsNodeOf blocks texts listed excluded number path source part (written_of node)
   IsNodeOrDelta part (Err at) = (part.form ≡ File) × IsDeltaIn texts listed number source part.rest at
 
-  -- the nodes that write the parts are added, or one of the parts is a file whose text is stored as a delta
+  -- the nodes that write the parts are appended, or one of the parts is a file whose text is stored as a delta
   abbrev pub AddsNodes : List PartMeant → List WrittenNode → List WrittenNode → Option ℕ → Type 0
   AddsNodes parts old new None = (more : List WrittenNode) × (new ≡ old ++ more)
       × AreNodesOf blocks texts listed excluded number path source parts more
   AddsNodes parts old new (Some at) = HasDelta blocks texts listed excluded number path source parts at
 
--- these nodes are for the node of this number; or one of them can't be written
+-- these nodes are for the node with this number; or one of them can't be written
 abbrev pub IsSteadFor : ℕ → List WrittenNode → Bool → Result code.Stead Reason → Type 0
 IsSteadFor number nodes keeps (Ok stead) = (given_of stead ≡ record { number = number; nodes = nodes; keeps = keeps })
     × (list_all can_be_written nodes ≡ true)
 IsSteadFor number nodes keeps (Err reason) = (reason ≡ NotWritable) × (list_all can_be_written nodes ≡ false)
 
--- what is before the change at this place, with which nothing comes back; or that it can't be written
+-- what is written before the change at this place, if it brings nothing back; or that this can't be written
 abbrev pub IsClearingOr : List Listed → ℕ → Listed → Result (Option code.Stead) Reason → Type 0
 IsClearingOr listed place l (Ok None) = IsFalse (copies_over listed place l)
 IsClearingOr listed place l (Ok (Some stead)) = IsTrue (copies_over listed place l)
@@ -79,18 +79,18 @@ IsClearingOr listed place l (Err reason) = IsTrue (copies_over listed place l) �
     × ((g : GivenStead) × IsCleared l g × (list_all can_be_written g.nodes ≡ false))
 
 module _ (blocks : List (List ℕ)) (texts : List ToldText) (listed : List Listed) (excluded : List NodePath) where
-  -- the node writes what the change at this place makes at its path; or its text is why none does
+  -- the node writes what the change at this place makes at its path; or the reason why this can't be written
   abbrev pub IsRootOr : ℕ → Listed → Form → Result NewNode Reason → Type 0
   IsRootOr place l form (Ok node) = IsRootOf blocks texts listed excluded place l form (written_of node)
   IsRootOr place l form (Err reason) = IsRootText texts listed place l form (Err reason)
 
-  -- what is in place of the change at this place, or why it can't be written
+  -- what is written in place of the change at this place, or why it can't be written
   abbrev pub IsSteadOr : ℕ → Listed → Result code.Stead Reason → Type 0
   IsSteadOr place l (Ok stead) = IsAddition blocks texts listed excluded place l (given_of stead)
       × (list_all can_be_written (given_of stead).nodes ≡ true)
   IsSteadOr place l (Err reason) = CannotBeAdded blocks texts listed excluded place l reason
 
-  -- what is in place of the change at this place, or before it, or why it can't stay
+  -- what is written in place of the change at this place, or before it; or why nothing can be written
   abbrev pub IsAdditionOr : ℕ → Listed → Result (Option code.Stead) Reason → Type 0
   IsAdditionOr place l (Ok None) = BringsNone blocks texts listed excluded (names_of l.path) l.made
       × IsFalse (copies_over listed place l)
@@ -98,7 +98,7 @@ module _ (blocks : List (List ℕ)) (texts : List ToldText) (listed : List Liste
       ⊎ (BringsNone blocks texts listed excluded (names_of l.path) l.made × IsClearingOr listed place l (Ok (Some stead)))
   IsAdditionOr place l (Err reason) = CannotStay blocks texts listed excluded place l reason
 
-  -- what is in place of all such changes, or before them; or the first one that can't stay
+  -- what is written in place of all such changes, or before them; or the first one for which nothing can be written
   abbrev pub AreAdditions : Result (List GivenStead) NotAdded → Type 0
   AreAdditions (Ok given) = AreAdditionsFrom blocks texts listed excluded 0 listed given
       × (list_all (λ (g : GivenStead). list_all can_be_written g.nodes) given ≡ true)

@@ -1,4 +1,4 @@
--- Parts as the code has them, and the rests that are left.
+-- The parts in the code, and the rests that the code still has to visit.
 use Rattle.std.specs.Prelude.{◌≡◌, ℕ, List, [], ◌∷◌, ◌++◌, map, reverse, Option, Some, None, IsTrue}
 use Rattle.std.specs.List.{list_all}
 use Rattle.std.specs.Global.{Vec}
@@ -14,7 +14,7 @@ use Rattle.dump_additions.specs.declared.parts.Form.{Form}
 use Rattle.dump_additions.specs.declared.parts.Form.TheVariants.{Directory, File}
 use Rattle.dump_additions.specs.declared.parts.Part.{Part}
 
--- the part that is meant
+-- a part of the code, as a value of the definitions
 abbrev pub part_meant : Part → PartMeant
 part_meant part = record { form = part.form; rest = names_of part.rest.items }
 
@@ -31,7 +31,7 @@ module _ (listed : List Listed) (excluded : List NodePath) (number : ℕ) (path 
   AreAllParts (rest ∷ rests) parts = (first : List PartMeant) × (others : List PartMeant) × (parts ≡ first ++ others)
       × ArePartsOf listed excluded number path source rest first × AreAllParts rests others
 
--- the rests that are left, of which the last one comes next
+-- the rests that are still to visit, of which the last one in the stack comes next
 abbrev pub pending : List (Vec ℕ) → List NodePath
 pending left = map (λ (rest : Vec ℕ). names_of rest.items) (reverse left)
 
@@ -39,7 +39,7 @@ pending left = map (λ (rest : Vec ℕ). names_of rest.items) (reverse left)
 abbrev pub children_of : NodePath → List NodePath → List NodePath
 children_of rest paths = map (λ path. rest ++ path) paths
 
--- before the others come the rests of what is in the directory at this rest of the source, in the revision that is copied
+-- the rests of what is in the directory at this rest of the copied source come before the other ones
 abbrev pub AddsInside : List Listed → ℕ → NodePath → NodePath → List NodePath → List NodePath → Type 0
 AddsInside listed number source rest old new = (names : List (List ℕ))
     × AreChildren listed (end_of (all_placed listed) number) (source ++ rest) names

@@ -1,4 +1,4 @@
--- The changes that write parts out.
+-- The changes that write the parts of a copy.
 use Rattle.std.specs.Prelude.{◌≡◌, ℕ, true, List, [], ◌∷◌, ◌++◌, Option, Some, None}
 use Rattle.std.specs.List.{AllZip}
 use Rattle.dump_text.specs.PropertyList.{Property}
@@ -31,18 +31,18 @@ module _ (old : Tree) (number : ℕ) (path source : NodePath) where
   abbrev pub IsChangeFor : PartMeant → Change → Type 0
   IsChangeFor part c = IsChangeOfForm part.form part.rest c
 
-  -- the changes write the parts, one each
+  -- the changes write the parts, one change for each
   abbrev pub AreChangesFor : List PartMeant → List Change → Type 0
   AreChangesFor parts changes = AllZip IsChangeFor parts changes
 
--- the changes make at the path just what exists at the source in the old tree, if nothing exists at the path
+-- the changes make at the path exactly what exists at the source in the old tree, if nothing exists at the path
 pub record IsPartWritten (history : History) (old : Tree) (path source : NodePath) (changes : List Change) : Type 0 where
   pub branch : Branch
   pub exists : HasBranch old source branch
   pub distinct : is_distinct branch ≡ true
   pub out : WritesOut keep_all history path branch changes
 
--- the properties that a change makes of those that it copies
+-- the properties after a change has copied some and set others
 abbrev pub props_made : Option PropertyChange → List Property → List Property
 props_made None props = props
 props_made (Some change) props = new_props change props
