@@ -4,7 +4,7 @@ use Rattle.std.proofs.Common.{zero, slice_get}
 use Rattle.std.specs.Result.{IfOk}
 use Rattle.dump_survey.proofs.PrefixLemmas.{next_prefix, not_all}
 
--- the first of the texts that passes
+-- the first of the texts that passes the test
 abbrev first_passing : (List ℕ → Bool) → List (List ℕ) → Option (List ℕ)
 first_passing test texts = slice_get (filter test texts) 0
 
@@ -25,7 +25,7 @@ some_passes test (x ∷ xs) = by (test x) (some_passes test xs)
     by true more = refl
     by false more = more
 
--- a prefix that cuts is there where one cuts
+-- if a prefix cuts, there is a first one that does
 pub cut_there : (settings : Settings) (path other : List ℕ)
     → is_some (first_cut settings.side settings path other) ≡ cuts settings path other
 cut_there settings path other = by settings.side
@@ -38,7 +38,7 @@ cut_there settings path other = by settings.side
     by Include = refl
     by Exclude = some_passes test settings.prefixes ∙ not_all test settings.prefixes
 
--- so where one is reported, and not where none is
+-- so a prefix is reported exactly if one cuts
 pub reported_cut : {E : Type 0} (settings : Settings) (path other : List ℕ) → settings.side ≡ Exclude
     → (result : Result (Option (Bor (List ℕ))) E)
     → IfOk result (λ found. option_copied found ≡ first_cut Exclude settings path other)
@@ -48,7 +48,7 @@ reported_cut settings path other excluded (Ok found) is =
     ∙ cut_there settings path other)
 reported_cut settings path other excluded (Err e) is = tt
 
--- the prefix of which the bare one stands at this place
+-- the prefix whose bare form is at this index
 prefix_at : (all : List (List ℕ)) (items : List (Bor (List ℕ))) (n : ℕ) (d : Bor (List ℕ)) → n < length items
     → map (λ item. item.now) items ≡ map bare_prefix all
     → (prefix : List ℕ) × (slice_get all n ≡ Some prefix) × ((get_or items n d).now ≡ bare_prefix prefix)
@@ -68,13 +68,13 @@ module _ (settings : Settings) (path other : List ℕ) where
   abbrev test : List ℕ → Bool
   test prefix = cuts_below settings path other (bare_prefix prefix)
 
-  -- the first of the prefixes from this place on that cuts
+  -- the first prefix that cuts, from this index on
   abbrev pub cut_from : ℕ → Option (List ℕ)
   cut_from n =
       slice_get (filter (λ prefix. cuts_below settings path other (bare_prefix prefix)) (drop n settings.prefixes)) 0
 
   module _ (items : List (Bor (List ℕ))) (n : ℕ) (same : map (λ item. item.now) items ≡ map bare_prefix settings.prefixes) where
-    -- the one at this place is it, where it cuts
+    -- if the prefix at this index cuts, it is the first one
     pub place_cuts : (d : Bor (List ℕ)) → n < length items → cuts_below settings path other (get_or items n d).now ≡ true
         → cut_from n ≡ slice_get settings.prefixes n
     place_cuts d low is_cut =
@@ -83,7 +83,7 @@ module _ (settings : Settings) (path other : List ℕ) where
         ∙ (passes_first test prefix (drop (n + 1) settings.prefixes)
         (ap (cuts_below settings path other) (sym is) ∙ is_cut) ∙ sym at)
 
-    -- and where it doesn't it stands behind it
+    -- if it doesn't, the first one comes after it
     pub place_is_passed : (d : Bor (List ℕ)) → n < length items
         → cuts_below settings path other (get_or items n d).now ≡ false → cut_from n ≡ cut_from (n + 1)
     place_is_passed d low is_cut =

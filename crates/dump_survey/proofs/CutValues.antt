@@ -1,8 +1,8 @@
--- Worked values of the prefix that is reported with a copy, computed and proved by the kernel.
+-- Examples of the prefix that is reported with a copy; the checker computes and proves them.
 use Rattle.dump_survey.proofs.Prelude.{◌≡◌, ℕ, false, List, [], ◌∷◌, Some, None, refl, codes, DumpRecord, Side, Include, Exclude, Pad, Settings, Finding, line, record_at, cutting_prefix}
 use Rattle.dump_survey.specs.Lines.{cut_words, shown_byte}
 
--- a folder b that is copied from t
+-- a directory `b` that is a copy of `t`
 abbrev copy : DumpRecord
 copy = record_at 71 (line (codes "Node-path") (codes "b")
     ∷ line (codes "Node-kind") (codes "dir")
@@ -20,22 +20,22 @@ call side prefixes = record {
   skip_missing = false;
 }
 
--- the first in the order of the call, be the second the lower one or not
+-- the first prefix in the order of the call is reported, even if a later prefix names a path that sorts before it
 first_of_two : cutting_prefix (call Exclude (codes "t/g" ∷ codes "t/f" ∷ [])) copy Finding.CopyLoses
     ≡ Some (codes "t/g")
 first_of_two = refl
 
--- not the first of the call, where that doesn't cut
+-- a prefix of the call that doesn't cut is skipped
 behind_another : cutting_prefix (call Exclude (codes "o" ∷ codes "tt/f" ∷ codes "t/f" ∷ [])) copy Finding.CopyLoses
     ≡ Some (codes "t/f")
 behind_another = refl
 
--- one that is left out below the copy too doesn't cut
+-- a prefix doesn't cut if the same path below the copy is excluded too
 left_out_on_both_sides : cutting_prefix (call Exclude (codes "t/f" ∷ codes "b/f" ∷ codes "t/g" ∷ [])) copy
     Finding.CopyLoses ≡ Some (codes "t/g")
 left_out_on_both_sides = refl
 
--- each side has its own
+-- each of the two findings has its own prefix
 of_the_copy : cutting_prefix (call Exclude (codes "t/f" ∷ codes "b/g" ∷ [])) copy Finding.CopyLetsIn
     ≡ Some (codes "b/g")
 of_the_copy = refl
@@ -43,12 +43,12 @@ of_the_copy = refl
 of_no_side : cutting_prefix (call Exclude (codes "o" ∷ [])) copy Finding.CopyLetsIn ≡ None
 of_no_side = refl
 
--- it is reported as it was given
+-- the prefix is reported as the caller gave it
 with_its_slashes : cutting_prefix (call Exclude (codes "/t/f//" ∷ [])) copy Finding.CopyLoses
     ≡ Some (codes "/t/f//")
 with_its_slashes = refl
 
--- included prefixes cut nothing, and other findings name none
+-- under include no prefix cuts, and other findings have no prefix
 
 included : cutting_prefix (call Include (codes "t/f" ∷ [])) copy Finding.CopyLoses ≡ None
 included = refl
@@ -56,7 +56,7 @@ included = refl
 another_finding : cutting_prefix (call Exclude (codes "t/f" ∷ [])) copy Finding.TextReadDifferently ≡ None
 another_finding = refl
 
--- the line shows it byte by byte, where there is one
+-- the line shows the prefix byte by byte, if there is one
 
 shown : cut_words (Some (116 ∷ 47 ∷ 27 ∷ 102 ∷ [])) ≡ codes ": prefix t/\\x1bf"
 unfolding cut_words shown_byte

@@ -1,11 +1,11 @@
--- Where a survey tells nothing, a record has no fault but that of a digest.
+-- If a survey reports nothing, a record has no fault that isn't about a digest.
 use Rattle.dump_survey.proofs.Prelude.{◌≡◌, ℕ, ◌<◌, Bool, true, false, not, ◌&&◌, ◌||◌, List, [], ◌∷◌, ◌++◌, length, map, Option, Some, None, is_some, is_none, if◌then◌else◌, MatchBool, Contains, refl, sym, ap, ◌∙◌, subst, inl, inr, arith, append-nil, append_assoc, last_or, both_ways, and_parts, or_cases, Contains-append_right, FaultKind, Property, first_true, second_true, DumpRecord, Settings, finds, is_revision_record, is_node, is_kept_node, has_lost_source, HasPropertyBlock, group_of, groups, group_number, revision_number, revision_numbers, is_whole_file, stays_copy, ends_in_group, HoldsOfRecord, has_ordered_nodes, go_up, Finding, every_finding, NodeFaults, is_found, has_kept_path, IsReadBlock, AreFindingsOf, rise, IsUnreadRevision, AreDumpFindingsOf, none_passes, numbers_rise, all_read, nodes_stand, NodeReport, reported_in, present_after, IsReportedOfNode, IsReportedOf, AreReported, open_behind, is_digest_fault}
 use Rattle.std.specs.Prelude.{nat_lt}
 use Rattle.dump_text.specs.declared.fault.FaultKind.TheVariants as faults
 
 -- the order of records
 
--- a node that may stand there follows a revision or a node
+-- a node at a permitted place follows a revision or a node
 stands : (o : Option DumpRecord) (before after : List DumpRecord) (r : DumpRecord)
     → has_ordered_nodes (ends_in_group o) (before ++ r ∷ after) ≡ true
     → (not (is_node r) || ends_in_group (last_or o before)) ≡ true
@@ -15,7 +15,7 @@ stands o (x ∷ before) after r ordered =
     stands (Some x) before after r (second_true (not (is_node x) || ends_in_group o)
     (has_ordered_nodes (is_revision_record x || is_node x) (before ++ r ∷ after)) ordered)
 
--- and it belongs to a revision
+-- such a node belongs to a revision
 belongs : (present : Option ℕ) (before after : List DumpRecord) (r : DumpRecord)
     → has_ordered_nodes (is_some present) (before ++ r ∷ after) ≡ true → is_node r ≡ true
     → is_some (open_behind present before) ≡ true
@@ -41,7 +41,7 @@ belongs present (x ∷ before) after r ordered node =
         more present (subst (λ b. has_ordered_nodes b (before ++ r ∷ after) ≡ true) (sym may) rest)
     by more false false may rest = more None rest
 
--- the numbers of a revision's dump
+-- the revision numbers of a dump are those before a record, its own, and those after it
 numbers_split : (before after : List DumpRecord) (r : DumpRecord) → is_revision_record r ≡ true
     → revision_numbers (before ++ r ∷ after) ≡ revision_numbers before ++ revision_number r ∷ revision_numbers after
 numbers_split [] after r rev =
@@ -57,7 +57,7 @@ numbers_split (x ∷ before) after r rev = by (is_revision_record x) (numbers_sp
     by true more = ap (λ l. revision_number x ∷ l) more
     by false more = more
 
--- numbers that go up are above the last one before
+-- numbers that rise are above the last one before them
 above_last : (k : ℕ) (ns ms : List ℕ) (n p : ℕ) → go_up k (ns ++ n ∷ ms) ≡ true → last_or (Some k) ns ≡ Some p → p < n
 above_last k [] ms n p up last =
     let same : k ≡ p = cc in
@@ -71,7 +71,7 @@ rises_past (x ∷ ns) ms n p up last = above_last x ns ms n p up last
 
 -- what is reported
 
--- where nothing is reported of records, nothing is of each
+-- if nothing is reported of some records, nothing is reported of each of them
 reported_at : (settings : Settings) (front before after : List DumpRecord) (present : Option ℕ) (r : DumpRecord)
     → AreReported settings front present (before ++ r ∷ after) []
     → IsReportedOf settings (front ++ before) (open_behind present before) r []
@@ -156,7 +156,7 @@ module _ (settings : Settings) (before : List DumpRecord) (r : DumpRecord) (none
   node_digests faults.Lengths h order = absurd h
   node_digests faults.ContentCut h order = absurd h
 
--- a record that is no node has a fault of order or properties alone
+-- a record that is no node can only have a fault of order or of properties
 module _ (settings : Settings) (before : List DumpRecord) (r : DumpRecord) (other : is_node r ≡ false) where
   never_kept : is_kept_node settings r ≡ true → ⊥
   never_kept kept = both_ways (is_node r) other (first_true (is_node r) (has_kept_path settings r) kept)
@@ -187,7 +187,7 @@ module _ (settings : Settings) (before : List DumpRecord) (r : DumpRecord) (othe
   other_digests faults.Lengths h order read = absurd h
   other_digests faults.ContentCut h order read = absurd h
 
--- so where nothing is reported of a dump no record has another one
+-- so if nothing is reported of a dump, no record has a fault that isn't about a digest
 pub digests_alone : (settings : Settings) (records before after : List DumpRecord) (r : DumpRecord) (kind : FaultKind)
     → AreDumpFindingsOf settings records [] → AreReported settings [] None records [] → records ≡ before ++ r ∷ after
     → HoldsOfRecord settings before r kind → is_digest_fault kind ≡ true

@@ -1,8 +1,8 @@
--- The folders to make before the load.
+-- The parent directories to create before loading.
 use Rattle.dump_survey.proofs.Prelude.{◌≡◌, ◌≢◌, ℕ, ◌+◌, ◌-◌, ◌<◌, ◌≤◌, Bool, true, false, not, ◌&&◌, ◌||◌, ◌==◌, List, [], ◌∷◌, ◌++◌, take, drop, length, get_or, map, flat_map, filter, bytes_eq, if◌then◌else◌, Bor, refl, sym, ap, ap₂, ◌∙◌, arith, append_assoc, append-nil, list_any, slice_cmp, is_eq, match_ordering, nat_cmp, Ordering, Less, Equal, Greater, insert_key, nat_tests, take_more, drop_more, drop_all, map-append, take-length, is_eq-slice_cmp, bytes_eq-Decides, is_at, or_from, begins_path, AreWithin, within_wider, Settings, keeps_path, each_once, fronts, with_new, BeginSame, HaveSame}
 use Rattle.std.proofs.Common.{nat_lt}
 
--- a folder that is looked up
+-- a directory that is looked up
 
 swapped : (a b c : Bool) → (a || (b || c)) ≡ (b || (a || c))
 swapped true true c = refl
@@ -39,7 +39,7 @@ pub any_pushed : (p : List ℕ → Bool) (texts : List (List ℕ)) (text : List 
 any_pushed p [] text = refl
 any_pushed p (t ∷ texts) text = ap (λ b. p t || b) (any_pushed p texts text) ∙ swapped (p t) (p text) (list_any p texts)
 
--- a text that is looked up by the order of the set is one of its texts
+-- a lookup by the order of the set finds exactly the texts of the set
 pub any_found : {V : Type 0} (items : V → List ℕ) (text : List ℕ) (ks : List V)
     → list_any (is_at (λ k. slice_cmp nat_cmp text (items k))) ks ≡ list_any (λ prefix. bytes_eq text prefix)
     (map items ks)
@@ -48,7 +48,7 @@ any_found items text (x ∷ xs) =
     ap (λ b. b || list_any (is_at (λ k. slice_cmp nat_cmp text (items k))) xs) (is_eq-slice_cmp text (items x))
     ∙ ap (λ b. bytes_eq text (items x) || b) (any_found items text xs)
 
--- a prefix that is put in begins the paths that it begins at the end of the list
+-- an added prefix begins the same paths at its place in the set as at the end of the list
 pub begin_more : {V : Type 0} (items : V → List ℕ) (ks : List V) (k : V) (bares : List (List ℕ))
     → BeginSame (map items ks) bares
     → BeginSame (map items (insert_key (λ x y. slice_cmp nat_cmp (items x) (items y)) ks k)) (bares ++ items k ∷ [])
@@ -56,7 +56,7 @@ begin_more items ks k bares same path =
     let begins = λ (prefix : List ℕ). begins_path prefix path in
     any_inserted items begins k ks ∙ ap (λ b. begins (items k) || b) (same path) ∙ sym (any_pushed begins bares (items k))
 
--- a text that is put in is within a length as it and the others are
+-- if the added text and the others are within a length, all are
 pub within_more : {V : Type 0} (items : V → List ℕ) (ks : List V) (k : V) (low high : ℕ) → low ≤ high
     → length (items k) ≤ high
     → AreWithin low (map items ks) → AreWithin high
@@ -65,7 +65,7 @@ within_more items ks k low high up fits within =
     any_inserted items (λ text. nat_lt high (length text)) k ks
     ∙ or_from _ _ (grind (arith, nat_tests)) (within_wider low high up (map items ks) within)
 
--- one more folder in both
+-- one more directory in both lists
 pub known_more : {V : Type 0} (items : V → List ℕ) (ks : List V) (k : V) (folders : List (Bor (List ℕ)))
     (folder : Bor (List ℕ)) → items k ≡ folder.now → HaveSame (map items ks) (map (λ f. f.now) folders)
     → HaveSame (map items (insert_key (λ x y. slice_cmp nat_cmp (items x) (items y)) ks k))
@@ -77,7 +77,7 @@ known_more items ks k folders folder copied same text =
     ∙ (sym (any_pushed p (map (λ f. f.now) folders) folder.now)
     ∙ ap (list_any p) (sym (map-append (λ (f : Bor (List ℕ)). f.now) folders (folder ∷ [])))))
 
--- a folder that is known isn't added again, and another one is
+-- a directory in the list isn't added again, and another one is added
 pub known_stays : (folders : List (List ℕ)) (path : List ℕ) → list_any (λ other. bytes_eq path other) folders ≡ true
     → folders ≡ with_new folders path
 known_stays folders path known = ap (λ b. if b then folders else folders ++ path ∷ []) (sym known)
@@ -93,13 +93,13 @@ added_new folders folder old same new =
     map-append (λ (f : Bor (List ℕ)). f.now) folders (folder ∷ [])
     ∙ (ap (λ fs. fs ++ folder.now ∷ []) same ∙ new_is_added old folder.now new)
 
--- the paths above a bare prefix, place by place
+-- the paths above a bare prefix, index by index
 
--- those that aren't kept
+-- the paths that aren't kept
 abbrev pub left_of : Settings → List (List ℕ) → List (List ℕ)
 left_of settings paths = filter (λ path. not (keeps_path settings path)) paths
 
--- those from a place on
+-- the paths that end at an index or after it
 abbrev pub fronts_from : List ℕ → ℕ → List (List ℕ)
 fronts_from bare n = map (λ front. take n bare ++ front) (fronts (drop n bare))
 
@@ -110,7 +110,7 @@ all_fronts bare = same (fronts bare)
     same [] = refl
     same (text ∷ texts) = ap (λ ts. text ∷ ts) (same texts)
 
--- behind the last place there are none
+-- after the last index there are none
 pub no_front : (bare : List ℕ) (n : ℕ) → length bare ≤ n → fronts_from bare n ≡ []
 no_front bare n over = ap (λ text. map (λ front. take n bare ++ front) (fronts text)) (drop_all n bare over)
 
@@ -137,7 +137,7 @@ next_front bare n low =
     ∙ ap (λ (t : List ℕ). (if get_or bare n 0 == 47 then take n bare ∷ [] else [])
     ++ map (λ front. t ++ front) (fronts (drop (n + 1) bare))) (sym (take_more bare n 0 low)))
 
--- at a place the path before it is added, where a slash stands there and it isn't kept
+-- at an index with a slash, the path before the slash is added unless it is kept
 pub place_adds : (settings : Settings) (reported : List (List ℕ)) (bare : List ℕ) (n : ℕ) → n < length bare
     → get_or bare n 0 ≡ 47 → keeps_path settings (take n bare) ≡ false
     → each_once reported (left_of settings (fronts_from bare n))
@@ -167,7 +167,7 @@ place_passes settings reported bare n low none =
         else left_of settings more)) is
     cases true false is none = absurd (let bad : true ≡ false = none in cc)
 
--- a kept path, or a byte that is no slash, adds nothing
+-- a kept path adds nothing, and so does a byte that is no slash
 pub kept_passes : (slash kept : Bool) → kept ≡ true → (slash && not kept) ≡ false
 kept_passes true kept is = ap not is
 kept_passes false kept is = refl
@@ -175,7 +175,7 @@ kept_passes false kept is = refl
 pub other_passes : (byte : ℕ) (kept : Bool) → byte ≢ 47 → ((byte == 47) && not kept) ≡ false
 other_passes byte kept other = ap (λ t. t && not kept) (let e : (byte == 47) ≡ false = grind (arith, nat_tests) in e)
 
--- prefix by prefix
+-- prefix by prefix, the result is the same as for all paths at once
 
 pub once_append : (reported xs ys : List (List ℕ)) → each_once reported (xs ++ ys) ≡ each_once (each_once reported xs) ys
 once_append reported [] ys = refl
@@ -192,7 +192,7 @@ left_append settings (x ∷ xs) ys = cases (keeps_path settings x) (left_append 
     cases true behind = behind
     cases false behind = ap (λ l. x ∷ l) behind
 
--- what is to be added of one more bare prefix
+-- the paths that one more bare prefix adds
 prefix_adds : (settings : Settings) (reported new : List (List ℕ)) (bare : List ℕ) (others : List (List ℕ))
     → new ≡ each_once reported (left_of settings (fronts bare))
     → each_once reported (left_of settings (flat_map fronts (bare ∷ others)))

@@ -1,9 +1,9 @@
--- The folders to make are the given ones.
+-- The directories to create are the parent directories.
 use Rattle.dump_survey.proofs.Prelude.{◌≡◌, ℕ, Bool, true, false, not, ◌&&◌, ◌||◌, ◌==◌, List, [], ◌∷◌, ◌++◌, map, flat_map, nat_eq, bytes_eq, reverse, if◌then◌else◌, refl, sym, ap, ap₂, ◌∙◌, arith, inl, inr, Bor, Vec, Global, Result, Ok, Err, list_any, starts_with, eqb-true, or_cases, reverse-append, reverse-reverse, list_any-append, bytes_eq-Decides, Side, Include, Exclude, bare_prefix, begins_path, without_leading_slashes, without_trailing_slashes, Settings, keeps_path, side_keeps, NodePath, path_text, is_above_some, is_root, Memory, AreFoldersToMake, each_once, fronts, left_above, paths_above, with_new}
 use Rattle.std.proofs.Common.{IfOk}
 use Rattle.dump_survey.proofs.FolderLemmas.{any_pushed, left_of}
 
--- a test of texts, each of which stands there once
+-- a test of texts in a list without duplicates
 
 holds_of_same : (p : List ℕ → Bool) (text other : List ℕ) → bytes_eq text other ≡ true → p text ≡ p other
 holds_of_same p text other is = ap p ((bytes_eq-Decides text other).0 is)
@@ -53,7 +53,7 @@ any_once p first (text ∷ texts) =
     turned true false c = refl
     turned false b c = refl
 
--- whether a text is among those that aren't kept
+-- whether a text is one of those that aren't kept
 any_left : (settings : Settings) (text : List ℕ) (texts : List (List ℕ))
     → list_any (λ other. bytes_eq other text) (left_of settings texts)
     ≡ (not (keeps_path settings text) && list_any (λ other. bytes_eq other text) texts)
@@ -83,7 +83,7 @@ any_left settings text (t ∷ texts) = cases (keeps_path settings t) (bytes_eq t
     cases false false left same behind =
         ap (λ e. e || list_any (λ other. bytes_eq other text) (left_of settings texts)) same ∙ behind
 
--- whether a text stands before a slash of another one
+-- whether a text is the part of another text before one of its slashes
 
 none_longer : (b : ℕ) (texts : List (List ℕ)) → list_any (λ other. bytes_eq other []) (map (λ front. b ∷ front) texts) ≡ false
 none_longer b [] = refl
@@ -196,7 +196,7 @@ no_and false false c none = refl
 no_and true false c none = none
 no_and false true c none = sym none
 
--- so a path above a prefix is kept or not, be there a slash at its front or not
+-- so whether a path above a prefix is kept doesn't depend on a slash in front of it
 kept_alike : (settings : Settings) (text : List ℕ)
     → (not (keeps_path settings (47 ∷ text))
     && list_any (λ prefix. starts_with nat_eq (bare_prefix prefix) (text ++ 47 ∷ [])) settings.prefixes)
@@ -219,7 +219,7 @@ kept_alike settings (b ∷ text) = at (b == 47) refl
         (ap (λ n. list_any (λ prefix. starts_with nat_eq (bare_prefix prefix) ((n ∷ text) ++ 47 ∷ [])) settings.prefixes)
         (eqb-true b 47 slash) ∙ none_above (text ++ 47 ∷ []) settings.prefixes)
 
--- where prefixes are included, the paths above them that aren't kept are the given folders
+-- under include, the paths above the prefixes that aren't kept are the parent directories
 included : (settings : Settings) (text : List ℕ)
     → (not (keeps_path settings (47 ∷ text))
     && list_any (λ prefix. starts_with nat_eq (bare_prefix prefix) (text ++ 47 ∷ [])) settings.prefixes)
@@ -241,7 +241,7 @@ given_is Exclude settings (name ∷ path) = no (not (keeps_path settings (path_t
     no true = refl
     no false = refl
 
--- these are the folders to make
+-- these are the directories to create
 pub are_to_make : (settings : Settings) (folders : List (List ℕ)) → folders ≡ left_above settings.side settings
     → AreFoldersToMake settings folders
 are_to_make settings folders same = record {

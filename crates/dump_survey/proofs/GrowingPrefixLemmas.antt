@@ -1,10 +1,10 @@
--- Prefixes that grow by what copies want.
+-- Prefixes to which the wanted paths of copies are added.
 use Rattle.dump_survey.proofs.Prelude.{◌≡◌, ℕ, ◌<◌, ◌≤◌, Bool, true, false, not, ◌&&◌, ◌||◌, List, [], ◌∷◌, ◌++◌, length, filter, map, take, drop, get_or, ◌-◌, bytes_eq, nat_eq, Bor, IsTrue, cond, refl, sym, ap, ap₂, ◌∙◌, subst, inl, inr, arith, append-nil, append_assoc, list_any, or_cases, or_left, or_right, or_parts, or_from, and_parts, and_from, not-true, both_ways, false_from_ne_true, take-length, list_any-append, bytes_eq-Decides, bare_prefix, bare_path, begins_path, matches_path, BeginSame, any_mapped, reaches_more, CopyNeed, matches_itself, covers, uncovered, are_apart, PathNeed, Grown, need_view, grown_prefixes, is_matched, is_unmet, AreNeeded, unmatched, each_matches_itself, IsPass}
 use Rattle.dump_trees.proofs.paths.KeptPaths.{reaches}
 
 -- one prefix and another one
 
--- what begins with a slash is begun by the empty name
+-- if a text begins with a slash, the empty name begins it
 slash_first : (mid path : List ℕ) (c : ℕ) → reaches [] (c ∷ mid) ≡ true → reaches (c ∷ mid) path ≡ true
     → reaches [] path ≡ true
 slash_first mid [] c first is = absurd (let bad : false ≡ true = is in cc)
@@ -28,7 +28,7 @@ reaches_trans (b ∷ prefix) (c ∷ mid) (d ∷ path) first is =
     let same : nat_eq d b ≡ true = grind arith in
     reaches_more b d prefix path ∙ and_from (nat_eq d b) (reaches prefix path) same (reaches_trans prefix mid path one.1 two.1)
 
--- what begins a text begins all that the text begins
+-- if a prefix begins a text, it begins each path that the text begins
 pub begins_trans : (prefix mid path : List ℕ) → begins_path prefix mid ≡ true → begins_path mid path ≡ true
     → begins_path prefix path ≡ true
 begins_trans [] mid path first is = refl
@@ -37,7 +37,7 @@ begins_trans (b ∷ prefix) (c ∷ mid) path first is = reaches_trans (b ∷ pre
 
 -- tests of lists
 
--- what one element passes, it passes that passes more
+-- if an element passes a test, some element passes each weaker test
 pub any_both : {X : Type 0} (f g : X → Bool) → ((x : X) → f x ≡ true → g x ≡ true) → (xs : List X)
     → list_any f xs ≡ true → list_any g xs ≡ true
 any_both f g each [] some = some
@@ -47,14 +47,14 @@ any_both f g each (x ∷ xs) some =
       | inr there ↦ or_right _ _ (any_both f g each xs there)
     ]
 
--- what no element passes, no element passes that passes less
+-- if no element passes a test, none passes a stronger test
 pub none_both : {X : Type 0} (f g : X → Bool) → ((x : X) → f x ≡ true → g x ≡ true) → (xs : List X)
     → list_any g xs ≡ false → list_any f xs ≡ false
 none_both f g each xs none = false_from_ne_true _ (λ some. both_ways _ none (any_both f g each xs some))
 
--- paths without those that another one covers
+-- paths without those that another path covers
 
--- what none of the paths passes, none of the uncovered ones does
+-- if none of the paths passes a test, none of the uncovered paths does
 none_uncovered : (test : List ℕ → Bool) (paths : List (List ℕ)) → list_any test paths ≡ false
     → list_any test (uncovered paths) ≡ false
 none_uncovered test [] none = none
@@ -66,7 +66,7 @@ none_uncovered test (path ∷ paths) none =
     by true more = more
     by false more = or_from _ _ (or_parts _ _ none).0 more
 
--- the uncovered ones begin what all begin
+-- the uncovered paths begin the same texts as all paths
 pub uncovered_same : (paths : List (List ℕ)) (text : List ℕ)
     → list_any (λ path. begins_path (bare_prefix path) text) (uncovered paths)
     ≡ list_any (λ path. begins_path (bare_prefix path) text) paths
@@ -90,18 +90,18 @@ uncovered_same (path ∷ paths) text =
     by true some more = more ∙ (covered (begins path) refl some ∙ refl)
     by false none more = ap (λ b. begins path || b) more
 
--- a path that covers another one matches it, where that matches itself
+-- a path that covers another one matches it, if the other one matches itself
 covers_matches : (path other : List ℕ) → matches_itself other ≡ true → covers path other ≡ true
     → matches_path path other ≡ true
 covers_matches path other itself is = begins_trans (bare_prefix path) (bare_prefix other) (bare_path other) is itself
 
 -- what is needed
 
--- whether the path is wanted by an open need
+-- whether a need that isn't met wants the path
 abbrev pub needs_path : List PathNeed → List (List ℕ) → List ℕ → Bool
 needs_path needs prefixes path = list_any (λ (n : PathNeed). is_unmet prefixes n && bytes_eq n.wanted path) needs
 
--- what is needed isn't matched yet
+-- no prefix matches a needed path
 needed_unmatched : (needs : List PathNeed) (prefixes : List (List ℕ)) (path : List ℕ)
     → needs_path needs prefixes path ≡ true → is_matched prefixes path ≡ false
 needed_unmatched [] prefixes path some = absurd (let bad : false ≡ true = some in cc)
@@ -115,7 +115,7 @@ needed_unmatched (n ∷ needs) prefixes path some =
       | inr there ↦ needed_unmatched needs prefixes path there
     ]
 
--- a path that is matched by what comes to be matched covers nothing that is needed later
+-- a path that is matched later covers no path that is needed later
 none_later : (needs : List PathNeed) (path : List ℕ) (prefixes paths : List (List ℕ))
     → ((other : List ℕ) → is_matched prefixes other ≡ false → matches_path path other ≡ false)
     → AreNeeded needs prefixes paths → list_any (λ other. covers path other) paths ≡ false
@@ -127,7 +127,7 @@ none_later needs path prefixes (other ∷ paths) among (some, itself, more) =
     (none_later needs path (prefixes ++ other ∷ []) paths (λ text none. among text (or_parts _ _
     (sym (list_any-append (λ prefix. matches_path prefix text) prefixes (other ∷ [])) ∙ none)).0) more)
 
--- so what is needed is apart without what is covered
+-- so without the covered paths, no needed path covers another one
 pub uncovered_apart : (needs : List PathNeed) (prefixes paths : List (List ℕ)) → AreNeeded needs prefixes paths
     → are_apart (uncovered paths) ≡ true
 uncovered_apart needs prefixes [] needed = refl
@@ -150,7 +150,7 @@ uncovered_apart needs prefixes (path ∷ paths) (some, itself, more) =
         let over = not (list_any (λ other. covers path other) (uncovered paths)) in
         and_from (free && over) (are_apart (uncovered paths)) (and_from free over above below) rest
 
--- what is needed behind what is needed
+-- needed paths, followed by paths that are needed with them, are needed paths
 pub needed_append : (needs : List PathNeed) (prefixes paths more : List (List ℕ)) → AreNeeded needs prefixes paths
     → AreNeeded needs (prefixes ++ paths) more → AreNeeded needs prefixes (paths ++ more)
 needed_append needs prefixes [] more needed is = subst (λ l. AreNeeded needs l more) (append-nil prefixes) is
@@ -189,7 +189,7 @@ count_less f g each (x ∷ xs) some = by (g x) refl (f x) refl some (count_less 
     by false is true was found less most = omega arith
     by false is false was found less most = less found
 
--- one more prefix, which matches itself and is needed, leaves fewer unmatched
+-- one more prefix that is needed and matches itself leaves fewer needs unmatched
 pub fewer_unmatched : (needs : List PathNeed) (prefixes : List (List ℕ)) (path : List ℕ)
     → needs_path needs prefixes path ≡ true → matches_itself path ≡ true
     → unmatched needs (prefixes ++ path ∷ []) < unmatched needs prefixes
@@ -222,7 +222,7 @@ fewer_unmatched needs prefixes path some itself =
 
 -- the set of prefixes
 
--- the set begins what the prefixes that were put in match
+-- the set begins the paths that the added prefixes match
 set_matches : (items : List (Bor (List ℕ))) (set : List (List ℕ)) (path : List ℕ)
     → BeginSame set (map (λ (item : Bor (List ℕ)). bare_prefix item.now) items)
     → list_any (λ prefix. begins_path prefix (bare_path path)) set ≡ is_matched (map (λ (item : Bor (List ℕ)). item.now) items) path
@@ -231,7 +231,7 @@ set_matches items set path same =
     ∙ (any_mapped (λ (item : Bor (List ℕ)). bare_prefix item.now) (λ prefix. begins_path prefix (bare_path path)) items
     ∙ sym (any_mapped (λ (item : Bor (List ℕ)). item.now) (λ prefix. matches_path prefix path) items))
 
--- the prefixes match a path where those that are given or the set do
+-- a prefix matches a path exactly if one of the options' prefixes or the set does
 pub grown_matches : (g : Grown) (items : List (Bor (List ℕ))) (set : List (List ℕ)) (path : List ℕ)
     → BeginSame set (map (λ (item : Bor (List ℕ)). bare_prefix item.now) items)
     → map (λ (item : Bor (List ℕ)). item.now) items ≡ g.added
@@ -242,7 +242,7 @@ grown_matches g items set path same is =
     ∙ ap (λ added. is_matched added path) is)
     ∙ sym (list_any-append (λ prefix. matches_path prefix path) g.given g.added)
 
--- a pass over the needs, up to those that are left
+-- a pass over the needs, up to the needs that remain
 pub record PassSoFar (needs left : List PathNeed) (old new : Grown) (grew : Bool) : Type 0 where
   pub given : new.given ≡ old.given
   pub more : List (List ℕ)
@@ -277,7 +277,7 @@ pass_ends needs old new grew so_far = record {
 
 module _ (needs left : List PathNeed) (n : PathNeed) (old new : Grown) (grew : Bool)
     (so_far : PassSoFar needs (n ∷ left) old new grew) where
-  -- a need that is met
+  -- the next need is met
   pub pass_on : is_unmet (grown_prefixes new) n ≡ false → PassSoFar needs left old new grew
   pass_on shut = record {
     given = so_far.given;
@@ -295,7 +295,7 @@ module _ (needs left : List PathNeed) (n : PathNeed) (old new : Grown) (grew : B
   grown_is = ap₂ (λ given added. given ++ added) so_far.given so_far.added
       ∙ sym (append_assoc old.given old.added so_far.more)
 
-  -- the present need's path is needed
+  -- the present need wants its path
   is_needed : is_unmet (grown_prefixes new) n ≡ true → needs_path needs (grown_prefixes new) n.wanted ≡ true
   is_needed open_now = so_far.among (λ (m : PathNeed). is_unmet (grown_prefixes new) m && bytes_eq m.wanted n.wanted)
       (or_left _ _ (and_from (is_unmet (grown_prefixes new) n) (bytes_eq n.wanted n.wanted) open_now
@@ -308,7 +308,7 @@ module _ (needs left : List PathNeed) (n : PathNeed) (old new : Grown) (grew : B
       by true is = let h = fewer is in omega arith
       by false is = let h = same is in omega arith
 
-  -- one that isn't met
+  -- the next need isn't met
   pub pass_grows : (next : Grown) → is_unmet (grown_prefixes new) n ≡ true → matches_itself n.wanted ≡ true
       → next ≡ record new { added = new.added ++ n.wanted ∷ [] } → PassSoFar needs left old next true
   pass_grows next open_now itself is =
@@ -330,7 +330,7 @@ module _ (needs left : List PathNeed) (n : PathNeed) (old new : Grown) (grew : B
 front_taken : {X : Type 0} (x : X) (left : List X) → take (length (x ∷ left) - 1) (drop 1 (x ∷ left)) ≡ left
 front_taken x left = ap (λ n. take n left) (let e : length (x ∷ left) - 1 ≡ length left = omega arith in e) ∙ take-length left
 
--- the need that comes next isn't met
+-- the pass adds the wanted path of the next need
 pub pass_adds : (needs : List PathNeed) (left : List CopyNeed) (d : CopyNeed) (old new next : Grown) (grew : Bool)
     → 1 ≤ length left → PassSoFar needs (map need_view left) old new grew → IsTrue (each_matches_itself needs)
     → is_unmet (grown_prefixes new) (need_view (get_or left 0 d)) ≡ true
@@ -350,7 +350,7 @@ pass_adds needs (n ∷ left) d old new next grew some so_far itself open_now is 
             (so_far.among (λ (m : PathNeed). not (matches_itself m.wanted))
             (or_left (not (matches_itself n.wanted.now)) _ (ap not same))))
 
--- pass after pass
+-- the state after some passes
 pub record PassesSoFar (needs : List PathNeed) (given : List (List ℕ)) (now : Grown) : Type 0 where
   pub given_is : now.given ≡ given
   pub needed : AreNeeded needs given now.added

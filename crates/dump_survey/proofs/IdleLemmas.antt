@@ -1,9 +1,9 @@
--- The bare prefixes that no node has matched go on to one more record, and say what is reported of the prefixes.
+-- The idle bare prefixes after one more record, and what is reported of the prefixes.
 use Rattle.dump_survey.proofs.Prelude.{◌≡◌, ℕ, Bool, true, false, not, ◌&&◌, ◌||◌, List, [], ◌∷◌, ◌++◌, map, Option, Some, None, option_map, bytes_eq, refl, sym, ap, ap₂, ◌∙◌, append_assoc, if◌then◌else◌, and-true, or-false, list_any, cons_option, or_left, or_right, map-append, list_any-append, bytes_eq-Decides, DumpRecord, bare_prefix, bare_path, begins_path, is_node, is_copy, node_path, copy_path, makes_copy, PrefixFinding, NotShort, Idle, ReportedPrefix, PrefixReport, is_short_prefix, prefix_view, reported_of_prefix, reported_prefixes, HaveSame, is_among, AreWithout, is_begun_by, is_below_copy, is_touched_by, AreIdle, reported_by, prefixes_by}
 
 -- a set of texts, text by text
 
--- one more text in the set, and one fewer that is to be put in
+-- the set has one text more, and one text fewer remains to be added
 pub set_more : (all set new : List (List ℕ)) (first : List ℕ) (left : List (List ℕ))
     → ((text : List ℕ) → is_among text all ≡ (is_among text set || is_among text (first ∷ left)))
     → HaveSame new (set ++ first ∷ [])
@@ -19,7 +19,7 @@ set_more all set new first left so_far more text =
     joined false true c = refl
     joined false false c = refl
 
--- those that begin a node's paths are taken out
+-- the texts that begin one of the node's paths are removed
 
 pub both_without : (f g : List ℕ → Bool) (old mid new : List (List ℕ)) → AreWithout f old mid → AreWithout g mid new
     → AreWithout (λ text. f text || g text) old new
@@ -35,7 +35,7 @@ same_without : (f g : List ℕ → Bool) (old new : List (List ℕ)) → ((text 
     → AreWithout f old new → AreWithout g old new
 same_without f g old new same without text = without text ∙ ap (λ b. is_among text old && not b) (same text)
 
--- of a record that is no node none is taken out
+-- for a record that is no node, no text is removed
 pub no_node_leaves : (r : DumpRecord) (old : List (List ℕ)) → is_node r ≡ false → AreWithout (is_begun_by r) old old
 no_node_leaves r old other text =
     sym (ap (λ n. is_among text old && not (n && (begins_path text (bare_path (node_path r))
@@ -59,9 +59,9 @@ module _ (r : DumpRecord) (old mid : List (List ℕ)) (node : is_node r ≡ true
       (both_without (λ text. begins_path text (bare_path (node_path r)))
       (λ text. begins_path text (bare_path (copy_path r))) old mid new first second)
 
--- those at or below a copy are taken out
+-- the texts at or below a copy are removed
 
--- of a record that is no node none is taken out
+-- for a record that is no node, no text is removed
 pub no_node_copies : (r : DumpRecord) (old : List (List ℕ)) → is_node r ≡ false → AreWithout (is_below_copy r) old old
 no_node_copies r old other text =
     sym (ap (λ n. is_among text old && not (n && (makes_copy r && begins_path (bare_path (node_path r)) text))) other
@@ -96,7 +96,7 @@ idle_more records r prefixes idle new so_far without =
 -- what is reported of the prefixes
 
 module _ (records : List DumpRecord) (prefixes idle : List (List ℕ)) (are : AreIdle records prefixes idle) where
-  -- a prefix of the list is idle where its bare form is left
+  -- a prefix of the list is idle exactly if the idle set has its bare form
   reported_of_each : (prefix : List ℕ) → is_among (bare_prefix prefix) (map bare_prefix prefixes) ≡ true
       → reported_by idle prefix ≡ reported_of_prefix records prefix
   reported_of_each prefix here =
@@ -125,7 +125,7 @@ module _ (records : List DumpRecord) (prefixes idle : List (List ℕ)) (are : Ar
   pub reported_by_idle : prefixes_by idle prefixes ≡ reported_prefixes records prefixes
   reported_by_idle = reported_of_rest [] prefixes refl
 
--- what is reported of the first of those that are left is reported next
+-- what is reported of the first remaining prefix is the next report
 
 module _ (idle : List (List ℕ)) (items : List ReportedPrefix) (prefix : List ℕ) (left : List (List ℕ)) where
   pub reported_next : (reported : ReportedPrefix) → reported_by idle prefix ≡ Some (prefix_view reported)

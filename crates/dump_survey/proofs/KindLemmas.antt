@@ -1,7 +1,7 @@
 -- How often each kind is reported of nodes, node by node.
 use Rattle.dump_survey.proofs.Prelude.{◌≡◌, ◌≤◌, ℕ, ◌+◌, ◌==◌, Bool, true, false, List, [], ◌∷◌, ◌++◌, length, get_or, map, flat_map, filter, cond, refl, sym, ap, ap₂, ◌∙◌, arith, list_any, eqb-true, or_parts, Finding, every_finding, Counts, Found, SurveyedNode, finding_place, times_reported, NodeReport, AreWithNode, count_in, no_counts, has_found, listed, reported_of_node}
 
--- a finding is known by its place
+-- the index of a finding determines it
 at_place : (f : Finding) → get_or every_finding (finding_place f) Finding.UnreadBlock ≡ f
 at_place Finding.UnreadBlock = refl
 at_place Finding.Delta = refl
@@ -24,7 +24,7 @@ same_place f g is = sym (at_place g)
     ∙ (ap (λ n. get_or every_finding n Finding.UnreadBlock) (eqb-true (finding_place g) (finding_place f) is)
     ∙ at_place f)
 
--- each stands once among all
+-- each finding occurs once in the list of all findings
 once : (f : Finding) → length (filter (λ g. finding_place g == finding_place f) every_finding) ≡ 1
 once Finding.UnreadBlock = refl
 once Finding.Delta = refl
@@ -42,7 +42,7 @@ once Finding.FolderTakes = refl
 once Finding.FolderBrings = refl
 once Finding.TextComesIn = refl
 
--- one that is put before them where a test passes
+-- an element that is put in front if a test passes adds one to the length if it does
 counted : {X : Type 0} (b : Bool) (x : X) (xs : List X) → length (cond b (x ∷ xs) xs) ≡ cond b (length xs + 1) (length xs)
 counted true x xs = omega arith
 counted false x xs = refl
@@ -51,7 +51,7 @@ module _ (f : Finding) where
   abbrev is_it : Finding → Bool
   is_it g = finding_place g == finding_place f
 
-  -- among those that pass a test it stands as often as before, or not at all
+  -- among the findings that pass a test, a finding occurs as often as before, or not at all
   among_those : (test : Finding → Bool) (gs : List Finding)
       → length (filter is_it (filter test gs)) ≡ cond (test f) (length (filter is_it gs)) 0
   among_those test [] = none (test f) 0
@@ -79,7 +79,7 @@ module _ (f : Finding) where
           ap (λ b. length (cond b (g ∷ filter is_it (filter test gs)) (filter is_it (filter test gs)))) is ∙ more
       by false is false passes more = more
 
-  -- reported in a node it is the same
+  -- for the reports of a node this is the same
   reported_each : (report : Finding → NodeReport) → ((g : Finding) → (report g).finding ≡ g) → (gs : List Finding)
       → times_reported (map report gs) f ≡ length (filter is_it gs)
   reported_each report same [] = refl
@@ -101,7 +101,7 @@ module _ (f : Finding) where
       by true more = omega (arith, more)
       by false more = more
 
--- nothing is counted first
+-- the first counts are 0
 pub none_counted : (f : Finding) → count_in no_counts f ≡ 0
 none_counted Finding.UnreadBlock = refl
 none_counted Finding.Delta = refl
@@ -119,7 +119,7 @@ none_counted Finding.FolderTakes = refl
 none_counted Finding.FolderBrings = refl
 none_counted Finding.TextComesIn = refl
 
--- no count is above that of the records
+-- no count is above the number of records
 pub low_with_node : (old new : Counts) (node : SurveyedNode) (count : ℕ) → ((f : Finding) → count_in old f ≤ count)
     → AreWithNode old node.found new → (f : Finding) → count_in new f ≤ count + 1
 low_with_node old new node count low more f = by (has_found node.found f) (more f)
@@ -128,7 +128,7 @@ low_with_node old new node count low more f = by (has_found node.found f) (more 
     by true is = let below = low f in omega (arith, is, below)
     by false is = let below = low f in omega (arith, is, below)
 
--- the counts go on to one more node
+-- the counts after one more node
 pub counts_with_node : (old new : Counts) (reported : List NodeReport) (node : SurveyedNode)
     → ((f : Finding) → count_in old f ≡ times_reported reported f) → AreWithNode old node.found new
     → (f : Finding) → count_in new f ≡ times_reported (reported ++ reported_of_node node) f
@@ -142,7 +142,7 @@ counts_with_node old new reported node so_far more f =
     by true = ap (λ n. n + 1) (so_far f)
     by false = let here = so_far f in omega (arith, here)
 
--- nothing passes a test that holds of none
+-- if no element passes a test, the filtered list is empty
 none_passes : (test : Finding → Bool) (fs : List Finding) → list_any test fs ≡ false → filter test fs ≡ []
 none_passes test [] none = refl
 none_passes test (f ∷ fs) none =
@@ -150,11 +150,11 @@ none_passes test (f ∷ fs) none =
     ap (λ b. cond b (f ∷ filter test fs) (filter test fs)) parts.0 ∙ none_passes test fs parts.1
 
 module _ (found : Found) (none : list_any (has_found found) every_finding ≡ false) where
-  -- of a node in which nothing is found nothing is reported
+  -- if nothing is found in a node, nothing is reported of it
   pub nothing_listed : listed found ≡ []
   nothing_listed = none_passes (has_found found) every_finding none
 
-  -- and the counts stay
+  -- and the counts don't change
   pub same_counts : (counts : Counts) → AreWithNode counts found counts
   same_counts counts f = by (has_found found f)
       (ap (λ (fs : List Finding). length (filter (is_it f) fs)) (sym nothing_listed)
@@ -164,7 +164,7 @@ module _ (found : Found) (none : list_any (has_found found) every_finding ≡ fa
       by true is = absurd (omega (arith, is))
       by false is = refl
 
--- counts that are the same give the same lines
+-- equal counts give equal lines
 pub same_lines : (line : ℕ → Finding → List ℕ) (first second : Finding → ℕ) → ((f : Finding) → first f ≡ second f)
     → (fs : List Finding) → flat_map (λ f. line (first f) f) fs ≡ flat_map (λ f. line (second f) f) fs
 same_lines line first second same [] = refl

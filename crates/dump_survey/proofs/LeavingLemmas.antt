@@ -1,4 +1,5 @@
--- Texts that are taken out of a set: those that begin a path are its parts before a slash, the path, and the empty one.
+-- Texts that are removed from a set: the texts that begin a path. These are the path's parts before a slash, the path
+-- and the empty text.
 use Rattle.dump_survey.proofs.Prelude.{◌≡◌, ◌≢◌, ℕ, ◌+◌, ◌<◌, ◌≤◌, Bool, true, false, not, ◌&&◌, ◌||◌, List, [], ◌∷◌, take, length, get_or, map, bytes_eq, cond, filter, refl, sym, ap, ap₂, ◌∙◌, inl, inr, arith, and-false, and-true, or-false, list_any, is_at, remove_key, slice_cmp, nat_cmp, or_cases, or_parts, both_ways, false_from_ne_true, nat_tests, is_eq-slice_cmp, bytes_eq-Decides, first_true, begins_path, AreWithin, cut_begins, none_begins, whole_begins, is_among, AreWithout}
 use Rattle.dump_survey.proofs.FolderLemmas.{any_found}
 use Rattle.std.proofs.Common.{nat_lt}
@@ -27,7 +28,7 @@ others_stay {V} items text other (x ∷ xs) apart =
         ap (λ b. b || is_among other (map items xs)) (sym apart ∙ ap (bytes_eq other) same)
     by more false is = ap (λ b. bytes_eq other (items x) || b) more
 
--- where the text is gone, and the keys are the others
+-- the text was removed, and the keys are the others
 pub text_removed : {V : Type 0} (items : V → List ℕ) (text : List ℕ) (ks keys : List V)
     → keys ≡ remove_key (is_at (λ k. slice_cmp nat_cmp text (items k))) ks
     → list_any (is_at (λ k. slice_cmp nat_cmp text (items k))) keys ≡ false
@@ -43,7 +44,7 @@ text_removed {V} items text ks keys are gone other = by (bytes_eq other text) re
         ap (λ (l : List V). is_among other (map items l)) are
         ∙ (others_stay items text other ks apart ∙ sym (and-true (is_among other (map items ks))))
 
--- those that stay are no longer
+-- the texts that remain are no longer than before
 pub within_less : {V : Type 0} (items : V → List ℕ) (test : V → Bool) (longest : ℕ) (ks : List V)
     → AreWithin longest (map items ks) → AreWithin longest (map items (remove_key test ks))
 within_less items test longest [] within = refl
@@ -57,7 +58,7 @@ within_less {V} items test longest (x ∷ xs) within =
         ap (λ b. b || list_any (λ text. nat_lt longest (length text)) (map items (remove_key test xs)))
         (or_parts (nat_lt longest (length (items x))) _ within).0 ∙ more
 
--- of the keys of a set those whose texts fail the test are left
+-- the keys whose texts fail the test remain in the set
 
 module _ {V : Type 0} (items : V → List ℕ) (test : List ℕ → Bool) where
   pub texts_filtered : (ks : List V)
@@ -103,7 +104,7 @@ module _ {V : Type 0} (items : V → List ℕ) (test : List ℕ → Bool) where
           ap (λ b. b || list_any (λ text. nat_lt longest (length text)) (map items rest))
           (or_parts (nat_lt longest (length (items x))) _ within).0 ∙ more
 
--- a text of the list is no longer than this
+-- a text of the list is at most this long
 pub among_within : (longest : ℕ) (texts : List (List ℕ)) (text : List ℕ) → AreWithin longest texts
     → is_among text texts ≡ true → length text ≤ longest
 among_within longest [] text within is = absurd (let bad : false ≡ true = is in cc)
@@ -119,7 +120,7 @@ among_within longest (t ∷ texts) text within is =
         let fits : length other ≤ longest = grind (arith, nat_tests) in
         omega arith
 
--- what the texts without some say of each
+-- what the texts that remain say about each text
 
 module _ (test : List ℕ → Bool) (old new : List (List ℕ)) (without : AreWithout test old new) (text : List ℕ) where
   was_among : is_among text new ≡ true → is_among text old ≡ true
@@ -137,7 +138,7 @@ module _ (test : List ℕ → Bool) (old new : List (List ℕ)) (without : AreWi
 itself : (text : List ℕ) → bytes_eq text text ≡ true
 itself text = (bytes_eq-Decides text text).1 refl
 
--- a part of the path before a slash begins it, and so does the path
+-- a part of the path before a slash begins the path, and so does the path itself
 front_begins : (path : List ℕ) (n : ℕ) → n < length path → get_or path n 0 ≡ 47 → begins_path (take n path) path ≡ true
 front_begins path n low slash =
     sym (or-false (begins_path (take n path) path))
@@ -147,13 +148,13 @@ path_begins : (path : List ℕ) → begins_path path path ≡ true
 path_begins path = sym (or-false (begins_path path path))
     ∙ whole_begins path (path ∷ []) (ap (λ b. b || false) (itself path))
 
--- what begins the path isn't what doesn't
+-- a text that begins the path differs from one that doesn't
 not_same : (path text other : List ℕ) → begins_path text path ≡ false → begins_path other path ≡ true
     → bytes_eq text other ≡ false
 not_same path text other none begins = false_from_ne_true _
     (λ same. both_ways _ none (ap (λ t. begins_path t path) ((bytes_eq-Decides text other).0 same) ∙ begins))
 
--- of those that begin the path the empty one, the path and its parts before the slashes up to a place are taken out
+-- the empty text, the path, and its parts before the slashes up to an index were removed
 pub record HaveLeft (old : List (List ℕ)) (path : List ℕ) (place : ℕ) (new : List (List ℕ)) : Type 0 where
   pub fewer : (text : List ℕ) → is_among text new ≡ true → is_among text old ≡ true
   pub stay : (text : List ℕ) → begins_path text path ≡ false → is_among text new ≡ is_among text old
@@ -201,12 +202,12 @@ module _ (old : List (List ℕ)) (path : List ℕ) where
     apart text other is out = false_from_ne_true _
         (λ same. both_ways _ out (ap (λ t. is_among t mid) ((bytes_eq-Decides other text).0 same) ∙ is))
 
-    -- so all that begin it are, where no text reaches beyond the place
+    -- so all texts that begin the path were removed, if no text reaches beyond the index
     pub all_left : ((text : List ℕ) (n : ℕ) → is_among text old ≡ true → n ≤ length text → n < length path → n < place)
         → AreWithout (λ text. begins_path text path) old mid
     all_left reach text = by (begins_path text path) refl
       where
-        -- a text that is left begins nothing
+        -- a text that remains doesn't begin the path
         begins_none : is_among text mid ≡ true → begins_path text path ≡ false
         begins_none is =
             (or_parts (begins_path text path) false (none_begins path place (length text)

@@ -15,7 +15,7 @@ neither : (b : Bool) → (if b then false else false) ≡ false
 neither true = refl
 neither false = refl
 
--- a group behind others that are all kept or not, and those behind it
+-- a group that follows groups that are all kept or not, and the groups after it
 first_group : (all kept here behind later : Bool) → ((not all && here) || (if all && kept then behind else later))
     ≡ (if all then (if kept then behind else later) else here || later)
 first_group true kept here behind later = refl
@@ -40,8 +40,8 @@ module _ (settings : Settings) (names : DumpRecord → Bool) where
       ∙ sym (or_assoc (leaves_number settings names t x)
       (leave_number settings names (next_tally settings t x) records) _)
 
-  -- whether a node names a revision that is one of these, which follow in the present revision, or stands in one of
-  -- these groups behind it
+  -- whether a node names a revision: one of these nodes, which follow in the present revision, or a node of these
+  -- later groups
   abbrev names_later : Tally → Option Present → List DumpRecord → List Group → Bool
   names_later t p ns gs = (is_some p && (not t.all_kept && nodes_name settings names ns))
       || (if t.all_kept && closes settings p ns then groups_name_behind settings names gs
@@ -50,14 +50,14 @@ module _ (settings : Settings) (names : DumpRecord → Bool) where
   module _ (t : Tally) (r : DumpRecord) (records : List DumpRecord)
       (more : (u : Tally) → leave_number settings names u records
       ≡ (not settings.renumber && names_later u u.present (nodes records) (groups records))) where
-    -- a record that is no node names nothing
+    -- a record that is no node names no revision
     leaves_none : is_node r ≡ false → leaves_number settings names t r ≡ false
     leaves_none other =
         ap (λ b. not settings.renumber && (is_behind_dropped t && ((b && keeps_path settings (node_path r)) && names r)))
         other
         ∙ none_of (not settings.renumber) (is_behind_dropped t)
 
-    -- and behind it the present revision has its nodes
+    -- after such a record, the present revision has all its nodes
     later_ends : is_node r ≡ false → (gs : List Group) → names_later t t.present (nodes (r ∷ records)) gs
         ≡ (if keeps_present settings t then groups_name_behind settings names gs else groups_name settings names gs)
     later_ends other gs =
@@ -97,7 +97,7 @@ module _ (settings : Settings) (names : DumpRecord → Bool) where
         (or_assoc p.kept (is_kept_node settings r) (list_any (is_kept_node settings) (nodes records)))
         (sym (some_left (length (nodes records)) p.bare))
 
-    -- a node, where this revision is present
+    -- a node if this revision is the present one
     left_at : is_node r ≡ true → (p : Option Present) → t.present ≡ p
         → ((not settings.renumber && ((is_some p && not t.all_kept) && (is_kept_node settings r && names r)))
         || leave_number settings names (node_tally t (is_kept_node settings r) (copies_from_before t.first r) p) records)
@@ -139,7 +139,7 @@ module _ (settings : Settings) (names : DumpRecord → Bool) where
       let parts = and_parts (is_single r) (list_all is_single records) single in
       left_step t r records (λ u. left_is u records parts.1) (is_revision_record r) (is_node r) refl parts.0
 
--- where nothing else stands against it, a node leaves a number where it names one
+-- if all other conditions are met, a node leaves a number exactly if it names one
 pub left_named : (settings : Settings) (t : Tally) (r : DumpRecord) (named : Bool) → settings.renumber ≡ false
     → is_behind_dropped t ≡ true → is_kept_node settings r ≡ true → IsTrue named ↔ NamesRevision r
     → (names : DumpRecord → Bool) → TellsNaming names → named ≡ leaves_number settings names t r
@@ -147,7 +147,7 @@ left_named settings t r named plain behind kept reported names tells =
     same_truth named (names r) reported (tells r)
     ∙ sym (λ i. not (plain i) && (behind i && (kept i && names r)))
 
--- so the tally tells what is found in the dump
+-- so the tally says what is found in the dump
 pub tally_tells : (settings : Settings) (records : List DumpRecord) (left unread : Bool)
     → list_all is_single records ≡ true → LeaveNumber settings records left
     → IsTrue unread ↔ HasUnreadRevision records

@@ -1,10 +1,11 @@
--- How many lines of mergeinfo are left out, of a value, of properties and of records: no more than these have bytes.
+-- How many lines of mergeinfo are omitted from a value, from properties and from records; there are no more lines than
+-- bytes.
 use Rattle.dump_survey.proofs.Prelude.{◌≡◌, ◌↔◌, ℕ, ◌+◌, ◌-◌, ◌≤◌, Bool, true, false, not, ◌==◌, List, [], ◌∷◌, ◌++◌, length, length-append, map, take, drop, filter, bytes_eq, codes, sum, sum_by, count_by, cond, Option, Some, None, IsSome, is_some, MatchBool, refl, sym, ap, ap₂, ◌∙◌, subst, arith, inl, inr, zero-add, AllZip, slice_split, length-take, length-slice_split, sum_by-cons, sum_by_push, sum-map, count_by-le-length, Property, sized_text, IsEntry, AreEntries, IsPropertyBlock, Props, props_bytes, block_text, DumpRecord, record_text, Record, Ending, line_feeds, IsCutInto, BeginsWithRecords, CutterState, EndsAfter, record_item, CutStep, whole_list, Settings, keeps_path, MergeLine, IsMergeLine, IsMergeinfo, HasMergeLines, value_reads, without_lf, line_misses, text_lines, reads_exactly, line_parts, texts_are, is_kept_node, is_mergeinfo, value_of, HasPropertyBlock, leaving_lines, AreLeftOutOfValue, AddUpTo, mergeinfo_values, AreLeftOutOfProperties, AreLeftOutOf, AreLeftOutOfRecords, text_lines_count, value_count, property_count, properties_count}
 use Rattle.std.proofs.Common.{unwrap_or}
 use Rattle.dump_records.specs.declared.cutter.Cut.TheVariants as cuts
 use Rattle.dump_survey.proofs.SurveyorLemmas.{begins_next, begins_with_none, nearer_by_one}
 
--- counts that add up
+-- counts whose sum is the total
 
 pub adds_up : {X : Type 0} (HasCount : X → ℕ → Type 0) (count : X → ℕ) → ((x : X) → HasCount x (count x))
     → (xs : List X) → AddUpTo HasCount xs (sum_by count xs)
@@ -27,7 +28,7 @@ adds_once {X} HasCount count each xs total (counts, all, is) = is ∙ same xs co
         sum_by-cons (λ m. m) n counts ∙ (ap₂ (λ a b. a + b) (each x n all.0) (same xs counts all.1)
         ∙ sym (sum_by-cons count x xs))
 
--- one more of them
+-- one more element
 pub adds_more : {X : Type 0} (HasCount : X → ℕ → Type 0) (xs : List X) (total : ℕ) (x : X) (n : ℕ)
     → AddUpTo HasCount xs total → HasCount x n → AddUpTo HasCount (xs ++ x ∷ []) (total + n)
 adds_more {X} HasCount xs total x n (counts, all, is) has =
@@ -40,14 +41,14 @@ adds_more {X} HasCount xs total x n (counts, all, is) has =
     zipped (y ∷ xs) [] all = absurd all
     zipped (y ∷ xs) (m ∷ counts) all = (all.0, zipped xs counts all.1)
 
--- of a value
+-- the lines of a value
 
--- a text that isn't empty is cut at its LFs
+-- a text that isn't empty is split at its LFs
 pub lines_of_some : (text : List ℕ) → (length text == 0) ≡ false → text_lines text ≡ slice_split (λ b. b == 10) text
 lines_of_some [] some = let bad : true ≡ false = some in cc
 lines_of_some (b ∷ text) some = refl
 
--- line by line
+-- one line after another
 lines_leave : (s : Settings) (texts : List (List ℕ)) (lines : List MergeLine) → AllZip IsMergeLine texts lines
     → count_by (line_misses s) texts ≡ length (leaving_lines s lines)
 lines_leave s [] [] all = refl
@@ -99,7 +100,7 @@ pub value_once : (s : Settings) (value : List ℕ) (n : ℕ) → AreLeftOutOfVal
 value_once s value n (None, none, is) = is ∙ sym (unread_count s value (not_read value none))
 value_once s value n (Some lines, read, is) = is ∙ sym (value_leaves s value lines read)
 
--- of properties
+-- the lines of properties
 
 values_count : (s : Settings) (ps : List Property) → sum_by (value_count s) (mergeinfo_values ps) ≡ properties_count s ps
 values_count s [] = refl
@@ -123,7 +124,7 @@ pub properties_once : (s : Settings) (ps : List Property) (n : ℕ)
 properties_once s ps n add =
     adds_once (AreLeftOutOfValue s) (value_count s) (value_once s) (mergeinfo_values ps) n add ∙ values_count s ps
 
--- with one more of them
+-- one more property
 pub count_next : (s : Settings) (ps qs others : List Property) (p : Property) (count n : ℕ) → qs ≡ p ∷ others
     → n ≡ property_count s p → properties_count s ps ≡ count + properties_count s qs
     → properties_count s ps ≡ (count + n) + properties_count s others
@@ -131,7 +132,7 @@ count_next s ps qs others p count n is here up =
     let first = ap (properties_count s) is ∙ sum_by-cons (property_count s) p others in
     omega arith
 
--- of a record
+-- a record that isn't a kept node has no omitted lines
 
 pub left_out_of_other : (s : Settings) (r : DumpRecord) → is_kept_node s r ≡ false → AreLeftOutOf s r 0
 left_out_of_other s r other = rw other refl
@@ -156,7 +157,7 @@ module _ (s : Settings) (r : DumpRecord) (found : Option Props) (kept : is_kept_
       left_out_of_kept s r n kept
       (Some ps, list, subst (AddUpTo (AreLeftOutOfValue s) (mergeinfo_values ps)) (sym count) (properties_are s ps))
 
--- no more than its bytes
+-- there are no more lines than bytes
 
 text_fits : (s : Settings) (text : List ℕ) → text_lines_count s text ≤ length text + 1
 text_fits s [] = omega arith
@@ -207,7 +208,7 @@ value_size text p (inr (none, (d, named, spelled))) =
     let same = ap (λ (v : Option (List ℕ)). length (unwrap_or v [])) none in
     omega arith
 
--- of the property of an entry
+-- the same for the property of an entry
 pub entry_fits : (s : Settings) (text : List ℕ) (p : Property) → IsEntry text p → property_count s p ≤ length text
 entry_fits s text p one =
     let some = property_fits s p in let size = value_size text p one in omega arith
@@ -227,7 +228,7 @@ block_fits : (s : Settings) (text : List ℕ) (ps : List Property) → IsPropert
 block_fits s text ps (inl (empty, none)) = let sum = ap (properties_count s) none in omega arith
 block_fits s text ps (inr are) = properties_fit s text ps are
 
--- of a record
+-- the same for a record
 record_fits : (s : Settings) (r : DumpRecord) (n : ℕ) → AreLeftOutOf s r n → n ≤ length r.props
 record_fits s r n are = by (is_kept_node s r) are
   where
@@ -240,7 +241,7 @@ record_fits s r n are = by (is_kept_node s r) are
     by true are = of_block are
     by false none = omega arith
 
--- of records
+-- the same for records
 counts_fit : (s : Settings) (number place : ℕ) (text rest : List ℕ) (records : List DumpRecord) (counts : List ℕ)
     → IsCutInto number place text records rest → AllZip (AreLeftOutOf s) records counts → sum counts ≤ length text
 counts_fit s number place text rest [] [] cut all = omega arith
@@ -258,7 +259,7 @@ counts_fit s number place text rest (r ∷ records) (n ∷ counts) (lfs, front, 
 
 -- record by record
 
--- what was counted of the records that the cutter has given
+-- the count for the records that the cutter has returned
 pub record CountedSoFar (s : Settings) (dump : List ℕ) (cutter : CutterState) (count : ℕ) : Type 0 where
   pub dump_is : cutter.dump ≡ dump
   pub before : List DumpRecord
@@ -286,7 +287,7 @@ module _ (s : Settings) (dump : List ℕ) (cutter after : CutterState) (count : 
     next_add : AddUpTo (AreLeftOutOf s) (so_far.before ++ record_item item ∷ []) (count + n)
     next_add = adds_more (AreLeftOutOf s) so_far.before count (record_item item) n so_far.add are
 
-    -- the cutter is nearer to the end
+    -- the cutter is nearer to the end of the dump
     pub counted_nearer : (after.number ≡ cutter.number + 1) × (after.number ≤ length dump)
     counted_nearer = nearer_by_one dump cutter after so_far.before so_far.dump_is so_far.begins so_far.number item step
 
@@ -298,7 +299,7 @@ module _ (s : Settings) (dump : List ℕ) (cutter after : CutterState) (count : 
         let fits = counts_fit s 0 0 dump rest (so_far.before ++ record_item item ∷ []) counts cut all in
         omega arith
 
-    -- with one more record
+    -- the count after one more record
     pub counted_more : CountedSoFar s dump after (count + n)
     counted_more = record {
       dump_is = ap (λ (c : CutterState). c.dump) step.3 ∙ so_far.dump_is;
@@ -309,7 +310,7 @@ module _ (s : Settings) (dump : List ℕ) (cutter after : CutterState) (count : 
       add = next_add;
     }
 
-  -- where the records end
+  -- the count when the records end
   pub all_counted : (ending : Ending) → EndsAfter cutter.dump cutter.number ending → AreLeftOutOfRecords s dump count
   all_counted ending ends = (
     so_far.before,

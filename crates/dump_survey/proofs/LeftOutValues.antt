@@ -1,5 +1,5 @@
--- Worked values of the lines of mergeinfo that are left out, computed and proved by the kernel; and that each dump has one
--- number of them.
+-- Examples of the lines of mergeinfo that are omitted; the checker computes and proves them. Also, each dump has only
+-- one number of omitted lines.
 use Rattle.dump_survey.proofs.Prelude.{◌≡◌, ℕ, Bool, true, false, List, [], ◌∷◌, Some, None, MatchBool, refl, ap, ◌∙◌, inl, inr, codes, sum_by, Property, DumpRecord, each_dump_has_one_list, Include, Pad, Settings, is_kept_node, HasPropertyBlock, HasPropertyList, property_list_once, block_or_not, other, AreLeftOutOfValue, AddUpTo, mergeinfo_values, AreLeftOutOfProperties, AreLeftOutOf, AreLeftOutIn, AreLeftOutOfRecords, properties_count}
 use Rattle.std.specs.Fmt.{digits}
 use Rattle.dump_survey.specs.LeftOutLine.{left_out_line}
@@ -15,7 +15,7 @@ call skip_missing = record {
   skip_missing = skip_missing;
 }
 
--- of a value
+-- the lines of a value
 
 two_of_three : AreLeftOutOfValue (call true) (codes "/trunk/a:1\n/a:\n/trunk2:1-2*\n") 2
 two_of_three = value_is (call true) (codes "/trunk/a:1\n/a:\n/trunk2:1-2*\n")
@@ -30,12 +30,12 @@ none_of_no_line = value_is (call true) []
 none_of_unread : AreLeftOutOfValue (call true) (codes "/a:1\n/b") 0
 none_of_unread = value_is (call true) (codes "/a:1\n/b")
 
--- of properties
+-- the lines of properties
 
 abbrev set : List ℕ → List ℕ → Property
 set name value = record { name = name; value = Some value }
 
--- two values add up; other names and what is deleted don't count
+-- the numbers for two values are added; other names and deleted properties don't count
 each_value_counts : AddUpTo (AreLeftOutOfValue (call true))
     (mergeinfo_values (set (codes "svn:mergeinfo") (codes "/a:1") ∷ set (codes "svn:log") (codes "/a:1")
     ∷ record { name = codes "svn:mergeinfo"; value = None } ∷ set (codes "svn:mergeinfo") (codes "/b:1\n/c:1") ∷ [])) 3
@@ -43,15 +43,15 @@ each_value_counts = properties_are (call true)
     (set (codes "svn:mergeinfo") (codes "/a:1") ∷ set (codes "svn:log") (codes "/a:1")
     ∷ record { name = codes "svn:mergeinfo"; value = None } ∷ set (codes "svn:mergeinfo") (codes "/b:1\n/c:1") ∷ [])
 
--- a record that isn't a kept node has none
+-- a record that isn't a kept node has no omitted lines
 none_of_other : AreLeftOutOf (call true) other 0
 none_of_other = refl
 
--- without the option none are left out
+-- without the option no lines are omitted
 none_without_option : (dump : List ℕ) → AreLeftOutIn (call false) dump 0
 none_without_option dump = refl
 
--- the line
+-- the line of the advice
 
 no_line : left_out_line 0 ≡ []
 unfolding left_out_line
@@ -65,7 +65,7 @@ more_lines : left_out_line 12 ≡ codes "dropped from svn:mergeinfo: 12 lines of
 unfolding left_out_line digits
 more_lines = refl
 
--- one number
+-- there is only one number
 
 abbrev HasOne : {X : Type 0} → (X → ℕ → Type 0) → X → Type 0
 HasOne HasCount x = (n : ℕ) × HasCount x n × ((m : ℕ) → HasCount x m → m ≡ n)

@@ -1,4 +1,4 @@
--- Worked lines, computed and proved by the kernel.
+-- Examples of lines; the checker computes and proves them.
 use Rattle.dump_survey.proofs.Prelude.{◌≡◌, ℕ, List, [], Option, Some, None, refl, codes, Ending, Finding, DumpFinding, CopySource}
 use Rattle.std.specs.Fmt.{digits}
 use Rattle.dump_text.specs.declared.fault.FaultKind.TheVariants.{HeaderCut}
@@ -6,7 +6,7 @@ use Rattle.dump_survey.specs.Kinds.{dump_advice, dump_kind, dump_kind_line, dump
 use Rattle.dump_survey.specs.Lines.{broken_line, cut_words, dump_line, dump_words, ending_line, fault_and_place, finding_words, node_line, place_text, shown_byte, shown_path, source_text}
 use Rattle.dump_survey.specs.Reported.{NodeReport}
 
--- what stands in parentheses
+-- the parentheses at the end of a line
 
 neither : fault_and_place None None ≡ []
 unfolding fault_and_place
@@ -20,7 +20,7 @@ record_alone : fault_and_place None (Some (record { number = 41; place = 90110 }
 unfolding fault_and_place place_text digits
 record_alone = refl
 
--- lines of nodes
+-- the lines of nodes
 
 abbrev reported : Finding → Option (List ℕ) → NodeReport
 reported finding prefix = record {
@@ -50,7 +50,7 @@ deleted_directory : node_line (reported Finding.FolderTakes None)
 unfolding node_line shown_path shown_byte finding_words cut_words fault_and_place place_text digits
 deleted_directory = refl
 
--- lines of the whole dump and of its end
+-- the lines of the dump as a whole and of the end of its records
 
 number_that_falls : dump_line (record { finding = DumpFinding.NumberFalls; at = Some (record { number = 4; place = 90 }) })
     ≡ codes "the number of a revision is not above the one before it (fault 8, record 4, byte 90)\n"
@@ -66,7 +66,7 @@ cut_header : ending_line 5 (Ending.Broken HeaderCut 123)
 unfolding broken_line fault_and_place place_text digits
 cut_header = refl
 
--- lines of kinds
+-- the lines of kinds
 
 three_copies : kind_line 3 (finding_kind Finding.NoWholeFile)
     ≡ codes "total 3: copies whose source is excluded (fault 12): include the source too, or exclude the copy\n"

@@ -1,7 +1,7 @@
--- What the filter's cut does to a node, by what the node is.
+-- What the filter's cut does to a node, for each kind of node.
 use Rattle.dump_survey.proofs.Prelude.{◌≡◌, true, false, not, ◌&&◌, None, refl, and-false, and-true, property_length_name, has_header, DumpRecord, Settings, is_copy, is_whole_file, makes, has_kept_path, has_kept_source, is_exclude, Losses, AreLossesOf}
 
--- nothing is found
+-- the losses if nothing is lost
 abbrev pub no_losses : Losses
 no_losses = record {
   no_whole_file = false;
@@ -28,7 +28,7 @@ module _ (settings : Settings) (r : DumpRecord) (kept : has_kept_path settings r
     text_comes_in = rw (kept, copy, and-false (is_exclude settings.side && true && makes r)) refl;
   }
 
-  -- a kept copy of a path that isn't kept
+  -- a kept copy of an excluded path
   pub lost_losses : is_copy r ≡ true → has_kept_source settings r ≡ false → AreLossesOf settings r (record {
     no_whole_file = not (is_whole_file r);
     properties_lost = makes r && not (has_header property_length_name r.headers);

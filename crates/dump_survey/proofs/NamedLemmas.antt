@@ -1,8 +1,8 @@
--- With each copy that is reported to be cut otherwise than its source a prefix is reported, and with nothing else.
+-- A prefix is reported with each copy that is cut differently from its source, and with nothing else.
 use Rattle.dump_survey.proofs.Prelude.{◌≡◌, ℕ, Bool, true, false, ◌&&◌, List, [], ◌∷◌, ◌++◌, length, map, filter, cond, Option, Some, None, is_some, MatchBool, refl, sym, ap, ap₂, ◌∙◌, map-append, Property, DumpRecord, Settings, is_node, node_path, copy_path, Finding, NodeFaults, cuts, every_finding, has_kept_path, has_kept_source, is_found, makes_copy, cutting_prefix, tells_cut, EachCutNamesPrefix, NodeReport, reported_in, present_after, IsReportedOfNode, IsReportedOf, AreReported}
 use Rattle.dump_survey.proofs.CutLemmas.{cut_there}
 
--- for each whether a prefix is reported, and whether the finding wants one
+-- for each report, whether it has a prefix
 abbrev named : List NodeReport → List Bool
 named reported = map (λ (t : NodeReport). is_some t.prefix) reported
 

@@ -1,4 +1,4 @@
--- What copies need, record by record, and what is to be kept as well.
+-- What copies need, record by record, and the prefixes to add.
 use Rattle.dump_survey.proofs.Prelude.{◌≡◌, ℕ, ◌+◌, ◌-◌, ◌≤◌, ◌<◌, Bool, true, false, not, ◌&&◌, ◌||◌, List, [], ◌∷◌, ◌++◌, length, length-append, map, take, get_or, reverse, Option, Some, None, option_map, bytes_eq, Bor, Vec, Global, Result, Ok, Err, cond, refl, sym, ap, ap₂, ◌∙◌, subst, arith, append-nil, append_assoc, list_any, filter_map, cons_option, IsPermutation, list_any-IsPermutation, any_mapped, or_from, and_parts, and_from, take-length, map-append, take_more, reverse-append, reverse-reverse, list_any-append, filter_map-append, Record, DumpRecord, Ending, BeginsWithRecords, HasRecords, CutterState, EndsAfter, record_item, CutStep, whole_list, bare_prefix, bare_path, begins_path, matches_path, BeginSame, Side, Include, Exclude, Settings, side_keeps, is_node, is_copy, node_path, is_whole_file, copy_path, Memory, CopyNeed, with_prefixes, stops_at, wanted_path, matches_itself, is_wanted, AreWanted, covers, uncovered, are_apart, stops_somewhere, ArePrefixesToAdd, ArePrefixesToAddIn, PathNeed, need_view, need_of, needs_of, can_not_stand, copy_need, is_matched, is_unmet, AreNeeded, each_matches_itself}
 use Rattle.std.proofs.Common.{unwrap_or}
 use Rattle.std.specs.Result.{IfOk}
@@ -8,7 +8,7 @@ use Rattle.dump_survey.proofs.SurveyorLemmas.{begins_next, begins_with_none, nea
 
 -- record by record
 
--- what the records that the cutter has given need
+-- the needs of the records that the cutter has returned
 pub record NeedsSoFar (side : Side) (dump : List ℕ) (cutter : CutterState) (needs : List PathNeed) : Type 0 where
   pub dump_is : cutter.dump ≡ dump
   pub before : List DumpRecord
@@ -32,7 +32,7 @@ module _ (side : Side) (dump : List ℕ) (cutter after : CutterState) (needs : L
     next_begins : BeginsWithRecords dump (so_far.before ++ record_item item ∷ [])
     next_begins = begins_next dump cutter after so_far.before so_far.dump_is so_far.begins so_far.count item step
 
-    -- the cutter is nearer to the end
+    -- the cutter is nearer to the end of the dump
     pub cutter_nearer : (after.number ≡ cutter.number + 1) × (after.number ≤ length dump)
     cutter_nearer = nearer_by_one dump cutter after so_far.before so_far.dump_is so_far.begins so_far.count item step
 
@@ -42,7 +42,7 @@ module _ (side : Side) (dump : List ℕ) (cutter after : CutterState) (needs : L
         ap₂ (λ some others. some ++ others) so_far.needs_are (are ∙ ap (λ (n : Option PathNeed). filter_map (λ (m : Option PathNeed). m) (n ∷ [])) is)
         ∙ sym (filter_map-append (need_of side) so_far.before (record_item item ∷ []))
 
-    -- what one more record needs
+    -- the needs after one more record
     pub needs_more : (need : Option PathNeed) → need ≡ need_of side (record_item item) → (all : List PathNeed)
         → all ≡ needs ++ filter_map (λ (n : Option PathNeed). n) (need ∷ []) → NeedsSoFar side dump after all
     needs_more need is all are = record {
@@ -54,7 +54,7 @@ module _ (side : Side) (dump : List ℕ) (cutter after : CutterState) (needs : L
       needs_are = are ∙ more_needs need is (filter_map (λ (n : Option PathNeed). n) (need ∷ [])) refl;
     }
 
-  -- where the records end
+  -- the needs when the records end
   pub all_needs : (ending : Ending) → EndsAfter cutter.dump cutter.number ending
       → (records : List DumpRecord) × (end : Ending) × HasRecords dump records end × (needs ≡ needs_of side records)
   all_needs ending ends = (
@@ -68,7 +68,7 @@ module _ (side : Side) (dump : List ℕ) (cutter after : CutterState) (needs : L
 
 -- from the last path to the first
 
--- the paths behind those that are left
+-- the paths after those that remain
 pub record UncoveredSoFar (paths left set top : List (List ℕ)) : Type 0 where
   pub behind : List (List ℕ)
   pub paths_are : paths ≡ left ++ behind
@@ -107,7 +107,7 @@ one_behind paths left set top next path begun so_far is same = record {
     by false free = rw (← free) (ap (λ l. l ++ path ∷ []) so_far.top_is
         ∙ sym (reverse-append (path ∷ []) (uncovered so_far.behind)))
 
--- the path that stands last
+-- the last of the paths
 pub last_path : (left : List (Bor (List ℕ))) (d : Bor (List ℕ)) → 1 ≤ length left
     → map (λ (path : Bor (List ℕ)). path.now) left ≡ map (λ (path : Bor (List ℕ)). path.now) (take (length left - 1) left)
     ++ (get_or left (length left - 1) d).now ∷ []
@@ -117,7 +117,7 @@ last_path left d some =
     ∙ take_more left (length left - 1) d (omega arith)))
     ∙ map-append (λ (path : Bor (List ℕ)). path.now) (take (length left - 1) left) (get_or left (length left - 1) d ∷ [])
 
--- a path is put to the others or not
+-- a path is added to the uncovered paths or not
 pub path_behind : (paths : List (List ℕ)) (left : List (Bor (List ℕ))) (d : Bor (List ℕ)) (set next : List (List ℕ))
     (top all : List (Bor (List ℕ))) (begun : Bool) → 1 ≤ length left
     → UncoveredSoFar paths (map (λ (path : Bor (List ℕ)). path.now) left) set (map (λ (path : Bor (List ℕ)). path.now) top)
@@ -141,7 +141,7 @@ path_behind paths left d set next top all begun some so_far is same are =
     by true = refl
     by false = map-append now top (last ∷ [])
 
--- where none is left
+-- no path remains
 pub all_uncovered : (paths set : List (List ℕ)) (left top items : List (Bor (List ℕ))) → length left < 1
     → UncoveredSoFar paths (map (λ (path : Bor (List ℕ)). path.now) left) set (map (λ (path : Bor (List ℕ)). path.now) top)
     → items ≡ reverse top → map (λ (path : Bor (List ℕ)). path.now) items ≡ uncovered paths
@@ -160,7 +160,7 @@ all_uncovered paths set [] top items short so_far are =
         ∙ (ap (λ l. l ++ x.now ∷ []) (reversed xs)
         ∙ sym (reverse-append (x.now ∷ []) (map (λ (path : Bor (List ℕ)). path.now) xs))))
 
--- what is put to the needs, and what isn't
+-- a need is added or not
 pub pushed : (items all : List CopyNeed) (need : CopyNeed) (found : Option CopyNeed) → found ≡ Some need → all ≡ items ++ need ∷ []
     → map need_view all ≡ map need_view items ++ filter_map (λ (n : Option PathNeed). n) (option_map need_view found ∷ [])
 pushed items all need found is are =
@@ -173,7 +173,7 @@ not_pushed items found is =
     sym (append-nil (map need_view items))
     ∙ ap (λ (f : Option CopyNeed). map need_view items ++ filter_map (λ (n : Option PathNeed). n) (option_map need_view f ∷ [])) (sym is)
 
--- what is to be kept as well
+-- the prefixes to add
 
 any_filtered : {X Y : Type 0} (test : Y → Bool) (h : X → Option Y) (xs : List X)
     → list_any test (filter_map h xs) ≡ list_any (λ x. unwrap_or (option_map test (h x)) false) xs
@@ -195,7 +195,7 @@ some_where : {X : Type 0} (c : Bool) (x : X) (test : X → Bool)
 some_where true x test = refl
 some_where false x test = refl
 
--- a copy's parts, in another order
+-- the parts of the condition for a copy, in another order
 parts_of_stop : (node copy part itself kept lost : Bool)
     → ((((node && copy) && part) && itself) && (kept && lost)) ≡ ((node && ((kept && (copy && lost)) && part)) && itself)
 parts_of_stop false copy part itself kept lost = refl
@@ -217,7 +217,7 @@ and_swapped true false = refl
 and_swapped false true = refl
 and_swapped false false = refl
 
--- the filter stops at a copy where what it needs isn't met
+-- the filter stops at a copy exactly if the copy's need isn't met
 open_stops : (side : Side) (prefixes : List (List ℕ)) (r : DumpRecord)
     → ((can_not_stand r && matches_itself (wanted_path side r)) && is_unmet prefixes (copy_need side r))
     ≡ ((is_node r && ((side_keeps side (is_matched prefixes (node_path r))
@@ -232,7 +232,7 @@ open_stops Exclude prefixes r =
     ∙ parts_of_stop (is_node r) (is_copy r) (not (is_whole_file r)) (matches_itself (node_path r))
     (not (is_matched prefixes (node_path r))) (not (not (is_matched prefixes (copy_path r))))
 
--- no need is open where the filter stops nowhere
+-- if the filter stops nowhere, each need is met
 none_stops : (settings : Settings) (records : List DumpRecord)
     → list_any (is_unmet settings.prefixes) (needs_of settings.side records) ≡ stops_somewhere settings records
 none_stops settings records =
@@ -241,7 +241,7 @@ none_stops settings records =
     (λ r. some_where (can_not_stand r && matches_itself (wanted_path settings.side r)) (copy_need settings.side r)
     (is_unmet settings.prefixes) ∙ open_stops settings.side settings.prefixes r) records
 
--- what a need wants is wanted
+-- the path that an unmet need wants is a wanted path
 need_wanted : (settings : Settings) (records : List DumpRecord) (path : List ℕ)
     → needs_path (needs_of settings.side records) settings.prefixes path ≡ true → is_wanted settings records path ≡ true
 need_wanted settings records path some =
@@ -264,7 +264,7 @@ need_wanted settings records path some =
         (sym (open_stops settings.side settings.prefixes r) ∙ and_from can here parts.0 both.0) in
         and_from (stops_at settings r) same stops.0 both.1
 
--- the wanted paths of needs match themselves
+-- each path that a need wants matches itself
 pub needs_match : (side : Side) (records : List DumpRecord) (needs : List PathNeed)
     → ((test : PathNeed → Bool) → list_any test needs ≡ list_any test (needs_of side records))
     → each_matches_itself needs ≡ true
@@ -286,7 +286,7 @@ needs_match side records needs same =
         (λ (n : PathNeed). not (matches_itself n.wanted))
         ∙ by (can_not_stand r) (matches_itself (wanted_path side r))) (none_of rs)
 
--- so what is needed is wanted, path by path
+-- so each needed path is a wanted path
 all_wanted : (settings : Settings) (records : List DumpRecord) (needs : List PathNeed)
     → ((test : PathNeed → Bool) → list_any test needs ≡ list_any test (needs_of settings.side records))
     → (before paths : List (List ℕ)) → AreNeeded needs (settings.prefixes ++ before) paths
@@ -300,7 +300,7 @@ all_wanted settings records needs same before (path ∷ paths) (some, itself, mo
       (subst (λ l. AreNeeded needs l paths) (append_assoc settings.prefixes before (path ∷ [])) more),
 )
 
--- and is to be kept as well
+-- so these are the prefixes to add
 pub are_prefixes_to_add : (settings : Settings) (records : List DumpRecord) (needs : List PathNeed) (wanted paths : List (List ℕ))
     → ((test : PathNeed → Bool) → list_any test needs ≡ list_any test (needs_of settings.side records))
     → AreNeeded needs settings.prefixes wanted
@@ -325,7 +325,7 @@ are_prefixes_to_add settings records needs wanted paths same needed closed is = 
         (ap (λ l. is_matched l text) is ∙ uncovered_same wanted (bare_path text))
         ∙ sym (list_any-append (λ prefix. matches_path prefix text) settings.prefixes wanted))
 
--- in another order needs are tested alike
+-- a test of the needs has the same result in another order
 pub reordered : (some all : List CopyNeed) (needs : List PathNeed) → IsPermutation some all → map need_view some ≡ needs
     → (test : PathNeed → Bool) → list_any test (map need_view all) ≡ list_any test needs
 reordered some all needs same are test =
@@ -333,7 +333,7 @@ reordered some all needs same are test =
     ∙ (sym (list_any-IsPermutation (λ n. test (need_view n)) some all same)
     ∙ (sym (any_mapped need_view test some) ∙ ap (list_any test) are))
 
--- so it is where there was memory
+-- so these are the prefixes to add if memory doesn't run out
 pub kept_in : (settings : Settings) (dump : List ℕ) (needs : List PathNeed) (wanted : List (List ℕ))
     → ((records : List DumpRecord) × (ending : Ending) × HasRecords dump records ending
     × ((test : PathNeed → Bool) → list_any test needs ≡ list_any test (needs_of settings.side records)))

@@ -1,11 +1,11 @@
--- The numbers that the tally knows are those that a kept node is held against.
+-- The numbers in the tally are those with which the revisions that a kept node names are compared.
 use Rattle.dump_survey.proofs.Prelude.{◌≡◌, ℕ, ◌==◌, Bool, true, false, not, ◌&&◌, ◌||◌, List, [], ◌∷◌, ◌++◌, length, filter, map, Option, Some, None, if◌then◌else◌, cond, refl, sym, ap, ap₂, ◌∙◌, arith, nat_le, list_all, list_any, last_or, or-false, or_assoc, and_parts, DumpRecord, Settings, is_revision_record, is_node, is_kept_node, Group, group_of, groups, group_number, revision_number, revision_numbers, keeps_group, keeps_empty, kept_revisions, present_number, begins_at, copies_from_before, has_up_to, Present, Tally, is_up_to, AreNumbersBehind, no_tally, keeps_open, lesser, least_behind, numbers_of, revision_tally, node_tally, other_tally, tally_behind}
 use Rattle.std.specs.Prelude.{unwrap_or}
 use Rattle.dump_survey.specs.steps.RevisionNumbers.{reaches}
 use Rattle.dump_survey.proofs.TallyLemmas.{nodes, nodes_more, nodes_none, is_single, closes, closes_none, some_left, tally_more, begins_at_is, node_begins}
 use Rattle.dump_survey.proofs.TallyLemmas.{present_number as open_number}
 
--- the lesser of two numbers is at most a number where one of them is
+-- the lesser of two numbers is at most a number exactly if one of the two is
 lesser_up_to : (n : ℕ) (least : Option ℕ) (number : ℕ)
     → is_up_to n (Some (lesser least number)) ≡ (is_up_to n least || nat_le number n)
 lesser_up_to n None number = refl
@@ -20,12 +20,12 @@ lesser_up_to n (Some least) number = by (nat_le least number) refl (nat_le least
     by false low true is false at = absurd (grind (arith, low, is, at))
     by false low false is c at = at
 
--- whether the present revision is kept, where these nodes follow, and has a number up to this one
+-- whether the present revision is kept if these nodes follow, and has a number up to this one
 abbrev own_up_to : Settings → ℕ → Option Present → List DumpRecord → Bool
 own_up_to settings n None ns = false
 own_up_to settings n (Some p) ns = closes settings (Some p) ns && nat_le p.number n
 
--- whether one of the kept revisions of these groups has
+-- whether one of the kept revisions of these groups has a number up to this one
 abbrev groups_up_to : Settings → ℕ → List Group → Bool
 groups_up_to settings n gs = has_up_to n (map group_number (filter (keeps_group settings) gs))
 
@@ -41,7 +41,7 @@ group_more settings n g gs = by (keeps_group settings g)
     by true = refl
     by false = refl
 
--- the least number of the kept revisions, the present one among them
+-- the least number of the kept revisions, including the present one
 least_up_to : (settings : Settings) (n : ℕ) (least : Option ℕ) (p : Option Present)
     → is_up_to n (least_behind settings least p) ≡ (is_up_to n least || own_up_to settings n p [])
 least_up_to settings n least None = sym (or-false (is_up_to n least))
@@ -54,7 +54,7 @@ least_up_to settings n least (Some p) =
     by true = lesser_up_to n least p.number
     by false = sym (or-false (is_up_to n least))
 
--- whether a kept revision has a number up to this one, by a tally and the records behind it
+-- whether a kept revision has a number up to this one, by a tally and the records after it
 abbrev all_up_to : Settings → ℕ → Tally → List DumpRecord → Bool
 all_up_to settings n t records =
     is_up_to n t.least || (own_up_to settings n t.present (nodes records) || groups_up_to settings n (groups records))
@@ -68,7 +68,7 @@ node_least t kept early (Some p) = refl
 
 module _ (settings : Settings) (n : ℕ) (t : Tally) (r : DumpRecord) (records : List DumpRecord)
     (more : (u : Tally) → tallied_up_to settings n (tally_behind settings u records) ≡ all_up_to settings n u records) where
-  -- behind a record that is no node the present revision has its nodes
+  -- after a record that is no node, the present revision has all its nodes
   ends_up_to : (rest : Bool) → is_node r ≡ false
       → (tallied_up_to settings n t || rest)
       ≡ (is_up_to n t.least || (own_up_to settings n t.present (nodes (r ∷ records)) || rest))
@@ -123,7 +123,7 @@ module _ (settings : Settings) (n : ℕ) (t : Tally) (r : DumpRecord) (records :
   up_to_step false true rev node single = up_to_node node
   up_to_step false false rev other single = up_to_other other
 
--- by the tally and by the groups
+-- the answer by the tally is the answer by the groups
 up_to_is : (settings : Settings) (n : ℕ) (t : Tally) (records : List DumpRecord) → list_all is_single records ≡ true
     → tallied_up_to settings n (tally_behind settings t records) ≡ all_up_to settings n t records
 up_to_is settings n t [] single =
@@ -182,7 +182,7 @@ module _ (settings : Settings) (before : List DumpRecord) (r : DumpRecord) (revi
       by true bad = cc
       by false fine = refl
 
-  -- the tally behind the node
+  -- the tally after the node
   with_node : tally_behind settings no_tally (before ++ r ∷ [])
       ≡ node_tally so_far (is_kept_node settings r) (copies_from_before so_far.first r) so_far.present
   with_node = tally_more settings no_tally before r ∙ rw (no_revision, node) refl
@@ -196,7 +196,7 @@ module _ (settings : Settings) (before : List DumpRecord) (r : DumpRecord) (revi
   present_is = sym (ap (λ o. unwrap_or o 0)
       (last_is settings no_tally before None (λ n bad. absurd (let worse : None ≡ Some n = bad in cc)) revision present))
 
-  -- a revision with a kept node is kept, and so its number counts
+  -- a revision with a kept node is kept, so its number counts
   kept_is : is_kept_node settings r ≡ true → (number : ℕ)
       → has_up_to number (kept_revisions settings (before ++ r ∷ [])).numbers
       ≡ reaches (numbers_of so_far revision) number

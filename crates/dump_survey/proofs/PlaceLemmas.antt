@@ -1,7 +1,7 @@
--- The records with which the findings of a dump as a whole come up.
+-- The records that cause the findings in a dump as a whole.
 use Rattle.dump_survey.proofs.Prelude.{◌≡◌, ◌⊎◌, ℕ, ◌<◌, ◌==◌, Bool, true, false, not, ◌&&◌, ◌||◌, List, [], ◌∷◌, ◌++◌, length, get_or, map, filter, cond, Contains, Option, Some, None, MatchBool, refl, sym, ap, ap₂, ◌∙◌, subst, inl, inr, append-nil, append_assoc, arith, AllZip, list_any, both_ways, eqb-true, false_from_ne_true, list_any_at, DumpRecord, Settings, found, finds, DumpFinding, every_dump_finding, HasUnreadRevision, AreDumpFindingsOf, dump_findings_once, DumpPlaces, Place, SurveyEnd, DumpFindings, has_dump_finding, listed_findings, DumpReport, place_in, reported_at_end, IsDumpFinding, comes_up, IsNeverFound, ComesUpAt, CameUp, ArePlaces, IsDumpReport, AreDumpReports, no_places, first_place, AreNextPlaces}
 
--- the place of a finding among all of them
+-- the index of a finding in the list of all findings
 abbrev place_among : DumpFinding → ℕ
 place_among DumpFinding.NoRevision = 0
 place_among DumpFinding.OtherNumbers = 1
@@ -12,7 +12,7 @@ place_among DumpFinding.SourceBefore = 5
 place_among DumpFinding.NodeOutside = 6
 place_among DumpFinding.NumbersLeft = 7
 
--- the finding of a place
+-- the finding with this index
 abbrev at_place : ℕ → DumpFinding
 at_place n = get_or every_dump_finding n DumpFinding.NoRevision
 
@@ -59,7 +59,7 @@ refl_place DumpFinding.SourceBefore = refl
 refl_place DumpFinding.NodeOutside = refl
 refl_place DumpFinding.NumbersLeft = refl
 
--- whether a finding is among some
+-- whether a finding is one of these
 abbrev is_among : DumpFinding → List DumpFinding → Bool
 is_among f fs = list_any (λ g. place_among g == place_among f) fs
 
@@ -71,7 +71,7 @@ among_there f fs some =
 among_back : (f : DumpFinding) (fs : List DumpFinding) → Contains fs f → is_among f fs ≡ true
 among_back f fs there = finds (λ g. place_among g == place_among f) fs f there (refl_place f)
 
--- each dump has the finding or hasn't
+-- a dump has the finding or doesn't have it
 has_or_not : (settings : Settings) (records : List DumpRecord) (f : DumpFinding)
     → IsDumpFinding settings records f ⊎ ¬ IsDumpFinding settings records f
 has_or_not settings records f =
@@ -86,7 +86,7 @@ has_or_not settings records f =
         let some = among_back f fs (subst (λ l. Contains l f) (once others are_too) there) in
         let bad : true ≡ false = sym some ∙ none in cc)
 
--- without a record there is no revision, and nothing else is found
+-- without records the only finding is that there is no revision
 one_alone : (f : DumpFinding) → Contains (DumpFinding.NoRevision ∷ []) f → comes_up f ≡ true → ⊥
 one_alone f there up =
     let same = same_place f DumpFinding.NoRevision (by (among_back f (DumpFinding.NoRevision ∷ []) there)) in
@@ -107,7 +107,7 @@ none_of_none settings f up (fs, (facts, are, same), there) =
     none_there : HasUnreadRevision [] → ⊥
     none_there (r, (i, within, is), unread) = absurd (omega (arith, within))
 
-    -- what is found, where no revision is unread
+    -- the findings, except the one about unread revisions
     rest : Bool → Bool → List DumpFinding
     rest renumber b = cond (not renumber && b) (DumpFinding.NumbersLeft ∷ []) []
 
@@ -122,7 +122,7 @@ never_at_first : (settings : Settings) (f : DumpFinding) → comes_up f ≡ true
 never_at_first settings f up [] rest is = none_of_none settings f up
 never_at_first settings f up (r ∷ front) rest is = absurd (let bad : [] ≡ r ∷ front ++ rest = is in cc)
 
--- the first ones of some records and one more are first ones of those, or all
+-- a first part of some records and one more is a first part of these records, or has them all
 splits : (rs : List DumpRecord) (r : DumpRecord) (front rest : List DumpRecord) → rs ++ r ∷ [] ≡ front ++ rest
     → ((more : List DumpRecord) × (rs ≡ front ++ more)) ⊎ (front ≡ rs ++ r ∷ [])
 splits rs r [] rest is = inl (rs, refl)
@@ -147,7 +147,7 @@ module _ (settings : Settings) (f : DumpFinding) (before : List DumpRecord) wher
     | inr all ↦ subst (λ rs. ¬ IsDumpFinding settings rs f) (sym all) still
   ]
 
--- so a finding comes up with some record
+-- so some record is the first that causes the finding
 comes_up_in : (settings : Settings) (f : DumpFinding) (before rest : List DumpRecord)
     → IsNeverFound settings before f → IsDumpFinding settings (before ++ rest) f
     → (p : Place) × ComesUpAt settings (before ++ rest) f p
@@ -175,7 +175,7 @@ comes_up_in settings f before (r ∷ rest) never some =
         (subst (λ rs. IsDumpFinding settings rs f) (sym same) some) in
         (p, subst (λ rs. ComesUpAt settings rs f p) same at)
 
--- so of each dump something is reported, if only nothing
+-- so there are reports for each dump, possibly none
 reported_of_each : (settings : Settings) (records : List DumpRecord) (fs : List DumpFinding)
     → ((f : DumpFinding) → Contains fs f → IsDumpFinding settings records f)
     → (reported : List DumpReport) × AllZip (IsDumpReport settings records) fs reported
@@ -195,7 +195,7 @@ reported_of_each settings records (f ∷ fs) all =
     first : Contains (f ∷ fs) f
     first = among_there f (f ∷ fs) (ap (λ b. b || is_among f fs) (refl_place f))
 
-    -- this place is reported, or none
+    -- this place is reported, or no place
     At : Option Place → Bool → Type 0
     At at b = MatchBool b ((q : Place) × (at ≡ Some q) × ComesUpAt settings records f q) (at ≡ None)
 
@@ -217,15 +217,15 @@ each_dump_reported settings records =
     let (reported, all) = reported_of_each settings records fs (λ f there. (fs, are, there)) in
     (reported, (fs, are, all))
 
--- where nothing is reported nothing is found
+-- if nothing is reported, nothing is found
 pub nothing_found : (settings : Settings) (records : List DumpRecord) → AreDumpReports settings records []
     → AreDumpFindingsOf settings records []
 nothing_found settings records ([], are, all) = are
 nothing_found settings records (f ∷ fs, are, all) = absurd all
 
--- what the program has
+-- the values of the program
 
--- the findings of what is reported at the end
+-- the findings of the reports at the end
 pub findings_at_end : (end : SurveyEnd) → map (λ (t : DumpReport). t.finding) (reported_at_end end) ≡ listed_findings end.dump
 findings_at_end end = those (listed_findings end.dump)
   where
@@ -290,7 +290,7 @@ module _ (settings : Settings) (records : List DumpRecord) (flags : DumpFindings
   pub flag_denies : (f : DumpFinding) → has_dump_finding flags f ≡ false → ¬ IsDumpFinding settings records f
   flag_denies f absent some = let bad : true ≡ false = sym (flag_back f some) ∙ absent in cc
 
--- before the first record nothing came up
+-- before the first record no record has caused a finding
 pub no_places_yet : (settings : Settings) → ArePlaces settings [] no_places
 no_places_yet settings DumpFinding.NoRevision up = cc
 no_places_yet settings DumpFinding.OtherNumbers up = never_at_first settings DumpFinding.OtherNumbers refl
@@ -301,7 +301,7 @@ no_places_yet settings DumpFinding.SourceBefore up = never_at_first settings Dum
 no_places_yet settings DumpFinding.NodeOutside up = never_at_first settings DumpFinding.NodeOutside refl
 no_places_yet settings DumpFinding.NumbersLeft up = never_at_first settings DumpFinding.NumbersLeft refl
 
--- the places go on to one more record
+-- the places after one more record
 pub places_next : (settings : Settings) (before : List DumpRecord) (r : DumpRecord) (old new : DumpPlaces)
     (flags : DumpFindings) (here : Place) → ArePlaces settings before old
     → AreDumpFindingsOf settings (before ++ r ∷ []) (listed_findings flags)
@@ -334,7 +334,7 @@ places_next settings before r old new flags here are found_are here_is next f up
     by None none false is = never_more settings f before r none
         (flag_denies settings (before ++ r ∷ []) flags found_are f is)
 
--- so what the program has is reported at the end
+-- so what the program has is what is reported at the end
 pub reported_where_ended : (settings : Settings) (records : List DumpRecord) (end : SurveyEnd)
     → AreDumpFindingsOf settings records (listed_findings end.dump) → ArePlaces settings records end.places
     → AreDumpReports settings records (reported_at_end end)
@@ -381,7 +381,7 @@ reported_where_ended settings records end are places = (
             behind true some = refl
             behind false some = some
 
--- where nothing is found no place comes
+-- if nothing is found, no place is added
 pub none_comes_up : (old : DumpPlaces) (flags : DumpFindings) (here : Place)
     → list_any (has_dump_finding flags) every_dump_finding ≡ false → AreNextPlaces old flags here old
 none_comes_up old flags here none f up =

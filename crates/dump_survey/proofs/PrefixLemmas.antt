@@ -1,4 +1,4 @@
--- Bare prefixes below paths as texts.
+-- Bare prefixes below paths, in the form of texts.
 use Rattle.dump_survey.proofs.Prelude.{◌≡◌, ℕ, ◌+◌, Bool, true, false, not, ◌&&◌, ◌||◌, ◌==◌, List, [], ◌∷◌, ◌++◌, length, drop, map, nat_eq, if◌then◌else◌, Option, Some, None, MatchOption, Bor, option_copied, is_some, bytes_eq, refl, sym, ap, ◌∙◌, arith, append_assoc, append-nil, get_or, map-append, drop_more, drop_all, slice_get_within, get_or_from_slice_get, slice_get-get_or, none-some, or_from, or_right, starts_with, list_any, list_all, bare_path, bare_prefix, begins_path, Include, Settings, is_above_some, path_of, path_text, names_of, split_text, behind_slash, is_below, IsRestBelow}
 use Rattle.std.proofs.Common.{nat_lt}
 use borrow.Author.Tests.{ltb-true, ltb-false}
@@ -7,7 +7,7 @@ use Rattle.std.specs.List.{slice_get}
 eq_sym : (a b : ℕ) → nat_eq a b ≡ nat_eq b a
 eq_sym a b = grind arith
 
--- where nothing stands behind a front and a slash, the text doesn't begin with them
+-- if nothing follows a front and a slash, the text doesn't begin with these
 none_behind : (front text : List ℕ) → behind_slash front text ≡ None → starts_with nat_eq text (front ++ 47 ∷ []) ≡ false
 none_behind [] [] none = refl
 none_behind [] (c ∷ text) none = ap (λ t. t && true) (eq_sym 47 c) ∙ cases (c == 47) none
@@ -23,7 +23,7 @@ none_behind (b ∷ front) (c ∷ text) none = cases (none_behind front text) (b 
     cases more true none = more none
     cases more false none = refl
 
--- what stands behind them
+-- what follows the front and a slash
 found_behind : (front text rest : List ℕ) → behind_slash front text ≡ Some rest
     → (starts_with nat_eq text (front ++ 47 ∷ []) ≡ true) × (drop (length front) text ≡ 47 ∷ rest)
 found_behind [] [] rest is = absurd (let bad : None ≡ Some rest = is in cc)
@@ -45,7 +45,7 @@ found_behind (b ∷ front) (c ∷ text) rest is = cases (found_behind front text
     cases more true is = more is
     cases more false is = absurd (let bad : None ≡ Some rest = is in cc)
 
--- so a prefix that isn't empty begins a text that isn't the prefix
+-- so a prefix that isn't empty begins a text that differs from the prefix
 pub begins_behind : (bare text : List ℕ) (found : Option (Bor (List ℕ))) → (length bare == 0) ≡ false
     → bytes_eq text bare ≡ false → option_copied found ≡ behind_slash bare text → is_some found ≡ begins_path bare text
 begins_behind [] text found there other reported = absurd (let bad : true ≡ false = there in cc)
@@ -54,7 +54,7 @@ begins_behind (b ∷ bare) text None there other reported =
 begins_behind (b ∷ bare) text (Some rest) there other reported =
     sym (or_right (bytes_eq text (b ∷ bare)) _ (found_behind (b ∷ bare) text rest.now (sym reported)).0)
 
--- the text of a path that isn't the root's is its text, behind a slash
+-- the text of a path that isn't the root is a slash and the bare path
 pub whole_text : (path : List ℕ) (b : ℕ) (text : List ℕ) → bare_path path ≡ b ∷ text
     → path_text (path_of path) ≡ 47 ∷ b ∷ text
 whole_text path b text is = ap (λ t. path_text (names_of t)) is ∙ split_text (b ∷ text)
@@ -62,14 +62,14 @@ whole_text path b text is = ap (λ t. path_text (names_of t)) is ∙ split_text 
 pub root_text : (path : List ℕ) → bare_path path ≡ [] → path_text (path_of path) ≡ []
 root_text path is = ap (λ t. path_text (names_of t)) is
 
--- an empty path has each prefix below it
+-- each prefix is below the empty path
 pub below_root : (path bare : List ℕ) → bare_path path ≡ [] → IsRestBelow path bare bare
 below_root path bare is = record {
   below = ap (λ t. starts_with nat_eq (47 ∷ bare) (t ++ 47 ∷ [])) (root_text path is);
   rest_is = ap (λ (t : List ℕ). drop (length t) (47 ∷ bare)) (root_text path is);
 }
 
--- what is found below another path is exact
+-- what is found below another path is exactly the rest
 pub below_path : (path bare : List ℕ) (b : ℕ) (text : List ℕ) (found : Option (Bor (List ℕ)))
     → bare_path path ≡ b ∷ text → option_copied found ≡ behind_slash (b ∷ text) bare
     → MatchOption found (is_below path bare ≡ false) (λ rest. IsRestBelow path bare rest.now)
@@ -88,14 +88,14 @@ pub below_else : (path bare top : List ℕ) (found : Option (Bor (List ℕ))) �
 below_else path bare [] found is there reported = absurd (let bad : true ≡ false = there in cc)
 below_else path bare (b ∷ text) found is there reported = below_path path bare b text found (sym is) reported
 
--- the text behind which a path's text was put
+-- the text to which the text of a path was added
 pub text_put : (path top old : List ℕ) → top ≡ bare_path path → (length top == 0) ≡ false
     → (old ++ 47 ∷ []) ++ top ≡ old ++ path_text (path_of path)
 text_put path [] old is there = absurd (let bad : true ≡ false = there in cc)
 text_put path (b ∷ text) old is there =
     append_assoc old (47 ∷ []) (b ∷ text) ∙ ap (λ t. old ++ t) (sym (whole_text path b text (sym is)))
 
--- a test of the texts that a list lends
+-- a test of the texts that a list borrows
 any_lent : (test : List ℕ → Bool) (items : List (Bor (List ℕ)))
     → list_any (λ item. test item.now) items ≡ list_any test (map (λ item. item.now) items)
 any_lent test [] = refl
@@ -120,7 +120,7 @@ not_all test (x ∷ xs) = cases (not_all test xs) (test x)
     cases more true = refl
     cases more false = more
 
--- one of the options' prefixes lies below a path
+-- one of the options' prefixes is below a path
 pub some_above : (settings : Settings) (path : List ℕ) (items : List (Bor (List ℕ)))
     → map (λ item. item.now) items ≡ map bare_prefix settings.prefixes → settings.side ≡ Include
     → list_any (λ item. is_below path item.now) items ≡ is_above_some settings.side settings.prefixes (path_of path)
@@ -128,7 +128,7 @@ some_above settings path items same included =
     some_bare (is_below path) items settings.prefixes same
     ∙ ap (λ side. is_above_some side settings.prefixes (path_of path)) (sym included)
 
--- the prefix at this place, and where there is none
+-- the prefix at this index, and the case that there is none
 pub next_prefix : (all : List (List ℕ)) (n : ℕ) (prefix : List ℕ) → slice_get all n ≡ Some prefix
     → drop n all ≡ prefix ∷ drop (n + 1) all
 next_prefix all n prefix at = drop_more all n [] (slice_get_within all n prefix at)
@@ -159,7 +159,7 @@ bare_more all items n prefix item at same is =
     ∙ (sym (append_assoc old (item.now ∷ []) more)
     ∙ ap (λ l. l ++ more) (sym (map-append (λ (item : Bor (List ℕ)). item.now) items (item ∷ []))))))
 
--- and no more
+-- no more prefixes
 pub bare_all : (all : List (List ℕ)) (items : List (Bor (List ℕ))) (n : ℕ) → slice_get all n ≡ None
     → map bare_prefix all ≡ map (λ item. item.now) items ++ map bare_prefix (drop n all)
     → map (λ item. item.now) items ≡ map bare_prefix all
@@ -167,7 +167,7 @@ bare_all all items n past is =
     sym (is ∙ (ap (λ l. map (λ (item : Bor (List ℕ)). item.now) items ++ map bare_prefix l) (no_prefix all n past)
     ∙ append-nil (map (λ (item : Bor (List ℕ)). item.now) items)))
 
--- so as they were given
+-- the same for the prefixes as the caller gave them
 pub given_more : (all : List (List ℕ)) (items : List (Bor (List ℕ))) (n : ℕ) (item : Bor (List ℕ))
     → slice_get all n ≡ Some item.now → all ≡ map (λ item. item.now) items ++ drop n all
     → all ≡ map (λ item. item.now) (items ++ item ∷ []) ++ drop (n + 1) all

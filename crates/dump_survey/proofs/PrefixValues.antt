@@ -1,8 +1,8 @@
--- Worked values of what is found in prefixes, computed and proved by the kernel.
+-- Examples of findings in prefixes; the checker computes and proves them.
 use Rattle.dump_survey.proofs.Prelude.{◌≡◌, ℕ, List, [], ◌∷◌, Some, None, refl, codes, DumpRecord, NotShort, Idle, prefix_finding, reported_prefixes, line, record_at, records, version, one}
 use Rattle.dump_history.proofs.values.WorkedDump.{zero}
 
--- a dump with one node, a folder of this path and action, that is copied from a path of which no node is
+-- a dump with one node: a directory with this path and action that is a copy of a path that no node has
 abbrev copied_to : (path action : List ℕ) → List DumpRecord
 copied_to path action = version ∷ zero ∷ one ∷ record_at 71 (line (codes "Node-path") path
     ∷ line (codes "Node-kind") (codes "dir")
@@ -13,7 +13,7 @@ copied_to path action = version ∷ zero ∷ one ∷ record_at 71 (line (codes "
 abbrev copied : List DumpRecord
 copied = copied_to (codes "tag") (codes "add")
 
--- a path, and what stands below it
+-- a path, and the paths below it
 
 own_path : prefix_finding records (codes "trunk") ≡ None
 own_path = refl
@@ -31,7 +31,7 @@ part_of_a_name = refl
 another_name : prefix_finding records (codes "Trunk") ≡ Some Idle
 another_name = refl
 
--- what is copied from counts
+-- a copy source counts
 
 copy_source : prefix_finding copied (codes "old") ≡ None
 copy_source = refl
@@ -39,7 +39,7 @@ copy_source = refl
 below_the_source : prefix_finding copied (codes "old/x") ≡ Some Idle
 below_the_source = refl
 
--- what may come with a copy counts, where one is made
+-- what may come with a copy counts, if the node is a copy
 
 below_a_copy : prefix_finding copied (codes "tag/x/y") ≡ None
 below_a_copy = refl
@@ -77,7 +77,7 @@ copy_of_a_slash = refl
 in_no_short_form : prefix_finding copied (codes "tag//x") ≡ Some NotShort
 in_no_short_form = refl
 
--- slashes at the ends don't count, and the root is above each node
+-- slashes at the ends don't matter, and the root is above each node
 
 with_slashes : prefix_finding records (codes "/trunk/") ≡ None
 with_slashes = refl
@@ -88,7 +88,7 @@ root = refl
 root_of_no_node : prefix_finding (version ∷ zero ∷ []) (codes "/") ≡ Some Idle
 root_of_no_node = refl
 
--- the form is reported, and no more
+-- only the form is reported
 
 two_slashes : prefix_finding records (codes "trunk//b") ≡ Some NotShort
 two_slashes = refl
@@ -99,7 +99,7 @@ dot_first = refl
 two_dots : prefix_finding records (codes "trunk/../other") ≡ Some Idle
 two_dots = refl
 
--- each prefix by itself, in order
+-- each prefix has its own report, in order
 in_order : reported_prefixes records (codes "b" ∷ codes "trunk" ∷ codes "./a" ∷ codes "c" ∷ [])
     ≡ record { prefix = codes "b"; finding = Idle } ∷ record { prefix = codes "./a"; finding = NotShort }
     ∷ record { prefix = codes "c"; finding = Idle } ∷ []

@@ -1,4 +1,4 @@
--- The words of std, of the definitions and of the lemmas below, for the proofs of this crate.
+-- The names of std, of the definitions and of the lemmas below, for the proofs of this crate.
 pub use Rattle.std.specs.Prelude.{nat_le}
 pub use Rattle.std.proofs.Common.{Bool, Bor, Contains, Err, Global, IsFalse, IsSome, IsTrue, List, MatchBool, MatchOption, None, Ok, Option, Result, Some, Vec, [], add-zero, ap, append-nil, append_assoc, ap₂, arith, bytes_eq, codes, cond, count_by, decimal, drop, false, filter, flat_map, get_or, if◌then◌else◌, inl, inr, is_none, is_some, length, length-append, map, nat_eq, not, option_copied, option_map, refl, reverse, rules, subst, suc, sum, sum_by, sym, take, take_while, tests, true, vec_len, zero-add, ℕ, ◌&&◌, ◌++◌, ◌+◌, ◌-◌, ◌<◌, ◌==◌, ◌^◌, ◌||◌, ◌↔◌, ◌∙◌, ◌∷◌, ◌≡◌, ◌≢◌, ◌≤◌, ◌⊎◌}
 pub use Rattle.std.proofs.KnownBytes.{Appends-nil, Appends-trans}

@@ -1,4 +1,4 @@
--- What is refused of a kept node: of its copy's revision, and of the mergeinfo among its properties, one by one.
+-- What the filter rejects in a kept node: the revision of its copy source, and its mergeinfo, property by property.
 use Rattle.dump_survey.proofs.Prelude.{◌≡◌, ℕ, Bool, true, false, not, ◌&&◌, ◌||◌, List, [], ◌∷◌, ◌++◌, Option, Some, None, refl, sym, ap, ap₂, ◌∙◌, subst, or-false, or_assoc, list_any, copy_revision_name, Property, IsPropertyBlock, Props, Entry, entry_property, props_bytes, both_true, header_number, DumpRecord, Settings, value_reads, value_misses, value_foreign, is_mergeinfo, is_node, is_kept_node, HasPropertyBlock, ArePropertiesOf, entry_value, kept_revisions, stays_copy, present_number, NodeFaults, AreNodeFaultsOf, has_kept_path, is_unread_value, names_missing_source, names_outside, is_missing_number, copy_refused, property_faults, faults_read, copy_faults, no_node_faults, faults_of_kept, faults_of_unread, Numbers, AreFaultsBy, is_missing, misses_revision, AreNumbersBehind}
 use Rattle.std.specs.Prelude.{nat_lt}
 
@@ -6,7 +6,8 @@ abbrev made : Bool → Bool → Bool → Bool → NodeFaults
 made copy unread missing outside =
     record { copy_revision = copy; unread = unread; missing = missing; outside = outside }
 
--- of one property, where the dump begins with the first number and has come to the second
+-- What it rejects in one property. The dump begins with the first number, and the second number is that of the present
+-- revision.
 
 module _ (s : Settings) (first present : ℕ) (e : Entry) where
   pub refused_of_other : is_mergeinfo (entry_property e) ≡ false
@@ -24,7 +25,7 @@ module _ (s : Settings) (first present : ℕ) (e : Entry) where
   refused_of_value named reads missing outside misses foreign =
       rw (named, entry_value e, reads, misses, foreign) refl
 
--- of all of them: these are left, and of those before them so much is refused
+-- what it rejects in all properties: these remain, and the earlier ones have these faults
 
 module _ (s : Settings) (copy : Bool) (first present : ℕ) where
   abbrev pub unread_in : List Property → Bool
@@ -64,14 +65,14 @@ module _ (s : Settings) (copy : Bool) (first present : ℕ) where
   refused_at_last ps unread missing outside up =
       sym (up ∙ same_made (or-false unread) (or-false missing) (or-false outside))
 
--- of a kept node, by the numbers before it
+-- what it rejects in a kept node, by the numbers before the node
 
 module _ (s : Settings) (numbers : Numbers) (r : DumpRecord) (node : is_node r ≡ true)
     (kept : has_kept_path s r ≡ true) where
   is_kept : is_kept_node s r ≡ true
   is_kept = both_true (is_node r) (has_kept_path s r) node kept
 
-  -- the copy is refused by these numbers as it is by the records before
+  -- with these numbers the copy source is rejected exactly if it is with the records before the node
   copy_by : (before : List DumpRecord) → AreNumbersBehind s before r numbers
       → misses_revision s numbers r ≡ copy_refused s before r
   copy_by before behind =

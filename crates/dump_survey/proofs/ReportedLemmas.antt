@@ -2,7 +2,7 @@
 use Rattle.dump_survey.proofs.Prelude.{◌≡◌, ℕ, Bool, true, false, List, [], ◌∷◌, ◌++◌, map, flat_map, filter, cond, refl, sym, ap, ◌∙◌, append_assoc, map-append, Finding, NodeFinding, Found, ReportedFinding, meaning, has_found, NodeReport, reported_view}
 use Rattle.dump_survey.specs.Lines.{node_line}
 
--- what is reported of those of the findings that are found
+-- the reports of those of the findings that are found
 abbrev pub reported_left : (Finding → NodeReport) → Found → List NodeFinding → List NodeReport
 reported_left report found left = map report (filter (λ f. has_found found f) (map meaning left))
 
@@ -18,7 +18,7 @@ module _ (report : Finding → NodeReport) (found : Found) (finding : NodeFindin
       by true is = refl
       by false is = cc
 
-  -- what isn't found isn't reported
+  -- a finding that the node doesn't have isn't reported
   pub not_reported : has_found found (meaning finding) ≡ false
       → reported_left report found (finding ∷ left) ≡ reported_left report found left
   not_reported is = by (has_found found (meaning finding)) is
@@ -30,7 +30,7 @@ module _ (report : Finding → NodeReport) (found : Found) (finding : NodeFindin
       by true is = cc
       by false is = refl
 
-  -- what is found is reported next
+  -- a finding that the node has is the next report
   pub reported_next : (items : List ReportedFinding) (reported : ReportedFinding) → has_found found (meaning finding) ≡ true
       → reported_view reported ≡ report (meaning finding)
       → map reported_view items ++ reported_left report found (finding ∷ left)
@@ -41,7 +41,7 @@ module _ (report : Finding → NodeReport) (found : Found) (finding : NodeFindin
       ∙ ap (λ l. l ++ reported_left report found left)
       (ap (λ v. map reported_view items ++ v ∷ []) (sym view) ∙ sym (map-append reported_view items (reported ∷ []))))
 
-  -- and its line is next
+  -- its line is the next line
   pub next_line : (all old new : List ℕ) → has_found found (meaning finding) ≡ true
       → all ≡ old ++ flat_map node_line (reported_left report found (finding ∷ left))
       → new ≡ old ++ node_line (report (meaning finding))
@@ -51,7 +51,7 @@ module _ (report : Finding → NodeReport) (found : Found) (finding : NodeFindin
       ∙ (sym (append_assoc old (node_line (report (meaning finding))) (flat_map node_line (reported_left report found left)))
       ∙ ap (λ l. l ++ flat_map node_line (reported_left report found left)) (sym more)))
 
-  -- what isn't found has no line
+  -- a finding that the node doesn't have has no line
   pub no_line : (all old : List ℕ) → has_found found (meaning finding) ≡ false
       → all ≡ old ++ flat_map node_line (reported_left report found (finding ∷ left))
       → all ≡ old ++ flat_map node_line (reported_left report found left)

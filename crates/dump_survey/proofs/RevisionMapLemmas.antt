@@ -1,4 +1,4 @@
--- The kept revisions, record by record, are those of the groups.
+-- The kept revisions that are found record by record are those of the groups.
 use Rattle.dump_survey.proofs.Prelude.{◌≡◌, ℕ, ◌+◌, ◌≤◌, ◌<◌, ◌^◌, ◌==◌, Bool, true, false, not, ◌&&◌, ◌||◌, List, [], ◌∷◌, ◌++◌, length, length-append, map, filter, Option, Some, None, if◌then◌else◌, cond, refl, sym, ap, ap₂, ◌∙◌, subst, arith, Result, Ok, Err, append-nil, append_assoc, codes, decimal, or_assoc, concat, list_all, list_any, IsPermutation, sum_by-IsPermutation, and_parts, revision_name, Record, header_number, DumpRecord, Ending, BeginsWithRecords, CutterState, EndsAfter, record_item, CutStep, whole_list, KeptRevisions, Settings, is_revision_record, is_node, is_kept_node, Group, group_of, groups, group_number, revision_number, revision_numbers, first_number, keeps_group, keeps_empty, kept_revisions, written_number, header_small, copies_from_before, KeptNumbers, Memory, Present, Tally, no_tally, revision_tally, node_tally, other_tally, next_tally, tally_behind, AreKeptIn, ended_numbers, kept_view, numbers_before}
 use Rattle.std.proofs.Common.{unwrap_or, nat_lt}
 use Rattle.std.specs.Result.{IfOk}
@@ -7,18 +7,18 @@ use Rattle.dump_survey.specs.RevisionMap.{map_line}
 use Rattle.dump_survey.proofs.SurveyorLemmas.{begins_next, begins_with_none, begun_single, nearer_by_one}
 use Rattle.dump_survey.proofs.TallyLemmas.{begins_at_is, closes, closes_none, count_within, is_single, nodes, nodes_more, nodes_none, some_left, tally_more}
 
--- the numbers that are added behind a tally, up to the end of these records
+-- the numbers that are added after a tally, up to the end of these records
 abbrev pub kept_by : Settings → Tally → List DumpRecord → List ℕ
 kept_by settings t [] = ended_numbers settings t.present
 kept_by settings t (r ∷ records) =
     numbers_before settings t.present r ++ kept_by settings (next_tally settings t r) records
 
--- the present revision, if it is kept, where these nodes follow
+-- the number of the present revision, if it is kept when these nodes follow
 abbrev closing : Settings → Option Present → List DumpRecord → List ℕ
 closing settings None ns = []
 closing settings (Some p) ns = cond (closes settings (Some p) ns) (p.number ∷ []) []
 
--- the kept ones of the groups
+-- the numbers of the kept revisions of the groups
 abbrev kept_of : Settings → List Group → List ℕ
 kept_of settings gs = map group_number (filter (keeps_group settings) gs)
 
@@ -29,7 +29,7 @@ ended_is settings (Some p) = ap (λ b. cond b (p.number ∷ []) []) (sym (closes
 module _ (settings : Settings) (t : Tally) (r : DumpRecord) (records : List DumpRecord)
     (more : (u : Tally) → kept_by settings u records
     ≡ closing settings u.present (nodes records) ++ kept_of settings (groups records)) where
-  -- behind a record that is no node the present revision has its nodes
+  -- after a record that is no node, the present revision has all its nodes
   ends_before : is_node r ≡ false → ended_numbers settings t.present ≡ closing settings t.present (nodes (r ∷ records))
   ends_before other = ended_is settings t.present ∙ ap (closing settings t.present) (sym (nodes_none r records other))
 
@@ -77,7 +77,7 @@ module _ (settings : Settings) (t : Tally) (r : DumpRecord) (records : List Dump
   numbers_step false true node single = numbers_node node
   numbers_step false false other single = numbers_other other
 
--- the numbers that are added are those of the present revision and of the groups
+-- the added numbers are those of the present revision and of the groups
 numbers_are : (settings : Settings) (t : Tally) (records : List DumpRecord) → list_all is_single records ≡ true
     → kept_by settings t records ≡ closing settings t.present (nodes records) ++ kept_of settings (groups records)
 numbers_are settings t [] single = ended_is settings t.present ∙ sym (append-nil (closing settings t.present []))
@@ -102,7 +102,7 @@ first_below (r ∷ records) = by (is_revision_record r) (first_below records)
     by true more = revision_below r
     by false more = more
 
--- what is known behind the records that the cutter has given
+-- what is known after the records that the cutter has returned
 pub record KeptSoFar (settings : Settings) (dump : List ℕ) (cutter : CutterState) (tally : Tally) (numbers : List ℕ)
     : Type 0 where
   pub dump_is : cutter.dump ≡ dump
@@ -132,7 +132,7 @@ module _ (settings : Settings) (dump : List ℕ) (cutter after : CutterState) (t
     begins_more : BeginsWithRecords dump (so_far.before ++ record_item item ∷ [])
     begins_more = begins_next dump cutter after so_far.before so_far.dump_is so_far.begins so_far.count item step
 
-    -- the cutter is nearer to the end
+    -- the cutter is nearer to the end of the dump
     pub cutter_closer : (after.number ≡ cutter.number + 1) × (after.number ≤ length dump)
     cutter_closer = nearer_by_one dump cutter after so_far.before so_far.dump_is so_far.begins so_far.count item step
 
@@ -164,7 +164,7 @@ module _ (settings : Settings) (dump : List ℕ) (cutter after : CutterState) (t
           ∙ ap₂ (λ (ns : List ℕ) (t : Tally). ns ++ kept_by settings t rest) (sym are) (sym is);
     }
 
-  -- where the records end
+  -- the kept revisions when the records end
   pub all_kept_in : (ending : Ending) → EndsAfter cutter.dump cutter.number ending → (kept : KeptRevisions)
       → kept.first ≡ tally.first → kept.numbers ≡ numbers ++ ended_numbers settings tally.present
       → AreKeptIn settings dump kept
@@ -195,7 +195,7 @@ module _ (settings : Settings) (dump : List ℕ) (cutter after : CutterState) (t
   all_kept_ok ending ends (Ok kept) first_is are = all_kept_in ending ends (kept_view kept) first_is are
   all_kept_ok ending ends (Err none) first_is are = tt
 
--- the order of the kept numbers makes no difference to a new one
+-- a new number doesn't depend on the order of the kept numbers
 written_sorted : (settings : Settings) (first number : ℕ) (numbers sorted : List ℕ) → IsPermutation numbers sorted
     → written_number settings (record { first = first; numbers = sorted }) number
     ≡ written_number settings (record { first = first; numbers = numbers }) number
@@ -203,7 +203,7 @@ written_sorted settings first number numbers sorted same =
     ap (λ c. if settings.renumber then first + c else number)
     (sum_by-IsPermutation (λ k. cond (nat_lt k number) 1 0) numbers sorted same)
 
--- the line of a kept revision, by the number that is found for it
+-- the line of a kept revision, with the number that is found for it
 pub line_pushed : (settings : Settings) (kept : KeptRevisions) (sorted : List ℕ) (number written : ℕ)
     (old new : List ℕ) → IsPermutation kept.numbers sorted
     → written ≡ written_number settings (record { first = kept.first; numbers = sorted }) number

@@ -1,11 +1,11 @@
--- Worked values of the map of revisions, computed and proved by the kernel.
+-- Examples of the map of revisions; the checker computes and proves them.
 use Rattle.dump_survey.proofs.Prelude.{◌≡◌, Bool, true, false, List, [], ◌∷◌, refl, codes, DumpRecord, Include, Pad, DropEmptied, DropAll, Settings, kept_revisions, written_number, version, one, trunk, two, other, three}
 use Rattle.std.specs.Fmt.{digits}
 use Rattle.dump_rules.specs.declared.options.Empty.{Empty}
 use Rattle.dump_history.proofs.values.WorkedDump.{zero}
 use Rattle.dump_survey.specs.RevisionMap.{map_line}
 
--- revision 0 has no node, 1 a kept one, 2 a dropped one, and 3 none
+-- revision 0 has no node, 1 has a kept node, 2 has a dropped one, and 3 has none
 abbrev worked : List DumpRecord
 worked = version ∷ zero ∷ one ∷ trunk ∷ two ∷ other ∷ three ∷ []
 
@@ -35,13 +35,13 @@ renumbered = refl
 number_stays : written_number (trunk_alone DropEmptied false) (kept_revisions (trunk_alone DropEmptied false) worked) 3 ≡ 3
 number_stays = refl
 
--- a line
+-- the line of a revision
 lowered : map_line (trunk_alone DropEmptied true) (record { first = 0; numbers = 0 ∷ 1 ∷ 3 ∷ [] }) 3
     ≡ codes "r3 becomes r2\n"
 unfolding map_line digits
 lowered = refl
 
--- a part of a history counts from its first revision, which may be left out
+-- a partial dump counts from its first revision, which may be dropped
 from_the_first : map_line (trunk_alone DropAll true) (record { first = 7; numbers = 9 ∷ 12 ∷ [] }) 12
     ≡ codes "r12 becomes r8\n"
 unfolding map_line digits

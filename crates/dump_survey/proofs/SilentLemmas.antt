@@ -1,4 +1,4 @@
--- Where nothing that matters is reported, nothing that matters is found in the groups.
+-- If nothing that matters is reported, nothing that matters is found in the groups.
 use Rattle.dump_survey.proofs.Prelude.{◌≡◌, ℕ, Bool, true, false, not, ◌&&◌, ◌||◌, ◌==◌, List, [], ◌∷◌, ◌++◌, length, flat_map, map, None, IsTrue, IsFalse, refl, sym, ap, ◌∙◌, subst, arith, append-nil, append_assoc, list_all, list_any, and_from, ne_eqb, first_true, second_true, both_true, first_false, second_false, not_true, not_false, not_so, false_true, records_once, DumpRecord, Ending, HasRecords, FaultKind, CopySource, Settings, keeps_path, is_node, node_path, has_lost_source, is_whole_file, HoldsOfRecord, LengthsFit, IsCleanText, Patching, Finding, DumpFinding, AreDumpFindingsOf, is_obstacle, is_alarm, none_is, DumpRestricts, surveyed_dump, DumpReport, place_in, AreDumpReports, reported_prefixes, prefix_lines, NodeReport, reported_view, AreReported, survey_ending, all_findings, none_reported, SilentSurveyRestricts, SilentTextRestricts, SilentTextLeavesDigests, is_digest_fault, IsSurveyText, FindsNothing, stops_at, stops_somewhere, wanted_path, matches_itself, ArePrefixesToAddIn, AreAddedPrefixLines}
 use Rattle.dump_survey.specs.Lines.{node_line, dump_line, dump_words, broken_line, ending_line}
 use Rattle.dump_survey.proofs.DigestLemmas.{digests_alone}
@@ -36,7 +36,7 @@ module _ (test : Finding → Bool) where
 
 module _ (patched : Patching) (settings : Settings) (dump text : List ℕ) (records : List DumpRecord)
     (clean : IsCleanText settings dump records text) (fit : LengthsFit settings records) where
-  -- where nothing that matters is reported of the dump, the law has its premise
+  -- if nothing that matters is reported of the dump, the premise of the law is true
   silent : (theirs : List DumpRecord) (ending : Ending) (reported : List NodeReport) → HasRecords dump theirs ending
       → AreReported settings [] None theirs reported → AreDumpFindingsOf settings theirs []
       → IsTrue (none_reported is_obstacle reported) → IsTrue (none_reported is_alarm reported)
@@ -50,7 +50,7 @@ module _ (patched : Patching) (settings : Settings) (dump text : List ℕ) (reco
       (none_of_groups is_obstacle found (ap (list_any is_obstacle) (sym all) ∙ not_true _ no_obstacle))
       (none_of_groups is_alarm found (ap (list_any is_alarm) (sym all) ∙ not_true _ no_alarm))
 
--- a survey in which nothing that matters is reported gives the law its premise
+-- so the law holds after a survey that reports nothing that matters
 pub silent_restricts : SilentSurveyRestricts
 silent_restricts patched settings dump text records survey clean fit is nothing no_obstacle no_alarm =
     silent patched settings dump text records clean fit is.records (survey_ending survey.end.end)
@@ -69,13 +69,13 @@ both_none : (xs ys : List ℕ) → xs ++ ys ≡ [] → (xs ≡ []) × (ys ≡ []
 both_none [] ys none = (refl, none)
 both_none (x ∷ xs) ys none = cc
 
--- a line of a node has bytes
+-- the line of a node isn't empty
 no_lines : (reported : List NodeReport) → flat_map node_line reported ≡ [] → reported ≡ []
 unfolding node_line
 no_lines [] none = refl
 no_lines (t ∷ reported) none = cc
 
--- and so has one of the whole dump
+-- the line of a finding in the dump as a whole isn't empty
 some_words : (f : DumpFinding) → dump_words f ≡ [] → ⊥
 unfolding dump_words
 some_words DumpFinding.NoRevision none = cc
@@ -87,7 +87,7 @@ some_words DumpFinding.SourceBefore none = cc
 some_words DumpFinding.NodeOutside none = cc
 some_words DumpFinding.NumbersLeft none = cc
 
--- and so has what ends the list of records
+-- the line about the end of the list of records isn't empty
 no_ending : (count : ℕ) (ending : Ending) → ending_line count ending ≡ [] → ending ≡ Ending.Whole
 unfolding broken_line
 no_ending count Ending.Whole none = refl
@@ -99,7 +99,7 @@ no_dump_lines [] none = refl
 no_dump_lines (t ∷ reported) none = absurd (some_words t.finding
     (both_none (dump_words t.finding) _ (both_none (dump_line t) (flat_map dump_line reported) none).0).0)
 
--- where no line is written nothing is reported
+-- if no line is written, nothing is reported
 module _ (settings : Settings) (dump said : List ℕ) (is : IsSurveyText settings dump said false) where
   each_part : (flat_map node_line is.reported ≡ []) × (flat_map dump_line is.of_dump ≡ [])
       × (ending_line (length is.records) is.ending ≡ [])
@@ -120,7 +120,7 @@ module _ (settings : Settings) (dump said : List ℕ) (is : IsSurveyText setting
   whole : is.ending ≡ Ending.Whole
   whole = no_ending (length is.records) is.ending each_part.2
 
--- so nothing that matters
+-- so nothing that matters is reported
 pub silent_text_restricts : SilentTextRestricts
 silent_text_restricts patched settings dump text said records clean fit is =
     let reported = none_reported_of_nodes settings dump said is in
@@ -132,7 +132,7 @@ silent_text_restricts patched settings dump text said records clean fit is =
     none [] same test = refl
     none (t ∷ reported) same test = cc
 
--- and the filter stops for a digest alone
+-- and the filter stops only for a digest
 pub silent_text_leaves_digests : SilentTextLeavesDigests
 silent_text_leaves_digests settings dump said is = (
   is.records,
@@ -142,7 +142,7 @@ silent_text_leaves_digests settings dump said is = (
       (subst (AreReported settings [] None is.records) (none_reported_of_nodes settings dump said is) is.are_reported) are holds,
 )
 
--- and nothing is to be kept as well
+-- there is no prefix to add
 module _ (settings : Settings) (records : List DumpRecord)
     (digests : (before after : List DumpRecord) (r : DumpRecord) (kind : FaultKind) → records ≡ before ++ r ∷ after
     → HoldsOfRecord settings before r kind → IsTrue (is_digest_fault kind)) where

@@ -1,4 +1,4 @@
--- What a survey has reported so far goes on to one more record.
+-- What a survey has reported so far, and what it has reported after one more record.
 use Rattle.dump_survey.proofs.Prelude.{◌≡◌, ℕ, ◌+◌, ◌≤◌, List, [], ◌∷◌, ◌++◌, length, length-append, Option, None, refl, sym, ap, ap₂, ◌∙◌, subst, arith, append-nil, append_assoc, DumpRecord, BeginsWithRecords, HasRecords, begins_prefix, begins_once, count_fits, Settings, Node, Finished, SurveyedNode, SurveyEnd, reported_at_end, ArePlaces, AreDumpReports, NodeReport, present_after, IsReportedOf, AreReported, reported_of_node, PrefixReport, reported_prefixes, survey_ending, Surveying, ComesNext, open_behind, SurveyStep, ArePrefixesReported}
 use Rattle.dump_survey.specs.declared.findings.surveyor.Step.TheVariants.{Other}
 
@@ -11,7 +11,7 @@ pub record HaveReported (settings : Settings) (dump : List ℕ) (state : Surveyi
   pub count : length before ≡ state.number
   pub reported : AreReported settings [] None before so_far
 
--- what is reported of records and of one more
+-- what is reported of some records and one more
 reported_more : (settings : Settings) (before : List DumpRecord) (present : Option ℕ) (records : List DumpRecord)
     (r : DumpRecord) (reported this : List NodeReport) → AreReported settings before present records reported
     → IsReportedOf settings (before ++ records) (open_behind present records) r this
@@ -35,7 +35,7 @@ reported_more settings before present (x ∷ records) r reported this (first, ot
 
 module _ (settings : Settings) (dump : List ℕ) (state after : Surveying) (reported : List NodeReport)
     (so_far : HaveReported settings dump state reported) where
-  -- the records before the next one are those that were reported
+  -- the records before the next one are the records that were reported
   pub same_before : (before : List DumpRecord) (r : DumpRecord) → ComesNext state before r after → before ≡ so_far.before
   same_before before r next = begins_once dump before so_far.before (next.count ∙ sym so_far.count)
       (begins_prefix dump before (r ∷ []) (subst (λ d. BeginsWithRecords d (before ++ r ∷ [])) so_far.dump_is next.begins))
@@ -58,7 +58,7 @@ module _ (settings : Settings) (dump : List ℕ) (state after : Surveying) (repo
             (subst (λ s. IsReportedOf s before (open_behind None before) r this) so_far.settings_is is);
       }
 
-  -- a node's findings are reported
+  -- the findings of a node are reported
   pub node_reported : (node : SurveyedNode) → SurveyStep state (Node node) after
       → HaveReported settings dump after (reported ++ reported_of_node node)
   node_reported node (before, next, number, node_is, is) = more before _ (reported_of_node node) next is
@@ -67,7 +67,7 @@ module _ (settings : Settings) (dump : List ℕ) (state after : Surveying) (repo
   pub nothing_reported : SurveyStep state Other after → HaveReported settings dump after reported
   nothing_reported (before, r, next, is) = subst (HaveReported settings dump after) (append-nil reported) (more before r [] next is)
 
-  -- one more record is nearer to the end
+  -- after one more record the surveyor is nearer to the end of the dump
   nearer : (before : List DumpRecord) (r : DumpRecord) → ComesNext state before r after
       → (after.number ≡ state.number + 1) × (after.number ≤ length dump)
   nearer before r next =
@@ -85,7 +85,7 @@ module _ (settings : Settings) (dump : List ℕ) (state after : Surveying) (repo
   pub other_nearer : SurveyStep state Other after → (after.number ≡ state.number + 1) × (after.number ≤ length dump)
   other_nearer (before, r, next, is) = nearer before r next
 
-  -- where they end the prefixes are reported by those that were reported
+  -- when the records end, the reports of the prefixes are those by the reported records
   pub prefixes_reported : (end : SurveyEnd) (reported : List PrefixReport) → SurveyStep state (Finished end) after
       → ArePrefixesReported after reported → reported ≡ reported_prefixes so_far.before settings.prefixes
   prefixes_reported end reported (all, has, all_count, found, places, same) are =
@@ -94,7 +94,7 @@ module _ (settings : Settings) (dump : List ℕ) (state after : Surveying) (repo
       (begins_once dump records so_far.before (count ∙ sym so_far.count)
       (subst (λ d. BeginsWithRecords d records) so_far.dump_is begins) so_far.begins)
 
-  -- where the records end all are reported
+  -- when the records end, all findings were reported
   pub all_reported : (end : SurveyEnd) → SurveyStep state (Finished end) after
       → HasRecords dump so_far.before (survey_ending end.end)
       × AreDumpReports settings so_far.before (reported_at_end end) × ArePlaces settings so_far.before end.places

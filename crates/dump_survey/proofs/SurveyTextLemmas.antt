@@ -1,11 +1,12 @@
--- Each dump has the text of a survey, and what was reported of its first records is a first part of it.
+-- Each dump has the text of a survey, and the lines of what is reported of its first records are a first part of the
+-- text.
 use Rattle.dump_survey.proofs.Prelude.{◌≡◌, ℕ, Bool, true, false, not, ◌==◌, List, [], ◌∷◌, ◌++◌, take, drop, length, map, flat_map, Option, Some, None, MatchBool, refl, sym, ap, ◌∙◌, subst, append_assoc, flat_map-append, DumpRecord, BeginsWithRecords, each_dump_has_one_list, is_front, Settings, is_node, IsPrefixOf, findings_once, NodeReport, reported_in, present_after, IsReportedOfNode, IsReportedOf, AreReported, DumpReport, kind_lines, times_reported, dump_line, reported_prefixes, prefix_lines, IsSurveyText, survey_lines}
 use Rattle.std.proofs.Common.{take-append-drop}
 use Rattle.dump_survey.specs.Lines.{node_line, ending_line}
 use Rattle.dump_survey.proofs.PlaceLemmas.{each_dump_reported}
 use Rattle.dump_survey.proofs.TieLemmas.{reported_once}
 
--- something is reported of each record, if only nothing
+-- for each record there are reports, possibly none
 reported_of_record : (settings : Settings) (before : List DumpRecord) (present : Option ℕ) (r : DumpRecord)
     → (reported : List NodeReport) × IsReportedOf settings before present r reported
 reported_of_record settings before None r = ([], refl)
@@ -18,7 +19,7 @@ reported_of_record settings before (Some revision) r = by (is_node r)
         (map (reported_in settings (length before) revision r) found, (found, are, refl))
     by false = ([], refl)
 
--- and of any records
+-- the same for a list of records
 reported_of_records : (settings : Settings) (before : List DumpRecord) (present : Option ℕ) (records : List DumpRecord)
     → (reported : List NodeReport) × AreReported settings before present records reported
 reported_of_records settings before present [] = ([], refl)
@@ -27,7 +28,7 @@ reported_of_records settings before present (r ∷ records) =
     let (others, more) = reported_of_records settings (before ++ r ∷ []) (present_after present r) records in
     (this ++ others, (this, others, refl, one, more))
 
--- what is reported of records begins with what is reported of the first of them
+-- the reports of some records begin with the reports of the first of them
 reported_front : (settings : Settings) (before : List DumpRecord) (present : Option ℕ) (records rest : List DumpRecord)
     (reported : List NodeReport) → AreReported settings before present (records ++ rest) reported
     → (front behind : List NodeReport) × (reported ≡ front ++ behind) × AreReported settings before present records front
@@ -41,7 +42,7 @@ reported_front settings before present (r ∷ records) rest reported (this, othe
       (this, front, refl, one, are),
     )
 
--- the text of a survey begins with the lines of what is reported of the first records
+-- the text of a survey begins with the lines of the reports of the first records
 pub begins_text : (settings : Settings) (dump : List ℕ) (before : List DumpRecord) (reported : List NodeReport)
     → BeginsWithRecords dump before → AreReported settings [] None before reported
     → (text : List ℕ) × (found : Bool) × IsSurveyText settings dump text found

@@ -1,4 +1,4 @@
--- What a surveyor knows goes on to one more record, and tells what is found where the records end.
+-- What a surveyor knows after one more record, and what it finds when the records end.
 use Rattle.dump_survey.proofs.Prelude.{◌≡◌, ◌⊎◌, ◌↔◌, ℕ, ◌+◌, ◌^◌, ◌<◌, ◌≤◌, Bool, true, false, not, ◌&&◌, ◌||◌, List, [], ◌∷◌, ◌++◌, length, length-append, map, filter, cond, Option, Some, None, refl, sym, ap, ap₂, ◌∙◌, subst, arith, inl, inr, Result, Ok, Err, IsTrue, MatchBool, list_all, and_from, Record, DumpRecord, record_text, is_lawful, IsCutInto, BeginsWithRecords, HasRecords, CutterState, EndsAfter, IsRecordOf, record_item, record_number, CutStep, count_fits, each_dump_has_one_list, begins_prefix, one_more, whole_list, Settings, bare_prefix, is_revision_record, is_node, alone, Place, DumpFindings, Tally, leaves_number, LeaveNumber, no_tally, next_tally, numbers_of, tally_behind, tally_findings, no_places, AreNextPlaces, ArePlaces, Finding, every_finding, is_found, AreFindingsOf, IsUnreadRevision, HasUnreadRevision, AreDumpFindingsOf, TellsNaming, findings_once, Found, End, Known, SurveyEnd, Step, Node, Finished, Memory, Numbers, has_found, node_faults, IsFoundIn, AreNumbersBehind, SurveyedNode, NodeReport, IsReportedOfNode, IsReportedOf, reported_in, reported_naming, listed, reported_of_finding, reported_of_node, listed_findings, survey_ending, HaveSame, PrefixReport, AreWithout, is_touched_by, prefixes_by, Surveying, Surveys, IsStepOf, ReportsEnd, ComesNext, open_behind, SurveyStep, ArePrefixesReported}
 use Rattle.std.specs.Result.{IfOk}
 use Rattle.dump_records.specs.declared.cutter.Cut.TheVariants as cuts
@@ -10,7 +10,7 @@ use Rattle.dump_survey.proofs.UnreadLemmas.{none_unread, unread_more}
 use Rattle.dump_survey.proofs.NumberLemmas.{numbers_behind}
 use Rattle.dump_survey.proofs.PlaceLemmas.{no_places_yet, places_next, reported_where_ended}
 
--- a lawful record is no node that is a revision too
+-- a lawful record isn't both a node and a revision
 single : (number : ℕ) (r : DumpRecord) → is_lawful number r.headers ≡ true
     → is_single r ≡ true
 single number r lawful = by (is_node r) refl
@@ -19,7 +19,7 @@ single number r lawful = by (is_node r) refl
     by true node = ap not (alone number r lawful node)
     by false other = refl
 
--- the records of a dump are such
+-- the records of a dump aren't both either
 singles : (number place : ℕ) (text rest : List ℕ) (records : List DumpRecord)
     → IsCutInto number place text records rest → list_all is_single records ≡ true
 singles number place text rest [] cut = refl
@@ -31,7 +31,7 @@ pub begun_single : (dump : List ℕ) (records : List DumpRecord) → BeginsWithR
     → list_all is_single records ≡ true
 begun_single dump records (rest, cut, versions) = singles 0 0 dump rest records cut
 
--- the next record stands behind those that came
+-- the next record comes after the earlier ones
 pub comes_next : (dump : List ℕ) (before : List DumpRecord) (number : ℕ) (r : DumpRecord)
     → BeginsWithRecords dump before → length before ≡ number → IsRecordOf dump number r
     → BeginsWithRecords dump (before ++ r ∷ [])
@@ -41,13 +41,13 @@ comes_next dump before number r begins count next =
 module _ (dump : List ℕ) (cutter after : CutterState) (before : List DumpRecord) (dump_is : cutter.dump ≡ dump)
     (begins : BeginsWithRecords dump before) (count : length before ≡ cutter.number) (item : Record)
     (step : CutStep cutter (cuts.Item item) after) where
-  -- so does that which a cutter gives
+  -- so does the record that a cutter returns
   pub begins_next : BeginsWithRecords dump (before ++ record_item item ∷ [])
   begins_next = subst (λ d. BeginsWithRecords d (before ++ record_item item ∷ [])) dump_is
       (comes_next cutter.dump before cutter.number (record_item item)
       (subst (λ d. BeginsWithRecords d before) (sym dump_is) begins) count step.2)
 
-  -- and the cutter is nearer to the end
+  -- and the cutter is nearer to the end of the dump
   pub nearer_by_one : (after.number ≡ cutter.number + 1) × (after.number ≤ length dump)
   nearer_by_one =
       let more = begins_next in
@@ -56,13 +56,13 @@ module _ (dump : List ℕ) (cutter after : CutterState) (before : List DumpRecor
       let number = ap (λ (c : CutterState). c.number) step.3 in
       (number, omega (arith, count))
 
--- a dump begins with no records
+-- each dump begins with the empty list of records
 pub begins_with_none : (dump : List ℕ) → BeginsWithRecords dump []
 begins_with_none dump =
     let (records, ending, has, once) = each_dump_has_one_list dump in
     begins_prefix dump [] records (has.0, has.1, has.2)
 
--- before the first record
+-- the state before the first record
 pub at_first : (dump : List ℕ) (settings : Settings) (prefixes : List (List ℕ)) (known : Known) (cutter : CutterState)
     → cutter ≡ record { dump = dump; number = 0 } → prefixes ≡ map bare_prefix settings.prefixes
     → HaveSame known.idle (map bare_prefix settings.prefixes) → known.tally ≡ no_tally → known.numbers_left ≡ false
@@ -79,7 +79,7 @@ at_first dump settings prefixes known cutter is same all none not_left no_unread
   places_are = subst (ArePlaces settings []) (sym no_place) (no_places_yet settings);
 }
 
--- what is found is what is found in the node
+-- what is found by the program is what is found in the node
 found_is : (settings : Settings) (before : List DumpRecord) (numbers : Numbers) (r : DumpRecord) (found : Found)
     → AreNumbersBehind settings before r numbers → IsFoundIn settings numbers r found
     → AreFindingsOf settings before r (listed found)
@@ -119,7 +119,7 @@ reported_as settings numbers node (faults, exact, named) =
         by true is more = ap₂ (λ t ts. t ∷ ts) (same f is) more
         by false is more = more
 
--- what is found in a node of a revision is reported of it
+-- the findings in a node of a revision are reported of it
 reported_of : (settings : Settings) (before : List DumpRecord) (revision : ℕ) (r : DumpRecord) (found : List Finding)
     (reported : List NodeReport) → is_node r ≡ true → AreFindingsOf settings before r found
     → reported ≡ map (reported_in settings (length before) revision r) found → IsReportedOf settings before (Some revision) r reported
@@ -129,11 +129,11 @@ reported_of settings before revision r found reported node are is =
 
 module _ (settings : Settings) (prefixes : List (List ℕ)) (known : Known) (cutter after : CutterState)
     (knows : Surveys settings prefixes known cutter) where
-  -- the surveyor as callers see it
+  -- the surveyor as its callers see it
   abbrev seen : CutterState → Surveying
   seen c = record { dump = c.dump; settings = settings; number = c.number }
 
-  -- what is known where the records end
+  -- what is known when the records end
   pub ended : (end : End) (reported : SurveyEnd) → EndsAfter cutter.dump cutter.number (survey_ending end)
       → after ≡ cutter → ReportsEnd known end reported
       → SurveyStep (seen cutter) (Finished reported) (seen after)
@@ -168,13 +168,13 @@ module _ (settings : Settings) (prefixes : List (List ℕ)) (known : Known) (cut
         let fits = item.counted in
         omega arith
 
-    -- the tally goes on with the record
+    -- the tally after the record
     next_tallied : (next : Tally) → next ≡ next_tally settings known.tally (record_item item)
         → next ≡ tally_behind settings no_tally (knows.before ++ record_item item ∷ [])
     next_tallied next is = is ∙ (ap (λ t. next_tally settings t (record_item item)) knows.tallied
         ∙ sym (tally_more settings no_tally knows.before (record_item item)))
 
-    -- and so does what is known of numbers that are left
+    -- whether numbers are left after the record
     next_left : (still : Bool) → ((names : DumpRecord → Bool) → TellsNaming names
         → still ≡ (known.numbers_left || leaves_number settings names known.tally (record_item item)))
         → LeaveNumber settings (knows.before ++ record_item item ∷ []) still
@@ -196,7 +196,7 @@ module _ (settings : Settings) (prefixes : List (List ℕ)) (known : Known) (cut
         (tally_tells settings (knows.before ++ record_item item ∷ []) still unread_still
         (begun_single cutter.dump (knows.before ++ record_item item ∷ []) next_begins) left_is unread_is)
 
-    -- and the surveyor goes on
+    -- and the surveyor's state after the record
     pub goes_on : (next : Known) → AreWithout (is_touched_by (record_item item)) known.idle next.idle
         → next.tally ≡ next_tally settings known.tally (record_item item)
         → ((names : DumpRecord → Bool) → TellsNaming names
@@ -233,7 +233,7 @@ module _ (settings : Settings) (prefixes : List (List ℕ)) (known : Known) (cut
     present : present_number known.tally.present ≡ open_behind None knows.before
     present = ap (λ (t : Tally). present_number t.present) knows.tallied ∙ present_is settings no_tally knows.before
 
-    -- what is found in the record is reported
+    -- the findings in the record are reported
     pub stepped : (reported : Step) → IsStepOf settings item known.tally reported → SurveyStep (seen cutter) reported (seen after)
     stepped (Finished end) is = absurd is
     stepped Other is = (
@@ -284,13 +284,13 @@ module _ (settings : Settings) (prefixes : List (List ℕ)) (known : Known) (cut
             (begun_single cutter.dump (knows.before ++ record_item item ∷ []) next_begins)) node_is
             (ap (λ (t : Tally). present_number t.present) (sym knows.tallied) ∙ revision))
 
-    -- so where there was memory
+    -- the same for a result, if memory doesn't run out
     pub stepped_ok : (result : Result Step Memory) → IfOk result (IsStepOf settings item known.tally)
         → IfOk result (λ reported. SurveyStep (seen cutter) reported (seen after))
     stepped_ok (Ok reported) is = stepped reported is
     stepped_ok (Err e) is = tt
 
--- what is reported of the prefixes, where there was memory
+-- what is reported of the prefixes, if memory doesn't run out
 pub reported_so_far : (settings : Settings) (prefixes : List (List ℕ)) (known : Known) (cutter : CutterState)
     → Surveys settings prefixes known cutter → (given : List (List ℕ)) → given ≡ settings.prefixes
     → {V : Type 0} (view : V → List PrefixReport) (result : Result V Memory)

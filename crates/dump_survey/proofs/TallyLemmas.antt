@@ -1,4 +1,4 @@
--- The tally of a dump's revisions, record by record, tells what is found in the dump as a whole.
+-- The tally of a dump's revisions, record by record, says what is found in the dump as a whole.
 use Rattle.dump_survey.proofs.Prelude.{◌≡◌, ℕ, suc, ◌+◌, ◌≤◌, ◌==◌, Bool, true, false, not, ◌&&◌, ◌||◌, List, [], ◌∷◌, ◌++◌, length, filter, map, take_while, Option, Some, None, is_some, option_map, if◌then◌else◌, cond, refl, sym, ap, ap₂, ◌∙◌, arith, and-true, and_assoc, or-false, or-true, or_assoc, list_all, list_any, and_parts, eqb-true, take_while-cons, DumpRecord, Settings, is_revision_record, is_node, is_kept_node, group_of, groups, group_number, first_number, revision_number, revision_numbers, keeps_empty, counts_from, has_ordered_nodes, go_up, DumpFinding, rise, begins_at, copies_from_before, has_source_before, is_found_in_dump, first_has_node, Present, Tally, open_behind, no_tally, keeps_open, first_with, is_above_last, revision_tally, node_tally, other_tally, next_tally, tally_behind, is_tallied}
 use Rattle.std.proofs.Common.{zero}
 
@@ -12,7 +12,7 @@ node_count : (t : Tally) (kept early : Bool) (p : Option Present) → (node_tall
 node_count t kept early None = refl
 node_count t kept early (Some p) = refl
 
--- how many revisions there are
+-- the number of revisions
 count_is : (settings : Settings) (t : Tally) (records : List DumpRecord)
     → (tally_behind settings t records).count ≡ t.count + length (groups records)
 count_is settings t [] = omega arith
@@ -27,7 +27,7 @@ count_is settings t (r ∷ records) = by (λ u. count_is settings u records) (is
         ∙ ap (λ c. c + length (groups records)) (node_count t (is_kept_node settings r) (copies_from_before t.first r) t.present)
     by more false false = more (other_tally settings t)
 
--- there are at most as many as records
+-- there are at most as many revisions as records
 pub count_within : (settings : Settings) (t : Tally) (records : List DumpRecord)
     → (tally_behind settings t records).count ≤ t.count + length records
 count_within settings t [] = omega arith
@@ -76,15 +76,15 @@ pub node_begins : (t : Tally) (kept early : Bool) (p : Option Present) → (node
 node_begins t kept early None = refl
 node_begins t kept early (Some p) = refl
 
--- the number of the first revision, where so many came, the first of them with this number, and then those of these
--- numbers
+-- the number of the first revision, if there were this many revisions, the first of them with this number, and if then
+-- revisions with these numbers follow
 abbrev first_of : ℕ → ℕ → List ℕ → ℕ
 first_of count first numbers = if count == 0 then first_number numbers else first
 
 one_more : (n : ℕ) → (n + 1 == 0) ≡ false
 one_more n = grind arith
 
--- behind one more revision that number is known
+-- after one more revision that number is known
 first_known : (t : Tally) (number : ℕ) (numbers : List ℕ)
     → first_of (t.count + 1) (first_with t number) numbers ≡ first_of t.count t.first (number ∷ numbers)
 first_known t number numbers =
@@ -119,12 +119,12 @@ begins_is settings t (r ∷ records) none =
         ∙ ap₂ (λ c f. first_of c f (revision_numbers records)) count first
     by more false false = more (other_tally settings t) none
 
--- so of all records
+-- the same for all records
 pub begins_at_is : (settings : Settings) (records : List DumpRecord)
     → (tally_behind settings no_tally records).first ≡ begins_at records
 begins_at_is settings records = begins_is settings no_tally records (λ is. refl)
 
--- whether they are numbered on from the first one
+-- whether the numbers go up by one from the first number
 numbered_is : (settings : Settings) (t : Tally) (records : List DumpRecord)
     → (tally_behind settings t records).numbered
     ≡ (t.numbered
@@ -168,7 +168,7 @@ node_rising : (t : Tally) (kept early : Bool) (p : Option Present)
 node_rising t kept early None = (refl, refl)
 node_rising t kept early (Some p) = (refl, refl)
 
--- whether these numbers rise, behind the last one before them, if there is one
+-- whether these numbers rise after the last number before them, if there is one
 abbrev rise_behind : Option ℕ → List ℕ → Bool
 rise_behind None numbers = rise numbers
 rise_behind (Some last) numbers = go_up last numbers
@@ -182,7 +182,7 @@ number_behind : (last : Option ℕ) (number : ℕ) (numbers : List ℕ)
 number_behind None number numbers = refl
 number_behind (Some last) number numbers = refl
 
--- whether they rise
+-- whether the revision numbers rise
 rising_is : (settings : Settings) (t : Tally) (records : List DumpRecord)
     → (tally_behind settings t records).rising ≡ (t.rising && rise_behind t.last (revision_numbers records))
 rising_is settings t [] = sym (ap (λ b. t.rising && b) (none_behind t.last) ∙ and-true t.rising)
@@ -215,11 +215,11 @@ nodes_more r records is = take_while-cons is_node r records ∙ ap (λ b. cond b
 pub nodes_none : (r : DumpRecord) (records : List DumpRecord) → is_node r ≡ false → nodes (r ∷ records) ≡ []
 nodes_none r records is = take_while-cons is_node r records ∙ ap (λ b. cond b (r ∷ nodes records) []) is
 
--- whether the record is no node that is a revision too
+-- whether the record isn't both a node and a revision
 abbrev pub is_single : DumpRecord → Bool
 is_single r = not (is_node r && is_revision_record r)
 
--- whether the present revision is kept, where these nodes follow
+-- whether the present revision is kept if these nodes follow
 abbrev pub closes : Settings → Option Present → List DumpRecord → Bool
 closes settings None ns = true
 closes settings (Some p) ns =
@@ -235,7 +235,7 @@ pub some_left : (n : ℕ) (b : Bool) → (b && (suc n == 0)) ≡ false
 some_left n true = grind arith
 some_left n false = refl
 
--- whether the first revision has a node, where so many came already and this one is present
+-- whether the first revision has a node, if there were this many revisions and this is the present one
 abbrev first_has : ℕ → Option Present → List DumpRecord → Bool
 first_has zero p records = first_has_node (groups records)
 first_has (suc zero) None records = false
@@ -337,7 +337,7 @@ first_is settings t (r ∷ records) single n count =
     first_step settings t r records (λ u m is. first_is settings u records parts.1 m is) n count (is_revision_record r)
     (is_node r) refl refl parts.0
 
--- whether a node stands outside of any revision, by the tally and by the records
+-- whether a node is outside of any revision, by the tally and by the records
 outside_is : (settings : Settings) (t : Tally) (records : List DumpRecord) → list_all is_single records ≡ true
     → (tally_behind settings t records).node_outside
     ≡ (t.node_outside || not (has_ordered_nodes (is_some t.present) records))
@@ -370,7 +370,7 @@ abbrev own_before : ℕ → Option Present → List DumpRecord → Bool
 own_before first None ns = false
 own_before first (Some p) ns = list_any (copies_from_before first) ns
 
--- whether a node of the present revision, or of one behind it, is a copy from before the first revision
+-- whether a node of the present revision, or of a later one, is a copy from before the first revision
 abbrev later_before : Tally → List DumpRecord → Bool
 later_before t records = own_before t.first t.present (nodes records)
     || has_source_before (first_of t.count t.first (revision_numbers records)) (groups records)
@@ -378,7 +378,7 @@ later_before t records = own_before t.first t.present (nodes records)
 module _ (settings : Settings) (t : Tally) (r : DumpRecord) (records : List DumpRecord)
     (more : (u : Tally) → (tally_behind settings u records).source_before
     ≡ (u.source_before || later_before u records)) where
-  -- behind a record that is no node the present revision has its nodes
+  -- after a record that is no node, the present revision has all its nodes
   none_before : (first : ℕ) (p : Option Present) → is_node r ≡ false → own_before first p (nodes (r ∷ records)) ≡ false
   none_before first None other = refl
   none_before first (Some p) other = ap (list_any (copies_from_before first)) (nodes_none r records other)
@@ -452,7 +452,7 @@ source_is settings t (r ∷ records) single =
 zero_more : (n : ℕ) → 0 + n ≡ n
 zero_more n = omega arith
 
--- what the tally of all records tells is found in the dump, finding by finding, where numbers are left so
+-- the tally of all records says, finding by finding, what is found in the dump, with this answer about left numbers
 pub each_tallied : (settings : Settings) (records : List DumpRecord) → list_all is_single records ≡ true
     → (left named unread : Bool) → left ≡ (not settings.renumber && named) → (f : DumpFinding)
     → is_tallied (tally_behind settings no_tally records) left unread f
@@ -472,7 +472,7 @@ each_tallied settings records single left named unread left_is DumpFinding.Sourc
 each_tallied settings records single left named unread left_is DumpFinding.NodeOutside = outside_is settings no_tally records single
 each_tallied settings records single left named unread left_is DumpFinding.NumbersLeft = left_is
 
--- tests that are the same leave the same
+-- equal tests filter equally
 pub filter_same : {X : Type 0} (p q : X → Bool) → ((x : X) → p x ≡ q x) → (xs : List X) → filter p xs ≡ filter q xs
 filter_same p q same [] = refl
 filter_same p q same (x ∷ xs) =

@@ -3,7 +3,7 @@ use Rattle.dump_survey.proofs.Prelude.{◌≡◌, ℕ, Bool, true, false, not, �
 use Rattle.dump_survey.proofs.TallyLemmas.{nodes, nodes_more, nodes_none, is_single}
 use Rattle.dump_survey.proofs.SurveyorLemmas.{begun_single}
 
--- the findings of what is reported
+-- the findings of the reports
 abbrev findings : List NodeReport → List Finding
 findings reported = map (λ (t : NodeReport). t.finding) reported
 
@@ -11,8 +11,8 @@ findings reported = map (λ (t : NodeReport). t.finding) reported
 abbrev node_findings : List (List Finding) → List Finding
 node_findings found = flat_map (λ node. node) found
 
--- what is reported are the findings of the nodes that follow in the present revision, and then of the groups, behind the
--- records before
+-- the reports are the findings of the nodes that follow in the present revision, and then those of the groups; these
+-- come after the records before
 record Covers (settings : Settings) (before ns records : List DumpRecord) (reported : List NodeReport) : Type 0 where
   first : List (List Finding)
   found : List (List (List Finding))
@@ -31,13 +31,13 @@ reported_findings settings number revision r [] = refl
 reported_findings settings number revision r (f ∷ found) = ap (λ fs. f ∷ fs) (reported_findings settings number revision r found)
 
 module _ (settings : Settings) (before : List DumpRecord) (r : DumpRecord) (records : List DumpRecord) where
-  -- what is found behind the record
+  -- the findings after the record
   abbrev Own : List (List (List Finding)) → Type 0
   Own found = (first : List (List Finding)) × (others : List (List (List Finding))) × (found ≡ first ∷ others)
       × AreFindingsBehind settings (before ++ r ∷ []) (nodes records) first
       × HaveFindingsBehind settings (before ++ r ∷ []) records others
 
-  -- of a record that is no node nothing is reported
+  -- nothing is reported of a record that is no node
   none_reported : (present : Option ℕ) (this : List NodeReport) → is_node r ≡ false
       → IsReportedOf settings before present r this → this ≡ []
   none_reported None this other is = is
@@ -63,14 +63,14 @@ module _ (settings : Settings) (before : List DumpRecord) (r : DumpRecord) (reco
     same = ap (λ l. findings (l ++ others)) (none_reported present this other is) ∙ rest.same;
   }
 
-  -- in another record none begins
+  -- no group begins at another record
   behind_other : (found : List (List (List Finding))) → is_revision_record r ≡ false
       → HaveFindingsBehind settings (before ++ r ∷ []) records found
       → HaveFindingsBehind settings before (r ∷ records) found
   behind_other found rev have = subst (λ (b : Bool). MatchBool b (Own found)
       (HaveFindingsBehind settings (before ++ r ∷ []) records found)) (sym rev) have
 
-  -- a record that is neither a node nor a revision ends one
+  -- a record that is neither a node nor a revision ends a group
   covers_other : (present : Option ℕ) (this others : List NodeReport) → is_node r ≡ false
       → is_revision_record r ≡ false → IsReportedOf settings before present r this
       → Covers settings (before ++ r ∷ []) [] records others
@@ -136,7 +136,7 @@ covers settings before present (r ∷ records) reported single (this, others, re
     (covers_step settings before r records present this others (is_revision_record r) (is_node r) refl refl parts.0 one
     (covers settings (before ++ r ∷ []) (present_after present r) records others parts.1 more))
 
--- what is reported of a dump's nodes are the findings of its groups
+-- the reports for a dump's nodes are the findings of its groups
 pub reported_are_findings : ReportsAreFindings
 reported_are_findings settings dump records ending reported has is =
     let all = covers settings [] None records reported (begun_single dump records (has.0, has.1, has.2)) is in
@@ -162,6 +162,6 @@ reported_once_from settings before present (r ∷ records) reported others (x, x
     is_too ∙ (ap₂ (λ l m. l ++ m) (one_reported settings before present r x y one one_too)
     (reported_once_from settings (before ++ r ∷ []) (present_after present r) records xs ys more more_too) ∙ sym is)
 
--- and a dump has one list of them
+-- there is only one list of reports for a dump
 pub reported_once : ReportedOnce
 reported_once settings records reported others is too = reported_once_from settings [] None records reported others is too

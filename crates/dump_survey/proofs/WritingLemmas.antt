@@ -1,4 +1,4 @@
--- What a sink took of a survey so far, and what it takes next.
+-- What a sink has taken of a survey so far, and what it takes next.
 use Rattle.dump_survey.proofs.Prelude.{◌≡◌, ◌≤◌, ℕ, ◌+◌, Bool, true, false, not, ◌||◌, ◌==◌, List, [], ◌∷◌, ◌++◌, length, map, flat_map, Option, refl, sym, ap, ap₂, ◌∙◌, subst, append_assoc, append-nil, arith, Result, Ok, Err, OnErr, list_any, or-false, ne_eqb, Appends, Appends-nil, Appends-trans, flat_map-append, Ending, Settings, Finding, every_finding, DumpFinding, each_dump_has_one_list, begins_prefix, IsPrefixOf, Counts, NotShort, Idle, Node, Finished, SurveyEnd, SurveyedNode, listed_findings, reported_at_end, ending_kind_line, finding_kind, kind_line, kind_lines, prefix_kind, times_in_prefixes, times_reported, dump_line, PrefixReport, reported_prefixes, prefix_lines, survey_ending, IsSurveyText, BreaksOffSurvey, NodeReport, AreWithNode, count_in, no_counts, has_found, SurveyStep, reported_of_finding, reported_of_node, Surveying, TakesSome}
 use Rattle.dump_survey.specs.declared.findings.surveyor.Step.TheVariants.{Other}
 use Rattle.dump_survey.specs.Kinds.{dump_kind_line}
@@ -8,17 +8,17 @@ use Rattle.dump_survey.proofs.KindLemmas.{counts_with_node, low_with_node, none_
 use Rattle.dump_survey.proofs.SurveyLemmas.{HaveReported, node_reported, nothing_reported, node_nearer, other_nearer, all_reported}
 use Rattle.dump_survey.proofs.SurveyTextLemmas.{begins_text}
 
--- the lines of all kinds but those of nodes
+-- the lines of all kinds except those of nodes
 abbrev kinds_behind : List DumpFinding → List PrefixReport → Ending → List ℕ
 kinds_behind found prefixes ending = flat_map dump_kind_line found
     ++ (kind_line (times_in_prefixes prefixes NotShort) (prefix_kind NotShort)
     ++ (kind_line (times_in_prefixes prefixes Idle) (prefix_kind Idle) ++ ending_kind_line ending))
 
--- whether there are bytes
+-- whether a text isn't empty
 abbrev pub has_some : List ℕ → Bool
 has_some bytes = not (length bytes == 0)
 
--- the surveyor is at a place of this dump, and the sink took the lines of what was reported of the records before it
+-- the surveyor is at a place of this dump, and the sink has taken the lines of the reports for the records before it
 pub record HasWritten (settings : Settings) (dump : List ℕ) (state : Surveying) (old new : Option (List ℕ))
     (found : Bool) (count : ℕ) (counts : Counts) : Type 0 where
   pub reported : List NodeReport
@@ -36,7 +36,7 @@ some_of_both (x ∷ xs) ys = filled x (xs ++ ys) ∙ sym (ap (λ b. b || has_som
     filled : (y : ℕ) (rest : List ℕ) → has_some (y ∷ rest) ≡ true
     filled y rest = ap not (ne_eqb (length (y ∷ rest)) 0 (λ e. omega (arith, e)))
 
--- what holds of a failure holds where there is one
+-- a true claim is true of a result if that is a failure
 pub at_err : {X E A : Type 0} (r : Result X E) → A → OnErr r A
 at_err (Ok x) is = tt
 at_err (Err e) is = is
@@ -102,7 +102,7 @@ module _ (settings : Settings) (dump : List ℕ) (state after : Surveying) (old 
     low = λ f. let below = so_far.low f in omega (arith, below);
   }
 
-  -- what the sink took is a first part of the text
+  -- the sink has taken a first part of the text
   pub broken_off : BreaksOffSurvey settings dump old new
   broken_off =
       let (text, found, is, begins) =
@@ -115,7 +115,7 @@ module _ (settings : Settings) (dump : List ℕ) (state after : Surveying) (old 
         appended = so_far.appended;
       }
 
-  -- so it is where the sink took some of what followed
+  -- so it has if it took some of what followed
   broken_in : (lines text : List ℕ) (all : Bool) → IsSurveyText settings dump text all
       → IsPrefixOf (flat_map node_line so_far.reported ++ lines) text → TakesSome new newer lines
       → BreaksOffSurvey settings dump old newer
@@ -134,7 +134,7 @@ module _ (settings : Settings) (dump : List ℕ) (state after : Surveying) (old 
     appended = Appends-trans old new newer _ _ so_far.appended appends;
   }
 
-  -- some of the lines of a node
+  -- the sink has taken some of the lines of a node
   pub broken_in_node : (node : SurveyedNode) → SurveyStep state (Node node) after
       → TakesSome new newer (flat_map node_line (reported_of_node node)) → BreaksOffSurvey settings dump old newer
   broken_in_node node step takes =
@@ -149,7 +149,7 @@ module _ (settings : Settings) (dump : List ℕ) (state after : Surveying) (old 
       (lines_are : lines ≡ flat_map dump_line (reported_at_end end)
       ++ (prefix_lines prefixes ++ (ending_line count (survey_ending end.end)
       ++ kind_lines (count_in counts) (listed_findings end.dump) prefixes (survey_ending end.end)))) where
-    -- with the lines of its end the text is whole
+    -- with the lines of the end the text is complete
     text_whole : IsSurveyText settings dump (flat_map node_line so_far.reported ++ lines)
         (has_some (flat_map node_line so_far.reported ++ lines))
     text_whole =
@@ -195,13 +195,13 @@ module _ (settings : Settings) (dump : List ℕ) (state after : Surveying) (old 
       Appends-trans old new newer _ _ so_far.appended appends,
     )
 
-    -- some of the lines of the end
+    -- the sink has taken some of the lines of the end
     pub broken_in_end : TakesSome new newer lines → BreaksOffSurvey settings dump old newer
     broken_in_end takes = broken_in lines (flat_map node_line so_far.reported ++ lines)
         (has_some (flat_map node_line so_far.reported ++ lines)) text_whole
         ([], sym (append-nil (flat_map node_line so_far.reported ++ lines))) takes
 
--- a node in which nothing is found has no lines
+-- a node without findings has no lines
 pub silent_written : (settings : Settings) (dump : List ℕ) (state after : Surveying) (old new : Option (List ℕ))
     (found : Bool) (count : ℕ) (counts : Counts) → HasWritten settings dump state old new found count counts
     → (node : SurveyedNode) → SurveyStep state (Node node) after

@@ -1,4 +1,4 @@
--- The lines of the prefixes to add, word for word.
+-- The exact text of the lines of the prefixes to add.
 use Rattle.std.specs.Prelude.{◌≡◌, ℕ, List, [], ◌∷◌, flat_map, codes}
 use Rattle.std.specs.List.{concat}
 use Rattle.dump_rules.specs.declared.options.Side.{Side}
@@ -7,12 +7,12 @@ use Rattle.dump_rules.specs.Settings.{Settings}
 use Rattle.dump_survey.specs.PrefixesToAdd.{ArePrefixesToAddIn}
 use Rattle.dump_survey.specs.Lines.{shown_path}
 
--- what such a line says before the path
+-- the words that precede the path on such a line
 abbrev pub added_prefix_words : Side → List ℕ
 added_prefix_words Include = codes "also include: "
 added_prefix_words Exclude = codes "also exclude: "
 
--- the line of a path that is to be a prefix too
+-- the line of a prefix to add
 unfoldable pub added_prefix_line : Side → List ℕ → List ℕ
 added_prefix_line side path = concat (added_prefix_words side ∷ shown_path path ∷ codes "\n" ∷ [])
 

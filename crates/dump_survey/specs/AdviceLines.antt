@@ -1,5 +1,5 @@
--- What follows the findings, word for word: how many lines of mergeinfo are dropped, the parent directories to create,
--- and the prefixes to add.
+-- The exact text of the advice that follows the findings: how many lines of mergeinfo are dropped, the parent
+-- directories to create, and the prefixes to add.
 use Rattle.std.specs.Prelude.{◌≡◌, ℕ, ◌⊎◌, List, [], ◌∷◌, ◌++◌, flat_map, codes, Option}
 use Rattle.std.specs.List.{concat}
 use Rattle.std.specs.Io.KnownBytes.{Appends}
@@ -19,7 +19,7 @@ folder_line path = concat (codes "create first: " ∷ shown_path path ∷ codes 
 abbrev pub folder_lines : List (List ℕ) → List ℕ
 folder_lines folders = flat_map folder_line folders
 
--- these are the lines after the findings if this dump is filtered
+-- these are the lines that follow the findings if this dump is filtered
 pub record AreAdviceLines (settings : Settings) (dump lines : List ℕ) : Type 0 where
   pub left_out : ℕ
   pub are_left_out : AreLeftOutIn settings dump left_out
@@ -33,7 +33,7 @@ pub record AreAdviceLines (settings : Settings) (dump lines : List ℕ) : Type 0
 abbrev pub TakesSome : Option (List ℕ) → Option (List ℕ) → List ℕ → Type 0
 TakesSome old new lines = (part : List ℕ) × IsPrefixOf part lines × Appends old new part
 
--- the sink took nothing, or a first part of the lines after the findings
+-- the sink took nothing, or a first part of the lines that follow the findings
 abbrev pub TakesSomeAdvice : Settings → List ℕ → Option (List ℕ) → Option (List ℕ) → Type 0
 TakesSomeAdvice settings dump old new =
     Appends old new [] ⊎ ((lines : List ℕ) × AreAdviceLines settings dump lines × TakesSome old new lines)

@@ -10,14 +10,14 @@ use Rattle.dump_trees.specs.Quiet.{cuts_one}
 use Rattle.dump_history.specs.RecordChanges.{copy_path}
 use Rattle.dump_history.specs.Findings.{Finding}
 
--- the first of the prefixes, in the order of the call, that cuts below the one path what is kept below the other, if one
--- does; included prefixes cut nothing
+-- the first of the prefixes, in the order of the call, that cuts below one path what is kept below the other, if there
+-- is one; under include no prefix cuts
 abbrev pub first_cut : Side → Settings → List ℕ → List ℕ → Option (List ℕ)
 first_cut Include settings path other = None
 first_cut Exclude settings path other =
     slice_get (filter (λ prefix. cuts_one settings (path_of path) (path_of other) prefix) settings.prefixes) 0
 
--- the prefix that is reported with a finding in the node, if one is
+-- the prefix that is reported with a finding in the node, if there is one
 abbrev pub cutting_prefix : Settings → DumpRecord → Finding → Option (List ℕ)
 cutting_prefix settings r Finding.CopyLoses = first_cut settings.side settings (copy_path r) (node_path r)
 cutting_prefix settings r Finding.CopyLetsIn = first_cut settings.side settings (node_path r) (copy_path r)

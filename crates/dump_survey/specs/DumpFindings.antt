@@ -1,9 +1,9 @@
--- What is found in a dump as a whole, as the program has it.
+-- The findings in a dump as a whole, as the program represents them.
 use Rattle.std.specs.Prelude.{Bool, List, filter}
 use Rattle.dump_history.specs.Findings.{DumpFinding, every_dump_finding}
 use Rattle.dump_survey.specs.declared.findings.tally.DumpFindings.{DumpFindings}
 
--- whether this is among them
+-- whether this finding is one of them
 abbrev pub has_dump_finding : DumpFindings → DumpFinding → Bool
 has_dump_finding found DumpFinding.NoRevision = found.no_revision
 has_dump_finding found DumpFinding.OtherNumbers = found.other_numbers

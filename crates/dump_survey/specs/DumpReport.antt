@@ -9,7 +9,7 @@ use Rattle.dump_survey.specs.declared.findings.places.Place.{Place}
 use Rattle.dump_survey.specs.declared.findings.surveyor.SurveyEnd.{SurveyEnd}
 use Rattle.dump_survey.specs.DumpFindings.{listed_findings}
 
--- a finding, and where the first record is that causes it, if there is one
+-- a finding, and the place of the first record that causes it, if there is one
 pub record DumpReport : Type 0 where
   pub finding : DumpFinding
   pub at : Option Place
@@ -25,30 +25,31 @@ place_in places DumpFinding.SourceBefore = places.source_before
 place_in places DumpFinding.NodeOutside = places.node_outside
 place_in places DumpFinding.NumbersLeft = places.numbers_left
 
--- a finding as it is reported at the end, as the program has it
+-- the report of a finding at the end of the survey, as the program represents it
 abbrev pub reported_of_dump : SurveyEnd → DumpFinding → DumpReport
 reported_of_dump end f = record { finding = f; at = place_in end.places f }
 
--- what is reported at the end
+-- all reports of findings in the dump as a whole, at the end of the survey
 abbrev pub reported_at_end : SurveyEnd → List DumpReport
 reported_at_end end = map (reported_of_dump end) (listed_findings end.dump)
 
--- this is found in the dump with these records
+-- a dump with these records has this finding
 abbrev pub IsDumpFinding : Settings → List DumpRecord → DumpFinding → Type 0
 IsDumpFinding settings records f =
     (found : List DumpFinding) × AreDumpFindingsOf settings records found × Contains found f
 
--- whether a record causes the finding; that there is no revision has no such record
+-- whether a record causes the finding; none causes the finding that there is no revision
 abbrev pub comes_up : DumpFinding → Bool
 comes_up DumpFinding.NoRevision = false
 comes_up _ = true
 
--- the finding isn't found with these records, and with no first ones of them
+-- neither these records nor any first part of them have the finding
 abbrev pub IsNeverFound : Settings → List DumpRecord → DumpFinding → Type 0
 IsNeverFound settings records f = (front rest : List DumpRecord) → records ≡ front ++ rest →
     ¬ IsDumpFinding settings front f
 
--- the record there is the first that causes the finding: it is found with the records up to it, and with no fewer
+-- the record at this place is the first that causes the finding: the records up to it have the finding, and no shorter
+-- first part has it
 pub record ComesUpAt (settings : Settings) (records : List DumpRecord) (f : DumpFinding) (p : Place) : Type 0 where
   pub before : List DumpRecord
   pub r : DumpRecord
@@ -58,22 +59,23 @@ pub record ComesUpAt (settings : Settings) (records : List DumpRecord) (f : Dump
   pub found : IsDumpFinding settings (before ++ r ∷ []) f
   pub is : p ≡ record { number = length before; place = r.place }
 
--- the record there caused the finding; if there is none, it isn't found
+-- the record at this place is the first that causes the finding; if there is no place, no first part of the records
+-- has the finding
 abbrev pub CameUp : Settings → List DumpRecord → DumpFinding → Option Place → Type 0
 CameUp settings records f None = IsNeverFound settings records f
 CameUp settings records f (Some p) = ComesUpAt settings records f p
 
--- these are the places of the findings with these records
+-- for each finding, the place is that of the first of these records that causes it
 abbrev pub ArePlaces : Settings → List DumpRecord → DumpPlaces → Type 0
 ArePlaces settings records places =
     (f : DumpFinding) → IsTrue (comes_up f) → CameUp settings records f (place_in places f)
 
--- this is reported of the finding
+-- this is what is reported of the finding
 pub record IsDumpReport (settings : Settings) (records : List DumpRecord) (f : DumpFinding) (t : DumpReport) : Type 0 where
   pub finding : t.finding ≡ f
   pub at : MatchBool (comes_up f) ((p : Place) × (t.at ≡ Some p) × ComesUpAt settings records f p) (t.at ≡ None)
 
--- this is reported of the dump with these records: of each finding, in order
+-- these are the reports for a dump with these records: one for each finding, in order
 abbrev pub AreDumpReports : Settings → List DumpRecord → List DumpReport → Type 0
 AreDumpReports settings records reported = (found : List DumpFinding) × AreDumpFindingsOf settings records found
     × AllZip (IsDumpReport settings records) found reported

@@ -1,4 +1,4 @@
--- The lines that count what was found, kind by kind, each with what to do about it, word for word.
+-- The exact text of the lines that count the findings, one line for each kind, with advice.
 use Rattle.std.specs.Prelude.{ℕ, ◌==◌, List, [], ◌∷◌, ◌++◌, length, filter, flat_map, codes, decimal, Option, None, if◌then◌else◌}
 use Rattle.std.specs.List.{concat}
 use Rattle.dump_text.specs.declared.fault.FaultKind.{FaultKind}
@@ -10,7 +10,7 @@ use Rattle.dump_survey.specs.Lines.{fault_and_place, finding_fault, dump_fault}
 use Rattle.dump_survey.specs.PrefixFindings.{PrefixReport}
 use Rattle.dump_survey.specs.Reported.{NodeReport}
 
--- the place of a finding among all of them
+-- the index of a finding in the list of all findings in nodes
 abbrev pub finding_place : Finding → ℕ
 finding_place Finding.UnreadBlock = 0
 finding_place Finding.Delta = 1
@@ -32,7 +32,7 @@ finding_place Finding.TextComesIn = 14
 abbrev pub times_reported : List NodeReport → Finding → ℕ
 times_reported reported finding = length (filter (λ (t : NodeReport). finding_place t.finding == finding_place finding) reported)
 
--- the same of what is found in prefixes
+-- the index of a finding in the list of all findings in prefixes
 abbrev pub prefix_place : PrefixFinding → ℕ
 prefix_place NotShort = 0
 prefix_place Idle = 1
@@ -40,19 +40,20 @@ prefix_place Idle = 1
 abbrev pub times_in_prefixes : List PrefixReport → PrefixFinding → ℕ
 times_in_prefixes reported finding = length (filter (λ (t : PrefixReport). prefix_place t.finding == prefix_place finding) reported)
 
--- what the line of a kind says: what was found, the fault that it is, if it is one, and what to do
+-- the parts of the line of a kind: what was found, the fault with which the filter stops because of it, if it stops,
+-- and the advice
 pub record KindText : Type 0 where
   pub what : List ℕ
   pub fault : Option FaultKind
   pub advice : List ℕ
 
--- the line of a kind that was found so often, if it was
+-- the line of a kind with its number of findings; empty if the number is 0
 unfoldable pub kind_line : ℕ → KindText → List ℕ
 kind_line times kind =
     if times == 0 then [] else concat (codes "total " ∷ decimal times ∷ codes ": " ∷ kind.what
     ∷ fault_and_place kind.fault None ∷ codes ": " ∷ kind.advice ∷ codes "\n" ∷ [])
 
--- what is found in nodes
+-- what a finding in nodes is, in words
 unfoldable pub finding_what : Finding → List ℕ
 finding_what Finding.UnreadBlock = codes "properties that cannot be read"
 finding_what Finding.Delta = codes "deltas in a dump of format version 2"
@@ -70,7 +71,7 @@ finding_what Finding.FolderTakes = codes "excluded directories that are deleted"
 finding_what Finding.FolderBrings = codes "excluded copies of directories"
 finding_what Finding.TextComesIn = codes "copies with a text from their excluded source"
 
--- what to do about it
+-- the advice for a finding in nodes
 unfoldable pub finding_advice : Finding → List ℕ
 finding_advice Finding.UnreadBlock = codes "dump the repository again"
 finding_advice Finding.Delta = codes "use svnadmin dump --deltas, which writes version 3"
@@ -92,7 +93,7 @@ finding_advice Finding.TextComesIn = codes "exclude the copy too if its text has
 unfoldable pub finding_kind : Finding → KindText
 finding_kind f = record { what = finding_what f; fault = finding_fault f; advice = finding_advice f }
 
--- what is found in the dump as a whole
+-- what a finding in the dump as a whole is, in words
 unfoldable pub dump_what : DumpFinding → List ℕ
 dump_what DumpFinding.NoRevision = codes "a dump without a revision"
 dump_what DumpFinding.OtherNumbers = codes "revision numbers that do not rise by one"
@@ -103,7 +104,7 @@ dump_what DumpFinding.SourceBefore = codes "copies from a revision before the fi
 dump_what DumpFinding.NodeOutside = codes "nodes outside of a revision"
 dump_what DumpFinding.NumbersLeft = codes "revision numbers with a gap"
 
--- what to do about it
+-- the advice for a finding in the dump as a whole
 unfoldable pub dump_advice : DumpFinding → List ℕ
 dump_advice DumpFinding.NoRevision = codes "there is nothing to load"
 dump_advice DumpFinding.OtherNumbers = codes "first renumber the dump with svndumpfilter include --renumber-revs /"
@@ -117,11 +118,11 @@ dump_advice DumpFinding.NumbersLeft = codes "use --renumber-revs"
 unfoldable pub dump_kind : DumpFinding → KindText
 dump_kind f = record { what = dump_what f; fault = dump_fault f; advice = dump_advice f }
 
--- the line of a kind that is found in the dump as a whole, once
+-- the line of a finding in the dump as a whole; it counts one
 abbrev pub dump_kind_line : DumpFinding → List ℕ
 dump_kind_line f = kind_line 1 (dump_kind f)
 
--- what is found in prefixes, and what to do about it
+-- the parts of the line of a finding in prefixes
 unfoldable pub prefix_kind : PrefixFinding → KindText
 prefix_kind NotShort = record {
   what = codes "prefixes that are not in canonical form";
@@ -134,7 +135,7 @@ prefix_kind Idle = record {
   advice = codes "check that they are spelled as in the dump";
 }
 
--- that the list of records ends before the dump's end, and what to do about it
+-- the parts of the line that says that the list of records ends before the dump does
 unfoldable pub broken_kind : KindText
 broken_kind = record {
   what = codes "a dump that cannot be read to its end";
@@ -142,12 +143,13 @@ broken_kind = record {
   advice = codes "dump the repository again";
 }
 
--- the line of what ends the list of records before the dump's end
+-- the line that says why the list of records ends before the dump does; empty if it doesn't
 abbrev pub ending_kind_line : Ending → List ℕ
 ending_kind_line Ending.Whole = []
 ending_kind_line (Ending.Broken _ _) = kind_line 1 broken_kind
 
--- one line for each kind of what was found: in nodes, each so often; in the dump as a whole; in prefixes; and at the end
+-- one line for each kind: first the findings in nodes, with their numbers, then those in the dump as a whole, then
+-- those in prefixes, and at last the end of the list of records
 abbrev pub kind_lines : (Finding → ℕ) → List DumpFinding → List PrefixReport → Ending → List ℕ
 kind_lines times found prefixes ending = flat_map (λ f. kind_line (times f) (finding_kind f)) every_finding
     ++ (flat_map dump_kind_line found

@@ -1,13 +1,13 @@
--- The line that says how many lines of mergeinfo are dropped, word for word.
+-- The exact text of the line that says how many lines of mergeinfo are dropped.
 use Rattle.std.specs.Prelude.{ℕ, ◌==◌, List, [], ◌∷◌, codes, decimal, if◌then◌else◌}
 use Rattle.std.specs.List.{concat}
 
--- what it says after the number
+-- the words that follow the number
 abbrev pub left_out_words : ℕ → List ℕ
 left_out_words count =
     if count == 1 then codes " line of an excluded path\n" else codes " lines of excluded paths\n"
 
--- the line, if any are dropped
+-- the line; empty if the number is 0
 unfoldable pub left_out_line : ℕ → List ℕ
 left_out_line count =
     if count == 0 then [] else concat (codes "dropped from svn:mergeinfo: " ∷ decimal count ∷ left_out_words count ∷ [])

@@ -1,4 +1,4 @@
--- The lines of a survey, word for word.
+-- The exact text of the lines of a survey.
 use Rattle.std.specs.Prelude.{ℕ, ◌+◌, ◌/◌, ◌%◌, Bool, true, false, ◌||◌, ◌==◌, List, [], ◌∷◌, Option, Some, None, flat_map, nat_lt, codes, decimal, if◌then◌else◌}
 use Rattle.std.specs.List.{concat}
 use Rattle.dump_text.specs.declared.fault.FaultKind.{FaultKind}
@@ -12,11 +12,11 @@ use Rattle.dump_survey.specs.declared.findings.places.Place.{Place}
 use Rattle.dump_survey.specs.DumpReport.{DumpReport}
 use Rattle.dump_survey.specs.Reported.{NodeReport}
 
--- a digit of base 16, with small letters
+-- a hexadecimal digit, with small letters
 abbrev pub small_digit : ℕ → ℕ
 small_digit n = if nat_lt n 10 then 48 + n else 87 + n
 
--- a byte of a path as it is shown: one that a terminal would obey as \x and its two digits
+-- a byte of a path as it is shown; a control byte is shown as \x and its two digits
 unfoldable pub shown_byte : ℕ → List ℕ
 shown_byte b =
     if nat_lt b 32 || b == 127 then 92 ∷ 120 ∷ small_digit (b / 16) ∷ small_digit (b % 16) ∷ [] else b ∷ []
@@ -25,11 +25,11 @@ shown_byte b =
 unfoldable pub shown_path : List ℕ → List ℕ
 shown_path path = 47 ∷ flat_map shown_byte (bare_path path)
 
--- where a record is: its number, from 0, and the byte at which it begins
+-- the place of a record: its number, from 0, and the offset of its first byte
 unfoldable pub place_text : ℕ → ℕ → List ℕ
 place_text number place = concat (codes "record " ∷ decimal number ∷ codes ", byte " ∷ decimal place ∷ [])
 
--- the fault of a line and its record, at its end in parentheses, so far as it has them
+-- the fault of a line and the place of its record, in parentheses at the end of the line, each if there is one
 unfoldable pub fault_and_place : Option FaultKind → Option Place → List ℕ
 fault_and_place None None = []
 fault_and_place None (Some p) = concat (codes " (" ∷ place_text p.number p.place ∷ codes ")" ∷ [])
@@ -37,12 +37,12 @@ fault_and_place (Some kind) None = concat (codes " (fault " ∷ decimal (fault_c
 fault_and_place (Some kind) (Some p) = concat (codes " (fault " ∷ decimal (fault_code kind) ∷ codes ", "
     ∷ place_text p.number p.place ∷ codes ")" ∷ [])
 
--- what a node is copied from
+-- the copy source of a node
 unfoldable pub source_text : NodeReport → List ℕ
 source_text t = concat (codes ", copied from " ∷ shown_path t.copy_path
     ∷ codes "@" ∷ decimal t.copy_revision ∷ [])
 
--- whether a finding's line states what the node is copied from
+-- whether a finding's line states the copy source of the node
 abbrev pub tells_source : Finding → Bool
 tells_source Finding.NoWholeFile = true
 tells_source Finding.MissingCopyRevision = true
@@ -53,7 +53,7 @@ tells_source Finding.FolderBrings = true
 tells_source Finding.TextComesIn = true
 tells_source _ = false
 
--- the sentence of a finding in a node
+-- the words of the line of a finding in a node
 unfoldable pub finding_words : Finding → List ℕ
 finding_words Finding.UnreadBlock = codes "its properties cannot be read"
 finding_words Finding.Delta = codes "a delta in a dump of format version 2"
@@ -75,7 +75,7 @@ finding_words Finding.FolderBrings =
     codes "this copy of a directory is excluded: what is included below it may be missing"
 finding_words Finding.TextComesIn = codes "the source is excluded, and the copy has a text from there"
 
--- the fault with which the filter stops at a node in which this is found, if it does
+-- the fault with which the filter stops at a node that has this finding, if it stops
 abbrev pub finding_fault : Finding → Option FaultKind
 finding_fault Finding.NoWholeFile = Some CopySource
 finding_fault Finding.MissingCopyRevision = Some CopyRevision
@@ -84,7 +84,7 @@ finding_fault Finding.MissingMergeSource = Some MergeSource
 finding_fault Finding.MissingMergeRevision = Some MergeRange
 finding_fault _ = None
 
--- what the line says of the prefix that cuts, which is shown as it was given, with its own slashes alone
+-- the words about the prefix that cuts, which is shown as the caller gave it: without an additional slash
 unfoldable pub cut_words : Option (List ℕ) → List ℕ
 cut_words None = []
 cut_words (Some prefix) = concat (codes ": prefix " ∷ flat_map shown_byte prefix ∷ [])
@@ -97,7 +97,7 @@ node_line t = concat (codes "r" ∷ decimal t.revision ∷ codes ": " ∷ shown_
     ∷ fault_and_place (finding_fault t.finding) (Some (record { number = t.number; place = t.place }))
     ∷ codes "\n" ∷ [])
 
--- the sentence of a finding in the dump as a whole
+-- the words of the line of a finding in the dump as a whole
 unfoldable pub dump_words : DumpFinding → List ℕ
 dump_words DumpFinding.NoRevision = codes "the dump has no revision"
 dump_words DumpFinding.OtherNumbers = codes "the revision numbers of the dump do not rise by one"
@@ -109,23 +109,24 @@ dump_words DumpFinding.NodeOutside = codes "a node of the dump is outside of a r
 dump_words DumpFinding.NumbersLeft =
     codes "a revision is dropped, and a later copy or svn:mergeinfo names revisions by their old numbers: use --renumber-revs"
 
--- the fault with which the filter stops if this is found, if it does
+-- the fault with which the filter stops if the dump has this finding, if it stops
 abbrev pub dump_fault : DumpFinding → Option FaultKind
 dump_fault DumpFinding.NumberFalls = Some Order
 dump_fault DumpFinding.UnreadRevision = Some Props
 dump_fault DumpFinding.NodeOutside = Some Order
 dump_fault _ = None
 
--- the line of a finding in the dump as a whole, with the first record that causes it, if it has one
+-- the line of a finding in the dump as a whole, with the first record that causes it, if there is one
 unfoldable pub dump_line : DumpReport → List ℕ
 dump_line t = concat (dump_words t.finding ∷ fault_and_place (dump_fault t.finding) t.at ∷ codes "\n" ∷ [])
 
--- the line of a fault for which there is no record at this place
+-- the line of a fault: no record begins at this place
 unfoldable pub broken_line : FaultKind → Place → List ℕ
 broken_line kind at = concat (codes "the dump cannot be read from here on: " ∷ fault_name kind
     ∷ fault_and_place (Some kind) (Some at) ∷ codes "\n" ∷ [])
 
--- the line of what ends the list of so many records before the dump's end
+-- the line that says why the list of records ends before the dump does, after this number of records; empty if it
+-- doesn't
 abbrev pub ending_line : ℕ → Ending → List ℕ
 ending_line count Ending.Whole = []
 ending_line count (Ending.Broken kind place) = broken_line kind (record { number = count; place = place })

@@ -1,9 +1,9 @@
--- The values that the program has for findings.
+-- How the program's values for findings relate to the definitions.
 use Rattle.dump_history.specs.Findings.{Finding}
 use Rattle.dump_survey.specs.declared.findings.node_finding.NodeFinding.{NodeFinding}
 use Rattle.dump_survey.specs.declared.findings.node_finding.NodeFinding.TheVariants as findings
 
--- the finding that a word of the program means
+-- the finding that a value of the program means
 abbrev pub meaning : NodeFinding → Finding
 meaning findings.UnreadBlock = Finding.UnreadBlock
 meaning findings.Delta = Finding.Delta

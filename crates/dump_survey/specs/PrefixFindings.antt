@@ -1,4 +1,4 @@
--- What is found in the prefixes of a call: those by which the filter does nothing, or not what is meant.
+-- The findings in the prefixes of a call: prefixes with which the filter does nothing, or not what the user means.
 use Rattle.std.specs.Prelude.{ℕ, Bool, not, ◌&&◌, ◌||◌, List, Option, Some, None, option_map, if◌then◌else◌}
 use Rattle.std.specs.List.{list_any, filter_map}
 use Rattle.dump_records.specs.RecordText.{DumpRecord}
@@ -11,40 +11,40 @@ use Rattle.dump_survey.specs.declared.findings.prefix_findings.PrefixFinding.{Pr
 use Rattle.dump_survey.specs.declared.findings.prefix_findings.PrefixFinding.TheVariants.{NotShort, Idle}
 use Rattle.dump_survey.specs.declared.findings.prefix_findings.ReportedPrefix.{ReportedPrefix}
 
--- whether the prefix is canonical, as `svnadmin load` makes paths: the slashes at its ends don't count, and no name
--- between them is empty or a dot
+-- whether the prefix is canonical, as `svnadmin load` makes paths canonical: after the slashes at both ends are
+-- removed, no name is empty or a dot
 abbrev pub is_short_prefix : List ℕ → Bool
 is_short_prefix prefix = is_short (bare_prefix prefix)
 
--- whether the record is a node that has a path at or below the prefix, or is copied from one
+-- whether the record is a node that has a path at or below the prefix, or is copied from such a path
 abbrev pub is_matched_by : List ℕ → DumpRecord → Bool
 is_matched_by prefix r =
     is_node r && (matches_path prefix (node_path r) || (is_copy r && matches_path prefix (copy_path r)))
 
--- whether the record is a node that makes a copy at the prefix or above it, with which may come what the prefix names
+-- whether the record is a copy to the prefix or to a path above it; the copy may bring what the prefix names
 abbrev pub is_in_copy : List ℕ → DumpRecord → Bool
 is_in_copy prefix r =
     is_node r && (makes_copy r && begins_path (bare_path (node_path r)) (bare_prefix prefix))
 
--- whether no record is such a node
+-- whether the prefix is idle: no record is such a node
 abbrev pub is_idle : List DumpRecord → List ℕ → Bool
 is_idle records prefix = not (list_any (λ r. is_matched_by prefix r || is_in_copy prefix r) records)
 
--- what is found in the prefix, if something; of one that isn't canonical nothing else is reported
+-- the finding in the prefix, if there is one; for a prefix that isn't canonical, no other finding is reported
 abbrev pub prefix_finding : List DumpRecord → List ℕ → Option PrefixFinding
 prefix_finding records prefix =
     if is_short_prefix prefix then (if is_idle records prefix then Some Idle else None) else Some NotShort
 
--- a prefix as it was given, and what is found in it
+-- a prefix as the caller gave it, and the finding in it
 pub record PrefixReport : Type 0 where
   pub prefix : List ℕ
   pub finding : PrefixFinding
 
--- the same as the program has it
+-- the report that a value of the program means
 abbrev pub prefix_view : ReportedPrefix → PrefixReport
 prefix_view t = record { prefix = t.prefix.now; finding = t.finding }
 
--- what is reported of the prefix, if something
+-- what is reported of the prefix, if it has a finding
 abbrev pub reported_of_prefix : List DumpRecord → List ℕ → Option PrefixReport
 reported_of_prefix records prefix =
     option_map (λ finding. record { prefix = prefix; finding = finding }) (prefix_finding records prefix)

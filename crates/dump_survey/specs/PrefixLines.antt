@@ -1,4 +1,4 @@
--- The lines of what is found in prefixes, word for word.
+-- The exact text of the lines of the findings in prefixes.
 use Rattle.std.specs.Prelude.{ℕ, List, [], ◌∷◌, flat_map, codes}
 use Rattle.std.specs.List.{concat}
 use Rattle.dump_survey.specs.declared.findings.prefix_findings.PrefixFinding.{PrefixFinding}
@@ -6,15 +6,15 @@ use Rattle.dump_survey.specs.declared.findings.prefix_findings.PrefixFinding.The
 use Rattle.dump_survey.specs.Lines.{shown_byte}
 use Rattle.dump_survey.specs.PrefixFindings.{PrefixReport}
 
--- what such a line says after the prefix
+-- the words that follow the prefix on such a line
 abbrev pub prefix_line_words : PrefixFinding → List ℕ
 prefix_line_words NotShort = codes ": not in canonical form, so it matches no path of the loaded repository\n"
 prefix_line_words Idle = codes ": no node has a path at or below it, and none is copied from there or to a path above it\n"
 
--- the line of a prefix, which is shown as it was given, with its own slashes alone
+-- the line of a prefix, which is shown as the caller gave it: without an additional slash
 unfoldable pub prefix_line : PrefixReport → List ℕ
 prefix_line t = concat (codes "prefix " ∷ flat_map shown_byte t.prefix ∷ prefix_line_words t.finding ∷ [])
 
--- one line for each of them
+-- one line for each report
 abbrev pub prefix_lines : List PrefixReport → List ℕ
 prefix_lines reported = flat_map prefix_line reported

@@ -1,5 +1,5 @@
--- The prefixes to add so that the filter stops at no copy: under include the sources of copies, which are to be
--- included too; under exclude copies, which are to be excluded too.
+-- The prefixes to add so that the filter stops at no copy. Under include they are copy sources, which have to be
+-- included too. Under exclude they are copies, which have to be excluded too.
 use Rattle.std.specs.Prelude.{◌≡◌, ℕ, Bool, true, not, ◌&&◌, List, [], ◌∷◌, ◌++◌, bytes_eq, if◌then◌else◌, IsTrue, IsFalse, ⊤}
 use Rattle.std.specs.List.{list_any}
 use Rattle.dump_records.specs.RecordText.{DumpRecord}
@@ -20,12 +20,13 @@ with_prefixes settings paths = record settings { prefixes = settings.prefixes ++
 abbrev pub stops_at : Settings → DumpRecord → Bool
 stops_at settings r = is_node r && lacks_source settings r
 
--- the path of a copy that, as a prefix, lets the filter go on: under include its source, under exclude its own
+-- the path that has to be a prefix so that the filter doesn't stop at a copy: under include its source, under exclude
+-- its own path
 abbrev pub wanted_path : Side → DumpRecord → List ℕ
 wanted_path Include r = copy_path r
 wanted_path Exclude r = node_path r
 
--- whether the path, as a prefix, matches itself; one with two leading slashes, which is not canonical, doesn't
+-- whether the path matches itself as a prefix; one with two leading slashes doesn't, and it isn't canonical
 abbrev pub matches_itself : List ℕ → Bool
 matches_itself path = matches_path path path
 
@@ -34,18 +35,18 @@ abbrev pub is_wanted : Settings → List DumpRecord → List ℕ → Bool
 is_wanted settings records path =
     list_any (λ r. stops_at settings r && bytes_eq (wanted_path settings.side r) path) records
 
--- each of the paths is needed if the ones before it are prefixes too, and matches itself
+-- each of the paths is needed after the paths before it became prefixes, and it matches itself
 abbrev pub AreWanted : Settings → List DumpRecord → List (List ℕ) → List (List ℕ) → Type 0
 AreWanted settings records before [] = ⊤
 AreWanted settings records before (path ∷ paths) =
     IsTrue (is_wanted (with_prefixes settings before) records path) × IsTrue (matches_itself path)
     × AreWanted settings records (before ++ path ∷ []) paths
 
--- whether all that the one prefix matches lies at or below the other
+-- whether each path that the second prefix matches is at or below the first one
 abbrev pub covers : List ℕ → List ℕ → Bool
 covers other prefix = begins_path (bare_prefix other) (bare_prefix prefix)
 
--- those of the paths that no later one covers
+-- the paths that no later path covers
 abbrev pub uncovered : List (List ℕ) → List (List ℕ)
 uncovered [] = []
 uncovered (path ∷ paths) =
@@ -63,8 +64,8 @@ abbrev pub stops_somewhere : Settings → List DumpRecord → Bool
 stops_somewhere settings records =
     list_any (λ r. stops_at settings r && matches_itself (wanted_path settings.side r)) records
 
--- these are the prefixes to add: the paths that copies need, one after the other, without those below another one; with
--- them the filter stops at no copy
+-- these are the prefixes to add: the paths that copies need, one after the other, without the paths below another one.
+-- With them the filter stops at no copy.
 pub record ArePrefixesToAdd (settings : Settings) (records : List DumpRecord) (paths : List (List ℕ)) : Type 0 where
   pub wanted : List (List ℕ)
   pub are_wanted : AreWanted settings records [] wanted

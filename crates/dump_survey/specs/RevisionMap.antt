@@ -1,4 +1,4 @@
--- The map of revisions, word for word: the old and the new number of each one that the filter keeps.
+-- The exact text of the map of revisions: the old and the new number of each revision that the filter keeps.
 use Rattle.std.specs.Prelude.{◌≡◌, ℕ, ◌⊎◌, List, [], ◌∷◌, flat_map, codes, decimal, Option}
 use Rattle.std.specs.List.{concat}
 use Rattle.std.specs.Io.KnownBytes.{Appends}
@@ -10,7 +10,7 @@ use Rattle.dump_filter.specs.Groups.{kept_revisions}
 use Rattle.dump_filter.specs.NewHeaders.{written_number}
 use Rattle.dump_survey.specs.AdviceLines.{TakesSome}
 
--- the line of a kept revision: its number, and the one under which it is written
+-- the line of a kept revision: its number, and the number under which the filter writes it
 unfoldable pub map_line : Settings → KeptRevisions → ℕ → List ℕ
 map_line settings kept number = concat (codes "r" ∷ decimal number ∷ codes " becomes r"
     ∷ decimal (written_number settings kept number) ∷ codes "\n" ∷ [])

@@ -1,4 +1,5 @@
--- What a survey reports is what is found in the dump's nodes, group by group; and what follows if it reports nothing.
+-- What a survey reports is what the definitions find in the dump's nodes, group by group. The laws also say what
+-- follows if it reports nothing.
 use Rattle.std.specs.Prelude.{◌≡◌, ℕ, Bool, true, false, not, List, [], ◌∷◌, ◌++◌, map, flat_map, None, is_some, IsTrue}
 use Rattle.std.specs.List.{list_any}
 use Rattle.dump_text.specs.declared.fault.FaultKind.{FaultKind}
@@ -22,36 +23,36 @@ use Rattle.dump_survey.specs.SurveyText.{IsSurveyText}
 abbrev pub all_findings : FindingsByGroup → List Finding
 all_findings found = flat_map (λ fs. flat_map (λ node. node) fs) found
 
--- the findings that are reported of a dump's nodes are those of its groups' nodes, in order, and no others
+-- the reported findings are exactly the findings in the nodes of the dump's groups, in order
 abbrev pub ReportsAreFindings : Type 0
 ReportsAreFindings = (settings : Settings) (dump : List ℕ) (records : List DumpRecord) (ending : Ending)
     (reported : List NodeReport) → HasRecords dump records ending → AreReported settings [] None records reported
     → (found : FindingsByGroup) × HaveFindings settings records found
     × (map (λ (t : NodeReport). t.finding) reported ≡ all_findings found)
 
--- and a dump has one list of them
+-- there is only one list of reports for a dump
 abbrev pub ReportedOnce : Type 0
 ReportedOnce = (settings : Settings) (records : List DumpRecord) (reported others : List NodeReport) →
     AreReported settings [] None records reported → AreReported settings [] None records others → others ≡ reported
 
--- whether the finding is that a copy is filtered differently from its source
+-- whether the finding says that a copy is filtered differently from its source
 abbrev pub tells_cut : Finding → Bool
 tells_cut Finding.CopyLoses = true
 tells_cut Finding.CopyLetsIn = true
 tells_cut _ = false
 
--- with each of these a prefix responsible is reported, and with no other finding
+-- each such finding is reported with a prefix that causes it, and no other finding is reported with a prefix
 abbrev pub EachCutNamesPrefix : Type 0
 EachCutNamesPrefix = (settings : Settings) (records : List DumpRecord) (reported : List NodeReport) →
     AreReported settings [] None records reported
     → map (λ (t : NodeReport). is_some t.prefix) reported ≡ map (λ (t : NodeReport). tells_cut t.finding) reported
 
--- whether none of the findings that are reported is of this kind
+-- whether no reported finding is of this kind
 abbrev pub none_reported : (Finding → Bool) → List NodeReport → Bool
 none_reported test reported = not (list_any test (map (λ (t : NodeReport). t.finding) reported))
 
--- if the filter's answer is clean, and a survey reports nothing of the dump as a whole, and no obstacle and no alarm of
--- its nodes, loading commutes with filtering
+-- Let the filter's answer be clean. If a survey reports nothing of the dump as a whole, and no obstacle and no alarm
+-- in its nodes, loading commutes with filtering.
 abbrev pub SilentSurveyRestricts : Type 0
 SilentSurveyRestricts = (patched : Patching) (settings : Settings) (dump text : List ℕ) (records : List DumpRecord)
     (survey : Survey) →
@@ -61,20 +62,20 @@ SilentSurveyRestricts = (patched : Patching) (settings : Settings) (dump text : 
     → IsTrue (none_reported is_alarm (map reported_view survey.reported.items))
     → DumpRestricts patched settings records text
 
--- the same holds if the text of a survey says that nothing is found
+-- the same is true if the text of a survey says that nothing is found
 abbrev pub SilentTextRestricts : Type 0
 SilentTextRestricts = (patched : Patching) (settings : Settings) (dump text said : List ℕ) (records : List DumpRecord) →
     IsCleanText settings dump records text → LengthsFit settings records → IsSurveyText settings dump said false
     → DumpRestricts patched settings records text
 
--- whether the fault is that of a digest
+-- whether the fault is about a digest
 abbrev pub is_digest_fault : FaultKind → Bool
 is_digest_fault Md5 = true
 is_digest_fault Sha1 = true
 is_digest_fault _ = false
 
--- if the text of a survey says that nothing is found, the dump is records to its end, of which none has a fault but
--- that of a digest
+-- if the text of a survey says that nothing is found, the records reach the end of the dump, and none of them has a
+-- fault that isn't about a digest
 abbrev pub SilentTextLeavesDigests : Type 0
 SilentTextLeavesDigests = (settings : Settings) (dump said : List ℕ) → IsSurveyText settings dump said false →
     (records : List DumpRecord) × HasRecords dump records Ending.Whole

@@ -1,4 +1,4 @@
--- The survey of a dump: what is found in its nodes, in the dump as a whole and in the prefixes, up to the end of its
+-- The survey of a dump: the findings in its nodes, in the dump as a whole and in the prefixes, up to the end of its
 -- list of records.
 use Rattle.std.specs.Prelude.{◌≡◌, ℕ, List, [], map, None}
 use Rattle.dump_records.specs.RecordText.{DumpRecord}
@@ -10,7 +10,7 @@ use Rattle.dump_survey.specs.PrefixFindings.{prefix_view, reported_prefixes}
 use Rattle.dump_survey.specs.SurveyEnds.{survey_ending}
 use Rattle.dump_survey.specs.Reported.{reported_view, AreReported}
 
--- this is reported of the dump's nodes, these are its records, and this is the survey
+-- this is the survey of the dump: its reports are those for the dump's records
 pub record IsSurveyOf (settings : Settings) (dump : List ℕ) (survey : Survey) : Type 0 where
   pub records : List DumpRecord
   pub has : HasRecords dump records (survey_ending survey.end.end)

@@ -1,4 +1,5 @@
-//! What a survey advises: which prefixes to add, and which directories to create. It counts the omitted lines, too.
+//! The advice of a survey: the prefixes to add, the directories to create, and the number of omitted lines of
+//! mergeinfo.
 
 pub(crate) mod added_prefixes;
 pub(crate) mod copy_needs;

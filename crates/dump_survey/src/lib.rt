@@ -1,17 +1,18 @@
-//! A survey of a dump before it is filtered: each place where the repository that is loaded from the filtered
-//! dump may be wrong.
+//! A survey of a dump before it is filtered. It finds each place because of which the repository that is loaded from
+//! the filtered dump may be wrong.
 //!
-//! A [`Surveyor`] reads a dump record by record, cut as the filter cuts it. [`Surveyor::next`] gives what is found in
-//! each: of a node of a revision the [`Found`], which [`SurveyedNode::report`] turns into one [`ReportedFinding`] for
-//! each [`NodeFinding`]. A [`ReportedFinding`] has the record's number and place, the revision and the path; of a copy
-//! that is filtered differently from its source it has the first prefix responsible. When the records end, `next` gives
-//! what is found in the dump as a whole, [`DumpFindings`], and whether they end with the dump. Then
-//! [`Surveyor::reported_prefixes`] gives the prefixes that have no effect, each with its [`PrefixFinding`].
+//! A [`Surveyor`] reads a dump record by record, and finds the same records as the filter. [`Surveyor::next`] returns
+//! the findings in each record. For a node of a revision these are a [`Found`], which [`SurveyedNode::report`] turns
+//! into one [`ReportedFinding`] for each [`NodeFinding`]. A [`ReportedFinding`] has the record's number and place, the
+//! revision and the path. If a copy is filtered differently from its source, it also has the first prefix that causes
+//! this. After the last record, `next` returns the findings in the dump as a whole, [`DumpFindings`], and whether the
+//! records reach the end of the dump. Then [`Surveyor::reported_prefixes`] returns the prefixes that have no effect,
+//! each with its [`PrefixFinding`].
 //!
-//! [`survey_dump`] keeps all this in a [`Survey`]. [`write_survey`] writes a line for each finding as it is
-//! found, and keeps nothing. [`left_out_lines`] counts the lines of mergeinfo that the filter drops,
-//! [`folders_to_make`] gives the parent directories to create, and [`prefixes_to_add`] the prefixes to add so that
-//! no copy stops the filter; [`write_advice`] writes the lines of all three. [`write_map`] writes the old and the
+//! [`survey_dump`] keeps all findings in a [`Survey`]. [`write_survey`] writes a line for each finding as soon as it
+//! is found, and keeps none of them. [`left_out_lines`] counts the lines of mergeinfo that the filter drops.
+//! [`folders_to_make`] returns the parent directories to create. [`prefixes_to_add`] returns the prefixes to add so
+//! that no copy stops the filter. [`write_advice`] writes the lines of all three. [`write_map`] writes the old and the
 //! new number of each kept revision.
 //!
 //! ```
@@ -22,8 +23,8 @@
 //! };
 //! ```
 //!
-//! `tests::text::a_text_or_no_memory` runs this; `CUT_LINES` are the lines for the dump `COPIED`. The lines
-//! after the findings are written so:
+//! `tests::text::a_text_or_no_memory` runs this; `CUT_LINES` are the lines for the dump `COPIED`. A caller writes the
+//! lines that follow the findings as in this example:
 //!
 //! ```
 //! let (side, prefixes) = (Side::Include, [b"x/y".as_slice(), b"c"]);
@@ -37,17 +38,18 @@
 //! assert!(rt; written.is_err() || sink.taken() == lines);
 //! ```
 //!
-//! `tests::added_prefixes::advice_or_no_memory` runs this, on a dump that copies `a` to `b` and `b` to `c`.
+//! `tests::added_prefixes::advice_or_no_memory` runs this on a dump that copies `a` to `b` and `b` to `c`.
 //!
 //! The findings in nodes and in the dump are exactly those that `dump_history` defines, in the dump's order, and
-//! [`laws`] says so. The survey looks only at header lines, properties and prefixes. It reads no text of a file
-//! and builds no tree, so a finding may do no harm: there may be no node below the path that it names. It passes
-//! over a node outside of any revision, which the filter rejects, and reports of the whole dump that there is one.
+//! [`laws`] says so. The survey looks only at header lines, properties and prefixes. It reads no text of a file and
+//! builds no tree. So a finding may be harmless: there may be no node below the path that it names. The survey skips a
+//! node outside of any revision, which the filter rejects, and reports of the whole dump that there is one.
 //!
-//! `Surveyor::new` takes memory for the list of the prefixes and for a set of them, `next` if an excluded prefix is
-//! below a copy or its source, and `reported_prefixes` for its list. A surveyor keeps no more of a record when the next
-//! one comes. It compares a copy with each prefix once, so a survey takes time by the number of copies times that of
-//! prefixes. It looks the parts of a node's path up among the prefixes that no earlier node has matched.
+//! `Surveyor::new` takes memory for a list and a set of the prefixes. `next` takes memory if an excluded prefix is
+//! below a copy or its source. `reported_prefixes` takes memory for its list. A surveyor keeps nothing else of a
+//! record when it returns the next one. It compares each copy with each prefix once, so the time of a survey grows
+//! with the number of copies times the number of prefixes. It looks the parts of a node's path up among the prefixes
+//! that no earlier node has matched.
 #![tactic(auto)]
 
 mod advice;

@@ -1,4 +1,4 @@
-//! What no clause says: example dumps with each finding once.
+//! Tests of what no contract says: example dumps that have each finding once.
 use crate::laws::{each_report_is_found, each_silent_survey_restricts};
 use crate::{DumpFindings, End, Memory, NodeFinding, Survey, survey_dump};
 use dump_rules::{Empty, Options, Side};
@@ -16,7 +16,7 @@ mod nodes;
 mod prefixes;
 mod text;
 
-/// Options with these prefixes, which have blanks between them.
+/// Options with these prefixes; `words` has them with a blank between two.
 fn rules(alloc: Global, side: Side, words: &str) -> Result<Options, Fail> {
     let prefixes = prefixes_in(alloc, words)?;
     let options = Options::new(alloc, side, &prefixes, Empty::Pad, false, false, false)?;
@@ -31,7 +31,7 @@ fn prefixes_in<'a>(alloc: Global, words: &'a str) -> Result<Vec<&'a [u8]>, Alloc
     Ok(prefixes)
 }
 
-/// Whether these paths, and no others, are in a text with a blank after each.
+/// Whether `words` consists of these paths with a blank after each.
 fn are_words(paths: &[&[u8]], words: &str) -> bool {
     let mut rest = words.as_bytes();
     for path in paths {
@@ -54,7 +54,7 @@ const NOTHING: DumpFindings = DumpFindings {
     numbers_left: false,
 };
 
-/// Whether the survey finds this in the dump as a whole, and the records end so.
+/// Whether the survey found this in the dump as a whole, and the records end as in `end`.
 fn ends_with(survey: &Survey<'_, '_>, dump: DumpFindings, end: End) -> bool {
     survey.end.dump == dump && survey.end.end == end
 }
@@ -64,7 +64,7 @@ Revision-number: 0\n\n\
 Revision-number: 7\n\n\
 Node-path: trunk//a\nNode-action: change\n\n\n";
 
-/// Whether one finding is reported, with its place.
+/// Whether the survey reports exactly one finding, with its place.
 fn is_odd_alone(survey: &Survey<'_, '_>) -> bool {
     match survey.reported.as_slice() {
         [reported] => {
@@ -128,7 +128,7 @@ const BROKEN: End = End::Broken {
     place: 31,
 };
 
-/// What follows the version, what is found in the dump as a whole, and how its records end.
+/// Each row has the records after the version record, the findings in the dump as a whole, and how the records end.
 const ENDS: [(&str, DumpFindings, End); 13] = [
     ("", NONE, End::Whole),
     ("Revision-number: 0", NONE, BROKEN),
@@ -139,7 +139,7 @@ const ENDS: [(&str, DumpFindings, End); 13] = [
         OUTSIDE_OF_ANY,
         End::Whole,
     ),
-    // A partial dump is reported if it would not load.
+    // The survey reports a partial dump if `svnadmin load` would not load it.
     (
         "Revision-number: 5\n\nNode-path: a\n\n",
         NOTHING,
@@ -160,7 +160,7 @@ const ENDS: [(&str, DumpFindings, End); 13] = [
         EARLY,
         End::Whole,
     ),
-    // So is a revision at which the filter stops.
+    // The survey also reports a revision at which the filter stops.
     (
         "Revision-number: 5\n\nRevision-number: 5\n\n",
         FALLS,
@@ -183,7 +183,7 @@ const ENDS: [(&str, DumpFindings, End); 13] = [
     ),
 ];
 
-/// Whether this is found in a dump, and its records end so.
+/// Whether the survey finds this in a dump with these records, and the records end as in `end`.
 fn is_found_at_end(
     alloc: Global,
     records: &str,
@@ -207,7 +207,7 @@ fn what_is_found_in_a_dump_is_reported_at_its_end(rt: HostRuntime) -> Result<(),
     Ok(())
 }
 
-/// What follows a dropped revision: a copy, mergeinfo, neither, and an excluded copy.
+/// The nodes that may follow a dropped revision: a copy, mergeinfo, neither of these, and an excluded copy.
 const COPY: &str =
     "Node-path: t/b\nNode-action: add\nNode-copyfrom-rev: 1\nNode-copyfrom-path: t/a\n\n";
 
@@ -219,7 +219,7 @@ const NEITHER: &str = "Node-path: t/a\nNode-action: change\n\n";
 const OUTSIDE: &str =
     "Node-path: b\nNode-action: add\nNode-copyfrom-rev: 1\nNode-copyfrom-path: t\n\n";
 
-/// What is asked, what follows the dropped revision, and whether that one's number is left.
+/// Each row has two options, the node that follows the dropped revision, and whether `numbers_left` is found.
 const LEFT: [(Empty, bool, &str, bool); 6] = [
     (Empty::Pad, false, COPY, false),
     (Empty::DropEmptied, true, COPY, false),
@@ -229,7 +229,7 @@ const LEFT: [(Empty, bool, &str, bool); 6] = [
     (Empty::DropEmptied, false, OUTSIDE, false),
 ];
 
-/// Revision 2 is dropped, and this node is in revision 3.
+/// A dump that has this node in revision 3. The filter may drop revision 2.
 fn behind_a_dropped_one(alloc: Global, node: &str) -> Result<String, AllocError> {
     format!(in alloc;
         "SVN-fs-dump-format-version: 2\n\nRevision-number: 0\n\nRevision-number: 1\n\n{NEITHER}\n\
@@ -237,7 +237,7 @@ Revision-number: 2\n\nNode-path: o\nNode-action: add\n\n\nRevision-number: 3\n\n
     )
 }
 
-/// Whether numbers are left in it.
+/// Whether `numbers_left` is found in a dump with this node.
 fn leaves_numbers(alloc: Global, empty: Empty, renumber: bool, node: &str) -> Result<bool, Fail> {
     let dump = behind_a_dropped_one(alloc, node)?;
     let prefixes = [b"t".as_slice()];
@@ -268,7 +268,7 @@ Revision-number: 0\n\n\
 Revision-number: 1\n\n\
 Node-path: b\nNode-kind: dir\nNode-action: add\nNode-copyfrom-rev: 0\nNode-copyfrom-path: t\n\n\n";
 
-/// Options with one prefix, or no memory.
+/// Options with one prefix; the error is that memory ran out.
 fn one_prefix(alloc: Global, side: Side, prefix: &[u8]) -> Result<Options, Memory> {
     Options::new(alloc, side, &[prefix], Empty::Pad, false, false, false)
 }
@@ -279,7 +279,8 @@ fn tells_one_of_each(survey: &Survey<'_, '_>) -> bool {
         && ends_with(survey, NOTHING, End::Whole)
 }
 
-/// Run with each allocation failing in turn: all is reported, or there is no memory.
+/// The test runner repeats this with each allocation failing in turn. The survey is complete, or the error is
+/// `Memory`.
 #[test]
 fn a_survey_or_no_memory(rt: HostRuntime) {
     let Ok(options) = one_prefix(rt.alloc(), Side::Exclude, b"t/f") else {

@@ -1,4 +1,4 @@
--- Copies that need their source, as the search for the prefixes to add has them.
+-- The copies that need their source, in the form in which the program searches for the prefixes to add.
 use Rattle.std.specs.Prelude.{◌≡◌, ◌<◌, ℕ, Bool, true, false, not, ◌&&◌, List, [], ◌∷◌, ◌++◌, Option, Some, None, length, filter, bytes_eq, if◌then◌else◌, IsTrue, ⊤}
 use Rattle.std.specs.List.{list_any, filter_map}
 use Rattle.dump_records.specs.RecordText.{DumpRecord}
@@ -11,12 +11,12 @@ use Rattle.dump_history.specs.RecordChanges.{copy_path}
 use Rattle.dump_survey.specs.declared.advice.copy_needs.CopyNeed.{CopyNeed}
 use Rattle.dump_survey.specs.PrefixesToAdd.{wanted_path, matches_itself}
 
--- if a prefix matches the first path, one has to match the second, which matches itself
+-- a need: if a prefix matches the first path, a prefix has to match the second one, which matches itself
 pub record PathNeed : Type 0 where
   pub matched : List ℕ
   pub wanted : List ℕ
 
--- a need as the program has it
+-- the need that a value of the program means
 abbrev pub need_view : CopyNeed → PathNeed
 need_view n = record { matched = n.matched.now; wanted = n.wanted.now }
 
@@ -25,7 +25,7 @@ abbrev pub other_path : Side → DumpRecord → List ℕ
 other_path Include r = node_path r
 other_path Exclude r = copy_path r
 
--- whether the record is a copy that needs its source
+-- whether the node is a copy that the filter can't write without its source
 abbrev pub can_not_stand : DumpRecord → Bool
 can_not_stand r = is_node r && is_copy r && not (is_whole_file r)
 
@@ -41,31 +41,32 @@ need_of side r = if can_not_stand r && matches_itself (wanted_path side r) then 
 abbrev pub needs_of : Side → List DumpRecord → List PathNeed
 needs_of side records = filter_map (need_of side) records
 
--- whether some prefix matches the path
+-- whether a prefix matches the path
 abbrev pub is_matched : List (List ℕ) → List ℕ → Bool
 is_matched prefixes path = list_any (λ prefix. matches_path prefix path) prefixes
 
--- whether the need isn't met
+-- whether the need isn't met: a prefix matches its first path, and none matches the second one
 abbrev pub is_unmet : List (List ℕ) → PathNeed → Bool
 is_unmet prefixes n = is_matched prefixes n.matched && not (is_matched prefixes n.wanted)
 
--- prefixes, and those that were added
+-- the prefixes of the options, and the prefixes that were added
 pub record Grown : Type 0 where
   pub given : List (List ℕ)
   pub added : List (List ℕ)
 
--- all of them
+-- all these prefixes
 abbrev pub grown_prefixes : Grown → List (List ℕ)
 grown_prefixes g = g.given ++ g.added
 
--- each of the paths is the wanted one of an open need, with the prefixes and those before it, and matches itself
+-- each of the paths is the wanted path of a need that isn't met with the prefixes and the paths before it, and it
+-- matches itself
 abbrev pub AreNeeded : List PathNeed → List (List ℕ) → List (List ℕ) → Type 0
 AreNeeded needs prefixes [] = ⊤
 AreNeeded needs prefixes (path ∷ paths) =
     IsTrue (list_any (λ (n : PathNeed). is_unmet prefixes n && bytes_eq n.wanted path) needs)
     × IsTrue (matches_itself path) × AreNeeded needs (prefixes ++ path ∷ []) paths
 
--- how many of the needs have a path that isn't matched
+-- the number of needs whose wanted path no prefix matches
 abbrev pub unmatched : List PathNeed → List (List ℕ) → ℕ
 unmatched needs prefixes = length (filter (λ (n : PathNeed). not (is_matched prefixes n.wanted)) needs)
 
@@ -73,7 +74,8 @@ unmatched needs prefixes = length (filter (λ (n : PathNeed). not (is_matched pr
 abbrev pub each_matches_itself : List PathNeed → Bool
 each_matches_itself needs = not (list_any (λ (n : PathNeed). not (matches_itself n.wanted)) needs)
 
--- a pass over the needs added what is needed; if it added nothing, each need is met; if it did, fewer are unmatched
+-- a pass over the needs added what is needed. If it added nothing, each need is met. If it added something, fewer
+-- needs are unmatched.
 pub record IsPass (needs : List PathNeed) (old new : Grown) (grew : Bool) : Type 0 where
   pub given : new.given ≡ old.given
   pub more : List (List ℕ)

@@ -1,11 +1,11 @@
--- How often each kind of finding was reported, as the survey counts it.
+-- How often each kind of finding was reported, as the program counts it.
 use Rattle.std.specs.Prelude.{◌≡◌, ℕ, ◌+◌, if◌then◌else◌}
 use Rattle.dump_history.specs.Findings.{Finding}
 use Rattle.dump_survey.specs.declared.report.counts.Counts.{Counts}
 use Rattle.dump_survey.specs.declared.findings.node_finding.Found.{Found}
 use Rattle.dump_survey.specs.steps.Found.{has_found}
 
--- before the first node
+-- the counts before the first node
 abbrev pub no_counts : Counts
 no_counts = record {
   unread_block = 0;
@@ -25,7 +25,7 @@ no_counts = record {
   text_comes_in = 0;
 }
 
--- how often this was reported
+-- how often this finding was reported
 abbrev pub count_in : Counts → Finding → ℕ
 count_in counts Finding.UnreadBlock = counts.unread_block
 count_in counts Finding.Delta = counts.delta
@@ -43,7 +43,7 @@ count_in counts Finding.FolderTakes = counts.folder_takes
 count_in counts Finding.FolderBrings = counts.folder_brings
 count_in counts Finding.TextComesIn = counts.text_comes_in
 
--- the new counts are the old ones, with those of one more node
+-- the new counts are the old ones after one more node
 abbrev pub AreWithNode : Counts → Found → Counts → Type 0
 AreWithNode old found new = (f : Finding) →
     count_in new f ≡ (if has_found found f then count_in old f + 1 else count_in old f)

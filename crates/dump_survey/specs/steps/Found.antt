@@ -1,4 +1,4 @@
--- What is found in a node, as the program has it.
+-- The findings in a node, as the program represents them.
 use Rattle.std.specs.Prelude.{◌≡◌, ℕ, Bool, List, Option, None, is_some, option_copied, filter, IsTrue}
 use Rattle.dump_text.specs.PropertyList.{Property}
 use Rattle.dump_records.specs.RecordText.{DumpRecord}
@@ -10,7 +10,7 @@ use Rattle.dump_survey.specs.declared.findings.revision_numbers.Numbers.{Numbers
 use Rattle.dump_survey.specs.declared.findings.refused.Refused.{Refused}
 use Rattle.dump_survey.specs.steps.RevisionNumbers.{AreNumbersBehind}
 
--- whether this is among what is found
+-- whether this finding is one of them
 abbrev pub has_found : Found → Finding → Bool
 has_found found Finding.UnreadBlock = found.obstacles.unread_block
 has_found found Finding.Delta = found.obstacles.delta
@@ -28,23 +28,23 @@ has_found found Finding.FolderTakes = found.losses.folder_takes
 has_found found Finding.FolderBrings = found.losses.folder_brings
 has_found found Finding.TextComesIn = found.losses.text_comes_in
 
--- the prefix that is reported with this, if one is
+-- the prefix that is reported with this finding, if there is one
 abbrev pub found_prefix : Found → Finding → Option (List ℕ)
 found_prefix found Finding.CopyLoses = option_copied found.losses.copy_loses
 found_prefix found Finding.CopyLetsIn = option_copied found.losses.copy_lets_in
 found_prefix found _ = None
 
--- the faults that the filter has for a node
+-- the faults that the filter finds in a node
 abbrev pub node_faults : Refused → NodeFaults
 node_faults f =
     record { copy_revision = f.copy_revision; unread = f.unread; missing = f.missing; outside = f.outside }
 
--- the node's faults are these, by these numbers, whatever comes before it
+-- with these numbers, these are the node's faults, whatever comes before the node
 abbrev pub AreFaultsBy : Settings → Numbers → DumpRecord → NodeFaults → Type 0
 AreFaultsBy settings numbers r m = (before : List DumpRecord) → AreNumbersBehind settings before r numbers →
     AreNodeFaultsOf settings before r m
 
--- what is found is exactly what is found in the node, by these numbers, and it names the prefixes that cut
+-- with these numbers, these are exactly the findings in the node, with the prefixes that cut
 abbrev pub IsFoundIn : Settings → Numbers → DumpRecord → Found → Type 0
 IsFoundIn settings numbers r found = AreFaultsBy settings numbers r (node_faults found.refused)
     × ((ps : Option (List Property)) → IsReadBlock r ps → (finding : Finding)
@@ -52,6 +52,6 @@ IsFoundIn settings numbers r found = AreFaultsBy settings numbers r (node_faults
     × ((finding : Finding) → IsTrue (has_found found finding)
     → found_prefix found finding ≡ cutting_prefix settings r finding)
 
--- what is found, in order
+-- the findings, in order
 abbrev pub listed : Found → List Finding
 listed found = filter (λ f. has_found found f) every_finding

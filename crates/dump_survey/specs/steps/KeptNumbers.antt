@@ -10,16 +10,16 @@ use Rattle.dump_survey.specs.declared.report.revision_map.KeptNumbers.{KeptNumbe
 use Rattle.dump_survey.specs.declared.findings.tally.Present.{Present}
 use Rattle.dump_survey.specs.steps.Tally.{keeps_open}
 
--- the present revision, which has no more nodes, if it is kept
+-- the number of the present revision, if the filter keeps it when no more nodes follow
 abbrev pub ended_numbers : Settings → Option Present → List ℕ
 ended_numbers settings None = []
 ended_numbers settings (Some p) = if keeps_open settings (Some p) then p.number ∷ [] else []
 
--- the same, if this record comes next
+-- the number that is added before this record: the same, but none if the record is one more node
 abbrev pub numbers_before : Settings → Option Present → DumpRecord → List ℕ
 numbers_before settings p r = if is_node r then [] else ended_numbers settings p
 
--- the kept revisions as the program has them
+-- the kept revisions that a value of the program means
 abbrev pub kept_view : KeptNumbers → KeptRevisions
 kept_view k = record { first = k.first; numbers = k.numbers.items }
 

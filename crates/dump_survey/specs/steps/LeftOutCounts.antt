@@ -1,4 +1,4 @@
--- How many lines of mergeinfo are omitted, as the program counts them along the text.
+-- How many lines of mergeinfo are omitted, as the program counts them while it reads the text.
 use Rattle.std.specs.Prelude.{ℕ, List, count_by, sum_by, if◌then◌else◌}
 use Rattle.dump_text.specs.PropertyList.{Property}
 use Rattle.dump_rules.specs.Settings.{Settings}
@@ -6,18 +6,18 @@ use Rattle.dump_rules.specs.steps.ReadMergeinfo.{value_reads, without_lf}
 use Rattle.dump_rules.specs.steps.RewrittenLines.{line_misses, text_lines}
 use Rattle.dump_digest.specs.RecordParts.{is_mergeinfo, value_of}
 
--- of the lines of a text
+-- the number for the lines of a text
 abbrev pub text_lines_count : Settings → List ℕ → ℕ
 text_lines_count settings text = count_by (line_misses settings) (text_lines text)
 
--- of a value, none if it can't be read
+-- the number for a value; 0 if it can't be read
 abbrev pub value_count : Settings → List ℕ → ℕ
 value_count settings value = if value_reads value then text_lines_count settings (without_lf value) else 0
 
--- of a property
+-- the number for a property
 abbrev pub property_count : Settings → Property → ℕ
 property_count settings p = if is_mergeinfo p then value_count settings (value_of p) else 0
 
--- of all properties
+-- the number for all properties
 abbrev pub properties_count : Settings → List Property → ℕ
 properties_count settings ps = sum_by (property_count settings) ps

@@ -1,11 +1,11 @@
--- The values that the program has for the findings in a dump as a whole, and for what the lines of kinds say.
+-- How the program's values for findings in the dump as a whole, and for the lines of kinds, relate to the definitions.
 use Rattle.dump_history.specs.Findings.{DumpFinding}
 use Rattle.dump_survey.specs.declared.report.kind_lines.Kind.{Kind}
 use Rattle.dump_survey.specs.declared.findings.whole_finding.WholeFinding.{WholeFinding}
 use Rattle.dump_survey.specs.declared.findings.whole_finding.WholeFinding.TheVariants as whole
 use Rattle.dump_survey.specs.Kinds.{KindText}
 
--- the finding that a word of the program means
+-- the finding that a value of the program means
 abbrev pub whole_meaning : WholeFinding → DumpFinding
 whole_meaning whole.NoRevision = DumpFinding.NoRevision
 whole_meaning whole.OtherNumbers = DumpFinding.OtherNumbers
@@ -16,6 +16,6 @@ whole_meaning whole.SourceBefore = DumpFinding.SourceBefore
 whole_meaning whole.NodeOutside = DumpFinding.NodeOutside
 whole_meaning whole.NumbersLeft = DumpFinding.NumbersLeft
 
--- what the line of a kind says, as the program has it
+-- the parts of the line of a kind that a value of the program means
 unfoldable pub kind_view : Kind → KindText
 kind_view kind = record { what = kind.what.now; fault = kind.fault; advice = kind.advice.now }

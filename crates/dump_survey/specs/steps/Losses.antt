@@ -1,4 +1,4 @@
--- What keeps a node from making a change that the definitions describe, and what the filter's cut does to it.
+-- What prevents a node from making a change that the definitions describe, and what the filter's cut does to the node.
 use Rattle.std.specs.Prelude.{◌≡◌, not, List, [], Option, None, option_copied, unwrap_or, is_none, is_some, IsTrue}
 use Rattle.dump_text.specs.PropertyList.{Property}
 use Rattle.dump_records.specs.RecordText.{DumpRecord}
@@ -10,14 +10,14 @@ use Rattle.dump_survey.specs.CuttingPrefix.{cutting_prefix}
 use Rattle.dump_survey.specs.declared.findings.node_finding.Obstacles.{Obstacles}
 use Rattle.dump_survey.specs.declared.findings.node_finding.Losses.{Losses}
 
--- the obstacles are those of the node, whose properties are these
+-- these are the obstacles of the node, which has these properties
 pub record AreObstaclesOf (r : DumpRecord) (ps : Option (List Property)) (o : Obstacles) : Type 0 where
   pub unread_block : o.unread_block ≡ is_none ps
   pub delta : o.delta ≡ has_odd_delta r
   pub unknown_action : o.unknown_action ≡ not (has_known_action r)
   pub text_read_differently : o.text_read_differently ≡ not (has_plain_texts r (unwrap_or ps []))
 
--- the losses are those of the node, and name the prefixes that cut; its properties don't count
+-- these are the losses of the node, with the prefixes that cut; the node's properties don't matter
 pub record AreLossesOf (settings : Settings) (r : DumpRecord) (l : Losses) : Type 0 where
   pub no_whole_file : l.no_whole_file ≡ lacks_source settings r
   pub properties_lost : l.properties_lost ≡ is_found settings r None no_node_faults Finding.PropertiesLost

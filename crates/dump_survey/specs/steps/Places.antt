@@ -7,7 +7,7 @@ use Rattle.dump_survey.specs.declared.findings.tally.DumpFindings.{DumpFindings}
 use Rattle.dump_survey.specs.DumpFindings.{has_dump_finding}
 use Rattle.dump_survey.specs.DumpReport.{place_in, comes_up}
 
--- before the first record
+-- the places before the first record: there are none
 abbrev pub no_places : DumpPlaces
 no_places = record {
   other_numbers = None;
@@ -19,12 +19,13 @@ no_places = record {
   numbers_left = None;
 }
 
--- the place of a finding that was caused there, if it was, and is found with the record here or not
+-- the place of a finding after the record here: its earlier place if it had one, else this place if the finding is
+-- found now
 abbrev pub first_place : Option Place → Bool → Place → Option Place
 first_place (Some p) found here = Some p
 first_place None found here = if found then Some here else None
 
--- the new places are those with one more record, which is here
+-- the new places are the old ones after one more record, which is here
 abbrev pub AreNextPlaces : DumpPlaces → DumpFindings → Place → DumpPlaces → Type 0
 AreNextPlaces old found here new = (f : DumpFinding) → IsTrue (comes_up f)
     → place_in new f ≡ first_place (place_in old f) (has_dump_finding found f) here

@@ -1,4 +1,4 @@
--- What the revisions up to a kept node say of the numbers that the filter gives.
+-- The revision numbers that decide whether the filter has a new number for a revision that a kept node names.
 use Rattle.std.specs.Prelude.{◌≡◌, ℕ, Bool, true, false, not, ◌&&◌, ◌||◌, nat_lt, nat_le, List, [], ◌∷◌, ◌++◌, Option, Some, None}
 use Rattle.dump_text.specs.Names.{copy_revision_name}
 use Rattle.dump_records.specs.HeaderRules.{header_number}
@@ -12,7 +12,7 @@ use Rattle.dump_history.specs.Findings.{begins_at}
 use Rattle.dump_history.specs.steps.NodeReading.{has_up_to}
 use Rattle.dump_survey.specs.declared.findings.revision_numbers.Numbers.{Numbers}
 
--- whether there is such a number, and it is at most this one
+-- whether there is a number, and it is at most this one
 abbrev pub is_up_to : ℕ → Option ℕ → Bool
 is_up_to number None = false
 is_up_to number (Some least) = nat_le least number
@@ -29,7 +29,8 @@ pub record AreNumbersBehind (settings : Settings) (before : List DumpRecord) (r 
   pub kept : is_kept_node settings r ≡ true → (number : ℕ)
       → has_up_to number (kept_revisions settings (before ++ r ∷ [])).numbers ≡ reaches numbers number
 
--- whether a number has no new one, or is above the present one; none has none
+-- whether the revision with this number has no new number, or its number is above the present one; false if there is
+-- no number
 abbrev pub is_missing : Numbers → Option ℕ → Bool
 is_missing numbers None = false
 is_missing numbers (Some number) = not (reaches numbers number) || nat_lt numbers.present number

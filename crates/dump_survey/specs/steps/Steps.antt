@@ -1,4 +1,4 @@
--- What a surveyor gives, call by call.
+-- What a surveyor returns, call by call.
 use Rattle.std.specs.Prelude.{◌≡◌, ◌⊎◌, ℕ, ◌+◌, true, false, List, [], ◌∷◌, ◌++◌, length, Option, Some, None, option_map}
 use Rattle.dump_records.specs.declared.record.Record.{Record}
 use Rattle.dump_records.specs.RecordText.{DumpRecord}
@@ -23,7 +23,7 @@ use Rattle.dump_survey.specs.SurveyEnds.{survey_ending}
 use Rattle.dump_survey.specs.steps.Surveying.{Surveying}
 use Rattle.dump_survey.specs.steps.Tally.{numbers_of, tally_findings}
 
--- the step is that of this record, after those of the tally
+-- this is the step for this record; the tally describes the records before it
 abbrev pub IsStepOf : Settings → Record → Tally → Step → Type 0
 IsStepOf settings item tally (Node node) = (node.item ≡ item)
     × (is_node (record_item item) ≡ true)
@@ -32,23 +32,25 @@ IsStepOf settings item tally (Node node) = (node.item ≡ item)
 IsStepOf settings item tally Other = (tally.present ≡ None) ⊎ (is_node (record_item item) ≡ false)
 IsStepOf settings item tally (Finished end) = ⊥
 
--- this end is given, and what is found after the records of which this is known, with their places
+-- at this end the surveyor reports what it knows about the records: the findings in the dump as a whole, with their
+-- places
 abbrev pub ReportsEnd : Known → End → SurveyEnd → Type 0
 ReportsEnd known end reported = (reported.end ≡ end) × (reported.places ≡ known.places)
     × (listed_findings reported.dump ≡ tally_findings known.tally known.numbers_left known.unread_revision)
 
--- the revision that a node belongs to which comes after these records, if it would have belonged to this one
+-- the revision that a node belongs to if it comes after these records; before them, the present revision is this one
 abbrev pub open_behind : Option ℕ → List DumpRecord → Option ℕ
 open_behind present [] = present
 open_behind present (r ∷ records) = open_behind (present_after present r) records
 
--- the record comes next in the dump
+-- the record is the next one in the dump
 pub record ComesNext (old : Surveying) (before : List DumpRecord) (r : DumpRecord) (new : Surveying) : Type 0 where
   pub begins : BeginsWithRecords old.dump (before ++ r ∷ [])
   pub count : length before ≡ old.number
   pub next : new ≡ record old { number = old.number + 1 }
 
--- a surveyor gives what is found in the next record, or again what is known at the end
+-- the surveyor returns the findings in the next record; at the end it returns what it knows, and again so in each
+-- later call
 abbrev pub SurveyStep : Surveying → Step → Surveying → Type 0
 SurveyStep old (Node node) new = (before : List DumpRecord) × ComesNext old before (record_item node.item) new
     × (record_number node.item ≡ old.number) × (is_node (record_item node.item) ≡ true)
@@ -60,7 +62,7 @@ SurveyStep old (Finished end) new = (records : List DumpRecord) × HasRecords ol
     × AreDumpReports old.settings records (reported_at_end end) × ArePlaces old.settings records end.places
     × (new ≡ old)
 
--- this is reported of the prefixes by the records that the surveyor has given
+-- this is reported of the prefixes, as far as the records show that the surveyor has returned
 abbrev pub ArePrefixesReported : Surveying → List PrefixReport → Type 0
 ArePrefixesReported state reported = (before : List DumpRecord) × BeginsWithRecords state.dump before
     × (length before ≡ state.number) × (reported ≡ reported_prefixes before state.settings.prefixes)

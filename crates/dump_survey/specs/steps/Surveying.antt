@@ -1,4 +1,4 @@
--- What the contracts see of a surveyor, and what it knows.
+-- What contracts know about a surveyor, and what the surveyor knows about the dump.
 use Rattle.std.specs.Prelude.{◌≡◌, ◌↔◌, ℕ, List, length, map, IsTrue}
 use Rattle.dump_records.specs.RecordText.{DumpRecord}
 use Rattle.dump_records.specs.DumpText.{BeginsWithRecords}
@@ -12,15 +12,15 @@ use Rattle.dump_survey.specs.steps.NamedRevisions.{LeaveNumber}
 use Rattle.dump_survey.specs.DumpReport.{ArePlaces}
 use Rattle.dump_survey.specs.steps.Tally.{no_tally, tally_behind}
 
--- a surveyor: its dump, the filter's options, and how many records it has given
+-- a surveyor: its dump, the filter's options, and how many records it has returned
 pub record Surveying : Type 0 where
   pub dump : List ℕ
   pub settings : Settings
   pub number : ℕ
 
--- it holds the options' prefixes, and of the records that the cutter has given: the prefixes that they leave idle, their
--- tally, whether they leave numbers, and have a revision whose properties can't be read, and which of them causes each
--- finding in the dump as a whole
+-- The surveyor holds the options' prefixes. About the records that the cutter has returned it knows the prefixes that
+-- are idle and the tally. It knows whether the records leave numbers, and whether a revision has properties that can't
+-- be read. It also knows which record causes each finding in the dump as a whole.
 pub record Surveys (settings : Settings) (prefixes : List (List ℕ)) (known : Known) (cutter : CutterState) : Type 0 where
   pub prefixes_are : prefixes ≡ map bare_prefix settings.prefixes
   pub before : List DumpRecord

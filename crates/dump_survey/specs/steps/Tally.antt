@@ -1,4 +1,4 @@
--- What is known of the revisions of a dump, record by record.
+-- What the first records of a dump say about its revisions, record by record.
 use Rattle.std.specs.Prelude.{ℕ, ◌+◌, ◌==◌, Bool, true, false, not, ◌&&◌, ◌||◌, List, [], ◌∷◌, filter, Option, Some, None, nat_le, nat_lt, if◌then◌else◌}
 use Rattle.dump_records.specs.RecordText.{DumpRecord}
 use Rattle.dump_rules.specs.Settings.{Settings}
@@ -9,7 +9,7 @@ use Rattle.dump_survey.specs.declared.findings.revision_numbers.Numbers.{Numbers
 use Rattle.dump_survey.specs.declared.findings.tally.Present.{Present}
 use Rattle.dump_survey.specs.declared.findings.tally.Tally.{Tally}
 
--- before the first record
+-- the tally before the first record
 abbrev pub no_tally : Tally
 no_tally = record {
   count = 0;
@@ -34,30 +34,31 @@ keeps_open settings (Some p) = p.number == 0 || p.kept || keeps_empty settings.e
 abbrev pub keeps_present : Settings → Tally → Bool
 keeps_present settings t = t.all_kept && keeps_open settings t.present
 
--- the lesser of two numbers, the first of which there may not be
+-- the lesser of the two numbers; the second one if there is no first one
 abbrev pub lesser : Option ℕ → ℕ → ℕ
 lesser None number = number
 lesser (Some least) number = if nat_le least number then least else number
 
--- the least number of the kept revisions, if the present one has no more nodes and this is the least of those before
+-- the least number of the kept revisions if the present one has no more nodes; this is the least number of the kept
+-- ones before it
 abbrev pub least_behind : Settings → Option ℕ → Option Present → Option ℕ
 least_behind settings least None = least
 least_behind settings least (Some p) = if keeps_open settings (Some p) then Some (lesser least p.number) else least
 
--- the numbers that a node of this revision, the present one, is held against
+-- the numbers with which the revisions are compared that a node of this revision, the present one, names
 abbrev pub numbers_of : Tally → ℕ → Numbers
 numbers_of t present = record { first = t.first; least = t.least; present = present }
 
--- the number of the first revision, if one of this number comes next
+-- the number of the first revision, if the next record is a revision with this number
 abbrev pub first_with : Tally → ℕ → ℕ
 first_with t number = if t.count == 0 then number else t.first
 
--- whether the number is above that of the last revision, if there is one
+-- whether the number is above that of the last revision; true if there is no last revision
 abbrev pub is_above_last : Option ℕ → ℕ → Bool
 is_above_last None number = true
 is_above_last (Some last) number = nat_lt last number
 
--- after a revision
+-- the tally after a revision
 abbrev pub revision_tally : Settings → Tally → DumpRecord → Tally
 revision_tally settings t r = record {
   count = t.count + 1;
@@ -73,8 +74,8 @@ revision_tally settings t r = record {
   present = Some (record { number = revision_number r; bare = true; kept = false });
 }
 
--- after a node, which is kept or not, is a copy from before the first revision or not, and is outside of any revision
--- if none is present
+-- the tally after a node. The first flag says whether the node is kept, and the second one whether it is a copy from
+-- before the first revision. If there is no present revision, the node is outside of any revision.
 abbrev pub node_tally : Tally → Bool → Bool → Option Present → Tally
 node_tally t kept early None = record t { node_outside = true }
 node_tally t kept early (Some p) = record t {
@@ -83,7 +84,7 @@ node_tally t kept early (Some p) = record t {
   present = Some (record { number = p.number; bare = false; kept = p.kept || kept });
 }
 
--- after another record
+-- the tally after another record
 abbrev pub other_tally : Settings → Tally → Tally
 other_tally settings t = record t {
   all_kept = keeps_present settings t;
@@ -91,20 +92,20 @@ other_tally settings t = record t {
   present = None;
 }
 
--- after one more record
+-- the tally after one more record
 abbrev pub next_tally : Settings → Tally → DumpRecord → Tally
 next_tally settings t r =
     if is_revision_record r then revision_tally settings t r
     else if is_node r then node_tally t (is_kept_node settings r) (copies_from_before t.first r) t.present
     else other_tally settings t
 
--- after these records
+-- the tally after these records
 abbrev pub tally_behind : Settings → Tally → List DumpRecord → Tally
 tally_behind settings t [] = t
 tally_behind settings t (r ∷ records) = tally_behind settings (next_tally settings t r) records
 
--- whether this is found in the dump if it ends here, by whether numbers are left, and the properties of a revision
--- can't be read or all can
+-- whether a dump that ends here has this finding. The flags say whether numbers are left, and whether the properties
+-- of a revision can't be read.
 abbrev pub is_tallied : Tally → (left unread : Bool) → DumpFinding → Bool
 is_tallied t left unread DumpFinding.NoRevision = t.count == 0
 is_tallied t left unread DumpFinding.OtherNumbers = not t.numbered
@@ -115,6 +116,6 @@ is_tallied t left unread DumpFinding.SourceBefore = t.source_before
 is_tallied t left unread DumpFinding.NodeOutside = t.node_outside
 is_tallied t left unread DumpFinding.NumbersLeft = left
 
--- what is found in the dump if it ends here
+-- the findings in a dump that ends here
 abbrev pub tally_findings : Tally → (left unread : Bool) → List DumpFinding
 tally_findings t left unread = filter (λ f. is_tallied t left unread f) every_dump_finding

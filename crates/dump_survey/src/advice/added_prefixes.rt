@@ -1,4 +1,4 @@
-//! The prefixes to add so that the filter stops at no copy.
+//! The prefixes that a caller has to add so that the filter stops at no copy.
 ghost use Rattle.std.specs.Prelude.{◌≡◌, IfOk, map};
 ghost use Rattle.dump_survey.specs.PrefixesToAdd.{ArePrefixesToAddIn, uncovered};
 
@@ -8,7 +8,7 @@ use crate::findings::prefix_set::PrefixSet;
 use dump_rules::{Memory, Options, Side, bare_prefix};
 use std::alloc::Global;
 
-/// Those of the paths that no later one covers, in their order.
+/// Returns, in their order, the paths that no later path covers.
 fn uncovered<'a>(alloc: Global, paths: &[&'a [u8]]) -> Result<Vec<&'a [u8]>, Memory>
     ensures { IfOk result (λ top. map (λ path. path.now) top.items ≡ uncovered (map (λ path. path.now) paths.now)) }
 {
@@ -26,12 +26,13 @@ fn uncovered<'a>(alloc: Global, paths: &[&'a [u8]]) -> Result<Vec<&'a [u8]>, Mem
     Ok(top)
 }
 
-/// The prefixes to add if a dump is filtered under these options: under include copy sources to be included too, under
-/// exclude copies to be excluded too, so that the filter stops at no copy. A path that begins with two slashes, which
-/// no prefix can name, isn't among them.
+/// Returns the prefixes to add so that the filter, under these options, stops at no copy. Under `include` they are
+/// copy sources, which have to be included too. Under `exclude` they are copies, which have to be excluded too. A path
+/// that begins with two slashes isn't among them, since no prefix can name it.
 ///
-/// Takes memory for each copy that needs its source. All copies are looked at until none needs more, under include from
-/// the last one on, since a source is mostly older than its copy: so a chain of copies is settled twice.
+/// The function takes memory for each copy that needs its source. It repeats the pass over all copies until no copy
+/// needs another prefix. Under `include` it begins with the last copy, since a source is mostly older than its copy;
+/// so for a chain of copies mostly the first pass adds all prefixes, and a second one finds nothing to add.
 pub fn prefixes_to_add<'a>(
     alloc: Global,
     dump: &'a [u8],

@@ -12,28 +12,28 @@ use dump_records::{Cut, Cutter, Record};
 use dump_rules::{Memory, Side, bare_path, bare_prefix};
 use std::alloc::Global;
 
-/// What a copy needs: if a prefix matches the first path, one has to match the second.
+/// What a copy needs: if a prefix matches the path `matched`, a prefix has to match the path `wanted` too.
 #[derive(Clone, Copy)]
 pub(crate) struct CopyNeed<'a> {
     pub(crate) matched: &'a [u8],
     pub(crate) wanted: &'a [u8],
 }
 
-/// Whether the path, as a prefix, matches itself.
+/// Whether the path matches itself if it is used as a prefix.
 fn matches_itself(path: &[u8]) -> bool
     ensures { result ≡ matches_itself path.now }
 {
     begins_path(bare_prefix(path), bare_path(path))
 }
 
-/// Whether the record is a copy that needs its source.
+/// Whether the node is a copy that the filter can't write without its source: one that isn't a whole file.
 fn can_not_stand(item: &Record<'_>) -> bool
     ensures { result ≡ can_not_stand (record_item item.now) }
 {
     item.is_node() && is_copy(item) && !is_whole_file(item)
 }
 
-/// What the record needs, if it is such a copy.
+/// What the record needs if it is a copy that needs its source. `None` also if the wanted path doesn't match itself.
 fn need_of<'a>(item: &Record<'a>, side: Side) -> Option<CopyNeed<'a>>
     ensures { option_map need_view result ≡ need_of side (record_item item.now) }
 {
@@ -59,7 +59,7 @@ fn need_of<'a>(item: &Record<'a>, side: Side) -> Option<CopyNeed<'a>>
     }
 }
 
-/// What the records of the dump need, in their order, up to the end of their list.
+/// What the records of the dump need, in the dump's order, up to the end of the list of records.
 pub(crate) fn needs_in<'a>(
     alloc: Global,
     dump: &'a [u8],

@@ -1,4 +1,4 @@
-//! The parent directories to create before loading.
+//! The parent directories that an administrator has to create before loading.
 ghost use Rattle.std.specs.Prelude.{◌≡◌, [], IfOk, OnOk, filter, flat_map, map, not};
 ghost use Rattle.dump_rules.specs.Settings.{keeps_path};
 ghost use Rattle.dump_survey.specs.Folders.{AreFoldersToMake, each_once, fronts, with_new};
@@ -9,7 +9,7 @@ use std::alloc::Global;
 use std::collections::BTreeSet;
 use std::marker::Model;
 
-/// Directories, each once, in the order in which they came.
+/// A list of directories without duplicates, in the order in which they were added.
 #[derive(Drop)]
 struct Folders<'o> {
     paths: Vec<&'o [u8]>,
@@ -28,7 +28,7 @@ impl<'o> Model for Folders<'o> {
 }
 
 impl<'o> Folders<'o> {
-    /// No directory.
+    /// The empty list.
     fn new(alloc: Global) -> Folders<'o>
         ensures { result ≡ [] }
     {
@@ -38,7 +38,7 @@ impl<'o> Folders<'o> {
         }
     }
 
-    /// Adds a directory, if it isn't there.
+    /// Adds a directory if the list doesn't hold it yet.
     fn add(&mut self, alloc: Global, path: &'o [u8]) -> Result<(), Memory>
         ensures { OnOk result (self.new ≡ with_new self.old path.now) }
     {
@@ -70,7 +70,7 @@ impl<'o> Folders<'o> {
     }
 }
 
-/// The paths above the bare prefixes that aren't kept, each once.
+/// The paths above the bare prefixes that aren't kept, without duplicates.
 fn left_above<'o>(
     alloc: Global,
     options: &Options,
@@ -88,8 +88,9 @@ fn left_above<'o>(
     Ok(folders.paths)
 }
 
-/// The directories to create before what is filtered under these options is loaded: under include those above the
-/// prefixes that aren't kept themselves, each after its parent; under exclude none.
+/// The directories to create before a dump that was filtered under these options is loaded. Under `include` they are
+/// the directories above the prefixes that aren't kept themselves, each after its parent. Under `exclude` there are
+/// none.
 pub fn folders_to_make<'o>(alloc: Global, options: &'o Options) -> Result<Vec<&'o [u8]>, Memory>
     ensures { IfOk result (λ paths. AreFoldersToMake options.now (map (λ path. path.now) paths.items)) }
 {

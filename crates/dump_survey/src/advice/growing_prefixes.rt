@@ -1,4 +1,4 @@
-//! Prefixes that grow until each copy that a prefix reaches has what it needs.
+//! Prefixes to which more are added until each copy that a prefix matches has what it needs.
 ghost use Rattle.std.specs.Prelude.{◌≡◌, ◌++◌, ◌∷◌, [], IfOk, OnOk, IsTrue, false, map};
 ghost use Rattle.std.specs.List.{list_any};
 ghost use Rattle.dump_survey.specs.steps.CopyNeeds.{AreNeeded, IsPass, each_matches_itself, grown_prefixes, is_matched, is_unmet, need_view};
@@ -9,7 +9,7 @@ use dump_rules::{Memory, Options, Side, bare_path, keeps};
 use std::alloc::Global;
 use std::marker::Model;
 
-/// The options' prefixes, and those that are added to them.
+/// The prefixes of the options, and the prefixes that were added to them.
 #[derive(Drop)]
 struct GrowingPrefixes<'o, 'a> {
     options: &'o Options,
@@ -41,7 +41,7 @@ fn has_match(options: &Options, path: &[u8]) -> bool
 }
 
 impl<'o, 'a> GrowingPrefixes<'o, 'a> {
-    /// The options' prefixes alone.
+    /// The options' prefixes, with no added ones.
     fn new(alloc: Global, options: &'o Options) -> GrowingPrefixes<'o, 'a>
         ensures { result ≡ record { given = options.now.prefixes; added = [] } }
     {
@@ -59,7 +59,7 @@ impl<'o, 'a> GrowingPrefixes<'o, 'a> {
         has_match(self.options, path) || self.set.begin(bare_path(path))
     }
 
-    /// Whether a need isn't met.
+    /// Whether a prefix matches the matched path of the need, and none matches its wanted path.
     fn is_unmet(&self, need: &CopyNeed<'_>) -> bool
         ensures { result ≡ is_unmet (grown_prefixes self.now) (need_view need.now) }
     {
@@ -78,7 +78,7 @@ impl<'o, 'a> GrowingPrefixes<'o, 'a> {
         added
     }
 
-    /// Adds what is needed, need by need, and returns whether anything was.
+    /// Goes through the needs and adds the wanted path of each need that isn't met. Returns whether it added any.
     fn pass(&mut self, alloc: Global, needs: &[CopyNeed<'a>]) -> Result<bool, Memory>
         requires { IsTrue (each_matches_itself (map need_view needs.now)) }
         ensures { IfOk result (λ grew. IsPass (map need_view needs.now) self.old self.new grew) }
@@ -96,8 +96,8 @@ impl<'o, 'a> GrowingPrefixes<'o, 'a> {
     }
 }
 
-/// The paths that have to be prefixes too, so that each need is met, each after those that make it necessary. They come
-/// in the order of the needs, and again from the first one if a need was met too late.
+/// The paths to add as prefixes so that each need is met. Each path comes after the paths that make it necessary. The
+/// paths are in the order of the needs; this order begins again at the first need for each further pass.
 pub(crate) fn wanted_paths<'a>(
     alloc: Global,
     options: &Options,

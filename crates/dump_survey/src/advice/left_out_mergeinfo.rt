@@ -11,7 +11,7 @@ use dump_records::{Cut, Cutter, Record};
 use dump_rules::{Options, keeps, merge_path_of, merge_reads, without_lf};
 use dump_text::{Entry, Props};
 
-/// How many lines of a text have a path that isn't kept.
+/// The number of lines of a text that have a path that isn't kept.
 fn text_left_out(text: &[u8], options: &Options) -> usize
     ensures { result ≡ text_lines_count options.now text.now }
 {
@@ -23,7 +23,7 @@ fn text_left_out(text: &[u8], options: &Options) -> usize
         .count()
 }
 
-/// How many lines of a value are omitted, none if it can't be read.
+/// The number of lines of a value that the filter omits; 0 if the value can't be read.
 fn value_left_out(value: &[u8], options: &Options) -> usize
     ensures { result ≡ value_count options.now value.now }
 {
@@ -34,7 +34,7 @@ fn value_left_out(value: &[u8], options: &Options) -> usize
     }
 }
 
-/// How many lines of a property are omitted.
+/// The number of lines of a property that the filter omits.
 fn entry_left_out(entry: &Entry<'_>, options: &Options) -> usize
     ensures { result ≡ property_count options.now (entry_property entry.now) }
 {
@@ -45,12 +45,12 @@ fn entry_left_out(entry: &Entry<'_>, options: &Options) -> usize
     }
 }
 
-/// How many lines of some properties are omitted. The name may occur more than once.
+/// The number of lines of some properties that the filter omits. A name may occur more than once.
 fn properties_left_out(props: &Props<'_>, options: &Options) -> usize
     ensures { (ps : List Property) → IsPropertyBlock (props_bytes props.now) ps
         → result ≡ properties_count options.now ps }
 {
-    // so that the block's length, and with it the count, is known to fit
+    // This call shows the checker that the block's length, and so the count, fits into a `usize`.
     let _size = props.bytes().len();
     let mut count = 0;
     let mut entries = props.entries();
@@ -60,7 +60,7 @@ fn properties_left_out(props: &Props<'_>, options: &Options) -> usize
     count
 }
 
-/// How many lines are omitted with a record.
+/// The number of lines of a record's mergeinfo that the filter omits.
 fn record_left_out(item: &Record<'_>, options: &Options) -> usize
     ensures { AreLeftOutOf options.now (record_item item.now) result }
 {
@@ -73,7 +73,7 @@ fn record_left_out(item: &Record<'_>, options: &Options) -> usize
     }
 }
 
-/// How many lines are omitted with the records of a dump.
+/// The number of lines of mergeinfo that the filter omits from the records of a dump.
 fn records_left_out(dump: &[u8], options: &Options) -> usize
     ensures { AreLeftOutOfRecords options.now dump.now result }
 {
@@ -88,8 +88,9 @@ fn records_left_out(dump: &[u8], options: &Options) -> usize
     }
 }
 
-/// How many lines of the mergeinfo of kept nodes the filter omits from a dump under these options, since their paths
-/// aren't kept. Without `--skip-missing-merge-sources` it leaves none out, and the dump isn't read.
+/// The number of lines of mergeinfo that the filter, under these options, omits from the kept nodes of a dump because
+/// their paths aren't kept. Without `--skip-missing-merge-sources` the filter omits none, and this function doesn't
+/// read the dump.
 pub fn left_out_lines(dump: &[u8], options: &Options) -> usize
     ensures { AreLeftOutIn options.now dump.now result }
 {

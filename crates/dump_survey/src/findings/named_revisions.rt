@@ -1,4 +1,4 @@
-//! Nodes that name a revision by its number, and whether the number stays its own.
+//! Nodes that name a revision by its number, and whether that number still is the revision's number after filtering.
 ghost use Rattle.std.specs.Prelude.{◌≡◌, ◌↔◌, Bool, IsTrue, List};
 ghost use Rattle.std.specs.List.{list_any};
 ghost use Rattle.dump_text.specs.PropertyList.{IsPropertyBlock, Property};
@@ -17,7 +17,7 @@ use dump_records::Record;
 use dump_rules::Options;
 use dump_text::Props;
 
-/// Whether mergeinfo is among the properties.
+/// Whether the properties contain `svn:mergeinfo`.
 fn has_mergeinfo(props: &Props<'_>) -> bool
     ensures { (ps : List Property) → IsPropertyBlock (props_bytes props.now) ps → result ≡ list_any is_mergeinfo ps }
 {
@@ -30,7 +30,7 @@ fn has_mergeinfo(props: &Props<'_>) -> bool
     false
 }
 
-/// Whether a node sets mergeinfo, by a block that can be read.
+/// Whether a node sets mergeinfo in a property block that can be read.
 fn sets_mergeinfo(item: &Record<'_>) -> bool
     ensures { IsTrue result ↔ SetsMergeinfo (record_item item.now) }
 {
@@ -40,7 +40,7 @@ fn sets_mergeinfo(item: &Record<'_>) -> bool
     }
 }
 
-/// Whether a node names a revision: it makes a copy, or sets mergeinfo.
+/// Whether a node names a revision: it is a copy, or it sets mergeinfo.
 fn names_revision(item: &Record<'_>) -> bool
     requires { IsTrue (is_node (record_item item.now)) }
     ensures { IsTrue result ↔ NamesRevision (record_item item.now) }
@@ -48,8 +48,8 @@ fn names_revision(item: &Record<'_>) -> bool
     makes_copy(item) || sets_mergeinfo(item)
 }
 
-/// Whether this record, which follows those of the tally and may be a kept node, refers to a revision by number after a
-/// revision was dropped without renumbering.
+/// Whether this record is a kept node that names a revision, after a revision was dropped without renumbering. `tally`
+/// describes the records before it, and `kept` says whether the record is a kept node.
 pub(crate) fn leaves_number(item: &Record<'_>, kept: bool, options: &Options, tally: &Tally) -> bool
     requires { kept ≡ is_kept_node options.now (record_item item.now) }
     ensures { (names : DumpRecord → Bool) → TellsNaming names

@@ -1,4 +1,4 @@
-//! What is found in a node.
+//! What a survey finds in a node.
 ghost use Rattle.std.specs.Prelude.{◌≡◌, List, Option, IfOk, IsTrue, IsFalse, map};
 ghost use Rattle.dump_text.specs.PropertyList.{Property};
 ghost use Rattle.dump_records.specs.steps.RecordViews.{record_item};
@@ -24,7 +24,8 @@ use dump_rules::{Memory, Options, Side, keeps};
 use dump_text::Props;
 use std::alloc::Global;
 
-/// What keeps a node with this action and these properties from making a change that the definitions describe.
+/// The obstacles of a node with this action and these properties: what prevents it from making a change that the
+/// definitions describe.
 fn obstacles_of(item: &Record<'_>, action: Action, props: &Option<Props<'_>>) -> Obstacles
     requires node { IsTrue (is_node (record_item item.now)) }
     requires action { IsActionOf (record_item item.now) action }
@@ -40,7 +41,7 @@ fn obstacles_of(item: &Record<'_>, action: Action, props: &Option<Props<'_>>) ->
     }
 }
 
-/// Whether prefixes are excluded.
+/// Whether the subcommand is `exclude`.
 fn is_exclude(options: &Options) -> bool
     ensures { result ≡ is_exclude options.now.side }
 {
@@ -50,7 +51,7 @@ fn is_exclude(options: &Options) -> bool
     }
 }
 
-/// What the cut does to a kept copy of a path that isn't kept.
+/// What the filter's cut does to a kept copy whose source is excluded.
 fn losses_of_lost<'o>(item: &Record<'_>, action: Action, options: &Options) -> Losses<'o>
     requires action { IsActionOf (record_item item.now) action }
     requires kept { IsTrue (has_kept_path options.now (record_item item.now)) }
@@ -68,7 +69,7 @@ fn losses_of_lost<'o>(item: &Record<'_>, action: Action, options: &Options) -> L
     }
 }
 
-/// What the cut does to a kept copy of a path that is kept too.
+/// What the filter's cut does to a kept copy whose source is kept too.
 fn losses_of_copy<'o>(
     alloc: Global,
     item: &Record<'_>,
@@ -98,7 +99,7 @@ fn losses_of_copy<'o>(
     })
 }
 
-/// What the cut does to a node whose path is kept.
+/// What the filter's cut does to a kept node.
 fn losses_of_kept<'o>(
     alloc: Global,
     item: &Record<'_>,
@@ -121,7 +122,7 @@ fn losses_of_kept<'o>(
     losses_of_copy(alloc, item, action, options, prefixes)
 }
 
-/// What the cut does to a node whose path isn't kept.
+/// What the filter's cut does to a node whose path isn't kept.
 fn losses_of_left<'o>(
     item: &Record<'_>,
     action: Action,
@@ -147,7 +148,7 @@ fn losses_of_left<'o>(
     }
 }
 
-/// What is found in a node, whether or not its path is kept, with the numbers of the revisions up to it.
+/// What the survey finds in a node, kept or not. `Numbers` describes the revisions up to the node.
 pub(crate) fn find<'o>(
     alloc: Global,
     item: &Record<'_>,

@@ -1,4 +1,4 @@
-//! What can be found in a node.
+//! What a survey can find in a node.
 ghost use Rattle.std.specs.Prelude.{◌≡◌, option_copied};
 ghost use Rattle.std.specs.List.{list_any};
 ghost use Rattle.dump_history.specs.Findings.{every_finding};
@@ -9,42 +9,42 @@ ghost use Rattle.dump_survey.specs.steps.Found.{found_prefix, has_found};
 use crate::findings::refused::Refused;
 use dump_text::FaultKind;
 
-/// What can be found in a node.
+/// What a survey can find in a node.
 #[derive(Clone, Copy, Debug, PartialEq, Eq)]
 pub enum NodeFinding {
-    /// Its property block can't be read.
+    /// The property block can't be read.
     UnreadBlock,
-    /// It says that a part of it is a delta, but format version 3 isn't in force.
+    /// A header says that a part of the node is a delta, but format version 3 isn't in force there.
     Delta,
-    /// It has no action, or an unknown one.
+    /// The node has no action, or an unknown one.
     UnknownAction,
-    /// `svnadmin load` reads one of its texts differently.
+    /// `svnadmin load` reads one of the node's texts differently.
     TextReadDifferently,
-    /// The filter stops at it with fault 12.
+    /// The filter stops at the node with fault 12.
     NoWholeFile,
-    /// The filter stops at it with fault 13: it has no new number for the revision that it is copied from.
+    /// The filter stops at the node with fault 13: the revision that the node is copied from has no new number.
     MissingCopyRevision,
-    /// The filter stops at it with fault 14: its mergeinfo can't be read.
+    /// The filter stops at the node with fault 14: the node's mergeinfo can't be read.
     UnreadMergeinfo,
-    /// The filter stops at it with fault 15: its mergeinfo names a path that isn't kept.
+    /// The filter stops at the node with fault 15: the node's mergeinfo names a path that isn't kept.
     MissingMergeSource,
-    /// The filter stops at it with fault 16: its mergeinfo names a revision outside of the dump.
+    /// The filter stops at the node with fault 16: the node's mergeinfo names a revision outside of the dump.
     MissingMergeRevision,
-    /// The properties of its excluded source may be lost.
+    /// The node's copy source is excluded, and its properties may be lost.
     PropertiesLost,
     /// A copy of a kept path may lack what is excluded below that path.
     CopyLoses,
     /// A copy of a kept path may bring back what is excluded below the copy.
     CopyLetsIn,
-    /// An excluded directory is deleted, and what is included below it may stay.
+    /// The node deletes an excluded directory, and what is included below it may stay.
     FolderTakes,
-    /// An excluded directory is a copy, and what is included below it may be missing.
+    /// The node is an excluded directory that is a copy, and what is included below it may be missing.
     FolderBrings,
-    /// A kept file is a copy of an excluded one, and has its text.
+    /// The node is a kept file that is a copy of an excluded one, and it has the excluded file's text.
     TextComesIn,
 }
 
-/// Each of them, in the order in which they are reported.
+/// All findings in nodes, in the order in which they are reported.
 pub const EVERY_FINDING: [NodeFinding; 15] = [
     NodeFinding::UnreadBlock,
     NodeFinding::Delta,
@@ -64,7 +64,7 @@ pub const EVERY_FINDING: [NodeFinding; 15] = [
 ];
 
 impl NodeFinding {
-    /// The fault with which the filter stops at a node in which this is found, if it does.
+    /// The fault with which the filter stops at a node that has this finding, if it stops there.
     pub(crate) fn fault(self) -> Option<FaultKind>
         ensures { result ≡ finding_fault (meaning self) }
     {
@@ -79,7 +79,7 @@ impl NodeFinding {
     }
 }
 
-/// What keeps a node from making a change that the definitions describe.
+/// What prevents a node from making a change that the definitions describe.
 #[derive(Clone, Copy, Debug, PartialEq, Eq)]
 pub(crate) struct Obstacles {
     pub(crate) unread_block: bool,
@@ -93,9 +93,9 @@ pub(crate) struct Obstacles {
 pub(crate) struct Losses<'o> {
     pub(crate) no_whole_file: bool,
     pub(crate) properties_lost: bool,
-    /// The first prefix by which a copy lacks something.
+    /// The first prefix because of which a copy lacks something.
     pub(crate) copy_loses: Option<&'o [u8]>,
-    /// The first prefix by which a copy brings something back.
+    /// The first prefix because of which a copy brings something back.
     pub(crate) copy_lets_in: Option<&'o [u8]>,
     pub(crate) folder_takes: bool,
     pub(crate) folder_brings: bool,
@@ -103,7 +103,7 @@ pub(crate) struct Losses<'o> {
 }
 
 impl Losses<'static> {
-    /// Nothing is found.
+    /// The value that says that nothing is lost.
     pub(crate) const NONE: Losses<'static> = Losses {
         no_whole_file: false,
         properties_lost: false,
@@ -115,7 +115,7 @@ impl Losses<'static> {
     };
 }
 
-/// What is found in a node.
+/// The findings in a node.
 #[derive(Clone, Copy, Debug, PartialEq, Eq)]
 pub struct Found<'o> {
     pub(crate) obstacles: Obstacles,
@@ -124,7 +124,7 @@ pub struct Found<'o> {
 }
 
 impl<'o> Found<'o> {
-    /// Whether this is among it.
+    /// Whether this finding is one of them.
     pub fn has(&self, finding: NodeFinding) -> bool
         ensures { result ≡ has_found self.now (meaning finding) }
     {
@@ -147,7 +147,7 @@ impl<'o> Found<'o> {
         }
     }
 
-    /// Whether anything is found.
+    /// Whether there is any finding.
     pub(crate) fn is_any(&self) -> bool
         ensures { result ≡ list_any (has_found self.now) every_finding }
     {
@@ -169,7 +169,7 @@ impl<'o> Found<'o> {
             | losses.text_comes_in
     }
 
-    /// The prefix that is reported with this, if one is.
+    /// The prefix that is reported with this finding, if there is one.
     pub(crate) fn prefix(&self, finding: NodeFinding) -> Option<&'o [u8]>
         ensures { option_copied result ≡ found_prefix self.now (meaning finding) }
     {

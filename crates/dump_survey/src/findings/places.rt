@@ -7,16 +7,17 @@ ghost use Rattle.dump_survey.specs.steps.LineViews.{whole_meaning};
 use crate::findings::tally::DumpFindings;
 use crate::findings::whole_finding::WholeFinding;
 
-/// Where a record is in a dump.
+/// The place of a record in a dump.
 #[derive(Clone, Copy, Debug, PartialEq, Eq)]
 pub struct Place {
-    /// Its number, from 0.
+    /// The record's number, from 0.
     pub number: u64,
-    /// The byte of the dump at which it begins.
+    /// The offset of the record's first byte in the dump.
     pub place: usize,
 }
 
-/// The first record that causes each of the findings, if one does. That there is no revision has none.
+/// For each finding in the dump as a whole, the place of the first record that causes it, if there is one. No record
+/// causes the finding that there is no revision.
 #[derive(Clone, Copy, Debug, PartialEq, Eq)]
 pub struct DumpPlaces {
     pub other_numbers: Option<Place>,
@@ -28,7 +29,8 @@ pub struct DumpPlaces {
     pub numbers_left: Option<Place>,
 }
 
-/// The place of a finding that was caused there, if it was, and is found with the record here or not.
+/// The place of a finding after one more record. `before` is its place before this record, and `found` says whether it
+/// is found now; `here` is the place of this record.
 fn first_place(before: Option<Place>, found: bool, here: Place) -> Option<Place>
     ensures { result ≡ first_place before found here }
 {
@@ -40,7 +42,7 @@ fn first_place(before: Option<Place>, found: bool, here: Place) -> Option<Place>
 }
 
 impl DumpPlaces {
-    /// Those of no record.
+    /// The places before the first record: there are none.
     pub(crate) fn new() -> DumpPlaces
         ensures { result ≡ no_places }
     {
@@ -71,7 +73,7 @@ impl DumpPlaces {
         }
     }
 
-    /// Those of one more record, which is here, and up to which this is found.
+    /// The places after one more record. The record is at `here`, and `found` is what is found up to it.
     fn with(&self, found: &DumpFindings, here: Place) -> DumpPlaces
         ensures { AreNextPlaces self.now found.now here result }
     {
@@ -86,7 +88,8 @@ impl DumpPlaces {
         }
     }
 
-    /// Goes on to one more record, which is here, and up to which this is found. As long as nothing is, nothing changes.
+    /// Updates the places for one more record. The record is at `here`, and `found` is what is found up to it. If
+    /// nothing is found, nothing changes.
     pub(crate) fn note(&mut self, found: &DumpFindings, here: Place)
         ensures { AreNextPlaces self.old found.now here self.new }
     {

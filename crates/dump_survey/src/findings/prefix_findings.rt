@@ -1,4 +1,4 @@
-//! What is found in the prefixes of a call.
+//! What a survey finds in the prefixes of a call.
 ghost use Rattle.std.specs.Prelude.{◌≡◌, IfOk, map};
 ghost use Rattle.dump_records.specs.steps.RecordViews.{record_item};
 ghost use Rattle.dump_survey.specs.PrefixFindings.{prefix_view};
@@ -10,24 +10,24 @@ use dump_records::Record;
 use dump_rules::{Memory, bare_path, bare_prefix};
 use std::alloc::Global;
 
-/// What can be found in a prefix.
+/// What a survey can find in a prefix.
 #[derive(Clone, Copy, Debug, PartialEq, Eq)]
 pub enum PrefixFinding {
-    /// It isn't canonical, so no path of the loaded repository is at or below it.
+    /// The prefix isn't canonical, so no path of the loaded repository is at or below it.
     NotShort,
-    /// No node has a path at or below it, and none is copied from there or to a path above it.
+    /// No node has a path at or below the prefix, and no node is a copy from such a path or a copy to a path above it.
     Idle,
 }
 
-/// A prefix in which something is found.
+/// A prefix and a finding in it.
 #[derive(Clone, Copy, Debug, PartialEq, Eq)]
 pub struct ReportedPrefix<'o> {
-    /// The prefix, as it was given.
+    /// The prefix as the caller gave it.
     pub prefix: &'o [u8],
     pub finding: PrefixFinding,
 }
 
-/// Takes out the bare prefixes that match the node's path, or the path that it is copied from.
+/// Removes from `idle` the bare prefixes that match the node's path or its copy source.
 fn leave_matched(idle: &mut PrefixSet, item: &Record<'_>)
     ensures { AreWithout (is_begun_by (record_item item.now)) idle.old idle.new }
 {
@@ -40,7 +40,7 @@ fn leave_matched(idle: &mut PrefixSet, item: &Record<'_>)
     }
 }
 
-/// Takes out the bare prefixes at or below the node's path, if it makes a copy.
+/// Removes from `idle` the bare prefixes at or below the node's path, if the node is a copy.
 fn leave_copied(idle: &mut PrefixSet, item: &Record<'_>)
     ensures { AreWithout (is_below_copy (record_item item.now)) idle.old idle.new }
 {
@@ -52,7 +52,7 @@ fn leave_copied(idle: &mut PrefixSet, item: &Record<'_>)
     }
 }
 
-/// Takes out the bare prefixes that aren't idle if the dump has this record.
+/// Removes from `idle` the bare prefixes that aren't idle if the dump has this record.
 pub(crate) fn leave_touched(idle: &mut PrefixSet, item: &Record<'_>)
     ensures { AreWithout (is_touched_by (record_item item.now)) idle.old idle.new }
 {
@@ -63,7 +63,7 @@ pub(crate) fn leave_touched(idle: &mut PrefixSet, item: &Record<'_>)
     leave_copied(idle, item);
 }
 
-/// What is found in the prefix, if these are idle.
+/// The finding in a prefix, if there is one; `idle` holds the idle bare prefixes.
 fn finding_in(idle: &PrefixSet, prefix: &[u8]) -> Option<PrefixFinding>
     ensures { result ≡ finding_by idle.now prefix.now }
 {
@@ -77,7 +77,7 @@ fn finding_in(idle: &PrefixSet, prefix: &[u8]) -> Option<PrefixFinding>
     None
 }
 
-/// What is reported of the prefixes, in their order, if these are idle.
+/// The findings in the prefixes, in their order; `idle` holds the idle bare prefixes.
 pub(crate) fn reported_prefixes<'o>(
     alloc: Global,
     prefixes: &[&'o [u8]],

@@ -1,4 +1,4 @@
-//! Prefixes that are looked up, and to which more can be added.
+//! A set of prefixes that supports fast lookups.
 ghost use Rattle.std.specs.Prelude.{◌≡◌, ◌↔◌, ◌++◌, ◌∷◌, ◌≤◌, ◌<◌, [], List, ℕ, IfOk, IsTrue, OnErr, OnOk, bytes_eq, length, map, true};
 ghost use Rattle.std.specs.List.{list_any};
 ghost use Rattle.dump_rules.specs.Prefix.{bare_prefix, begins_path};
@@ -11,7 +11,7 @@ use std::alloc::Global;
 use std::collections::BTreeSet;
 use std::marker::Model;
 
-/// Prefixes without the slashes at their ends, each once.
+/// A set of prefixes, without the slashes at their ends.
 #[derive(Drop)]
 pub(crate) struct PrefixSet {
     bare: BTreeSet<Vec<u8>>,
@@ -30,7 +30,7 @@ impl Model for PrefixSet {
 }
 
 impl PrefixSet {
-    /// No prefix.
+    /// The empty set.
     pub(crate) fn new(alloc: Global) -> PrefixSet
         ensures { result ≡ [] }
     {
@@ -40,7 +40,7 @@ impl PrefixSet {
         }
     }
 
-    /// The prefixes.
+    /// The set of these prefixes.
     pub(crate) fn of(alloc: Global, prefixes: &[&[u8]]) -> Result<PrefixSet, Memory>
         ensures { IfOk result (λ set. HaveSame set (map bare_prefix (map (λ prefix. prefix.now) prefixes.now))) }
     {
@@ -53,7 +53,7 @@ impl PrefixSet {
         Ok(set)
     }
 
-    /// Adds a prefix. If memory runs out, nothing is added.
+    /// Adds a prefix. If memory runs out, the set doesn't change.
     pub(crate) fn add(&mut self, alloc: Global, prefix: &[u8]) -> Result<(), Memory>
         ensures added { OnOk result (BeginSame self.new (self.old ++ bare_prefix prefix.now ∷ [])) }
         ensures has { OnOk result (HaveSame self.new (self.old ++ bare_prefix prefix.now ∷ [])) }
@@ -66,22 +66,22 @@ impl PrefixSet {
         Ok(())
     }
 
-    /// Whether there is none.
+    /// Whether the set is empty.
     pub(crate) fn is_empty(&self) -> bool
         ensures { IsTrue result ↔ (self.now ≡ []) }
     {
         self.bare.is_empty()
     }
 
-    /// Whether the text is one of them.
+    /// Whether the text is in the set.
     pub(crate) fn has(&self, text: &[u8]) -> bool
         ensures { result ≡ list_any (λ prefix. bytes_eq text.now prefix) self.now }
     {
         self.bare.contains(text)
     }
 
-    /// Whether one of them begins the path: the empty one, the path, or the part of it before one of its slashes. So its
-    /// parts are looked up, as far as they are no longer than all prefixes.
+    /// Whether a prefix of the set begins the path: it is empty, it is the path, or it is a part of the path that ends
+    /// before a slash. The function looks up each such part that isn't longer than the longest prefix.
     pub(crate) fn begin(&self, path: &[u8]) -> bool
         ensures { result ≡ list_any (λ prefix. begins_path prefix path.now) self.now }
     {
@@ -97,8 +97,8 @@ impl PrefixSet {
         false
     }
 
-    /// How far a search for prefixes that begin the path has to look: each prefix shorter than the path is shorter than
-    /// this many bytes.
+    /// The bound for a search for prefixes that begin the path: each prefix that is shorter than the path is shorter
+    /// than this number of bytes.
     fn near(&self, path: &[u8]) -> usize
         ensures within { result ≤ length path.now }
         ensures reach { (text : List ℕ) (n : ℕ) → is_among text self.now ≡ true → n ≤ length text
@@ -107,14 +107,14 @@ impl PrefixSet {
         self.longest.saturating_add(1).min(path.len())
     }
 
-    /// Takes the text out, if it is one of them.
+    /// Removes the text from the set, if it is in it.
     fn remove(&mut self, text: &[u8])
         ensures { AreWithout (λ other. bytes_eq other text.now) self.old self.new }
     {
         self.bare.remove(text);
     }
 
-    /// Takes out those that begin the path.
+    /// Removes the prefixes that begin the path.
     pub(crate) fn leave(&mut self, path: &[u8])
         ensures { AreWithout (λ text. begins_path text path.now) self.old self.new }
     {
@@ -128,7 +128,7 @@ impl PrefixSet {
         }
     }
 
-    /// Takes out those that the path begins.
+    /// Removes the prefixes that the path begins.
     pub(crate) fn leave_below(&mut self, path: &[u8])
         ensures { AreWithout (λ text. begins_path path.now text) self.old self.new }
     {

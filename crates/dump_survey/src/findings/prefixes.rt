@@ -26,7 +26,7 @@ impl<'o> Model for Prefixes<'o> {
     ghost view = { λ p. map (λ prefix. prefix.now) p.bare.items };
 }
 
-/// The options' prefixes, in their order, as they were given.
+/// The options' prefixes, in their order, as the caller gave them.
 pub(crate) fn given_prefixes<'o>(
     alloc: Global,
     options: &'o Options,
@@ -40,7 +40,7 @@ pub(crate) fn given_prefixes<'o>(
     Ok(given)
 }
 
-/// What follows this text and a slash in the other one, if that begins so.
+/// The part of `text` after `front` and a slash, if `text` begins with these.
 pub(crate) fn behind<'t>(front: &[u8], text: &'t [u8]) -> Option<&'t [u8]>
     ensures { option_copied result ≡ behind_slash front.now text.now }
 {
@@ -62,7 +62,7 @@ pub(crate) fn behind<'t>(front: &[u8], text: &'t [u8]) -> Option<&'t [u8]>
     }
 }
 
-/// Whether the path is the bare prefix, or lies below it; the empty one begins each path.
+/// Whether the path is the bare prefix or is below it. Each path is at or below the empty prefix.
 pub(crate) fn begins_path(bare: &[u8], path: &[u8]) -> bool
     ensures { result ≡ begins_path bare.now path.now }
 {
@@ -72,7 +72,7 @@ pub(crate) fn begins_path(bare: &[u8], path: &[u8]) -> bool
     behind(bare, path).is_some()
 }
 
-/// The rest of a bare prefix below the path, if it lies there. An empty prefix counts as below the root.
+/// The rest of a bare prefix below the path, if the prefix is below the path. The empty prefix is below the root.
 fn rest_below<'p>(bare: &'p [u8], path: &[u8]) -> Option<&'p [u8]>
     ensures { MatchOption result (is_below path.now bare.now ≡ false) (λ rest. IsRestBelow path.now bare.now rest.now) }
 {
@@ -83,7 +83,7 @@ fn rest_below<'p>(bare: &'p [u8], path: &[u8]) -> Option<&'p [u8]>
     behind(top, bare)
 }
 
-/// Adds the text of the path, with a slash before each name.
+/// Adds the path to the text, with a slash before each name.
 fn push_path(text: &mut Vec<u8>, path: &[u8]) -> Result<(), Memory>
     ensures { OnOk result (text.new.items ≡ text.old.items ++ path_text (path_of path.now)) }
 {
@@ -96,7 +96,7 @@ fn push_path(text: &mut Vec<u8>, path: &[u8]) -> Result<(), Memory>
     Ok(())
 }
 
-/// Whether the bare prefix lies below the one path, and the same rest below the other one is kept.
+/// Whether the bare prefix is below one path, and the path with the same rest below the other path is kept.
 fn cuts_below(
     alloc: Global,
     options: &Options,
@@ -116,7 +116,7 @@ fn cuts_below(
     Ok(keeps(options, &text))
 }
 
-/// Whether one of the bare prefixes lies below the path.
+/// Whether one of the bare prefixes is below the path.
 fn has_some_below(bare: &[&[u8]], path: &[u8]) -> bool
     ensures { result ≡ list_any (λ prefix. is_below path.now prefix.now) bare.now }
 {
@@ -130,7 +130,8 @@ fn has_some_below(bare: &[&[u8]], path: &[u8]) -> bool
     false
 }
 
-/// The first of the options' prefixes that cuts below the one path what is kept below the other, as it was given.
+/// The first of the options' prefixes that cuts below one path what is kept below the other path, as the caller gave
+/// it.
 fn first_cut<'o>(
     alloc: Global,
     options: &'o Options,
@@ -151,7 +152,7 @@ fn first_cut<'o>(
 }
 
 impl<'o> Prefixes<'o> {
-    /// Those of the options.
+    /// The prefixes of the options.
     pub(crate) fn of(alloc: Global, options: &'o Options) -> Result<Prefixes<'o>, Memory>
         ensures { IfOk result (λ p. p ≡ map bare_prefix options.now.prefixes) }
     {
@@ -162,7 +163,7 @@ impl<'o> Prefixes<'o> {
         Ok(Prefixes { bare })
     }
 
-    /// Whether one is below the path, if prefixes are included.
+    /// Whether the subcommand is `include` and a prefix is below the path.
     pub(crate) fn has_below(&self, options: &Options, path: &[u8]) -> bool
         requires { self.now ≡ map bare_prefix options.now.prefixes }
         ensures { result ≡ is_above_some options.now.side options.now.prefixes (path_of path.now) }
@@ -173,7 +174,7 @@ impl<'o> Prefixes<'o> {
         }
     }
 
-    /// The first that cuts below the one path what is kept below the other, as it was given.
+    /// The first prefix that cuts below one path what is kept below the other path, as the caller gave it.
     pub(crate) fn cut(
         &self,
         alloc: Global,

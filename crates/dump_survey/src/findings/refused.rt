@@ -1,4 +1,4 @@
-//! What the filter rejects of a kept node: the revision that it is copied from, and its mergeinfo.
+//! The faults of a kept node: what the filter rejects in the node's copy source and in its mergeinfo.
 ghost use Rattle.std.specs.Prelude.{◌≡◌, IsTrue, List};
 ghost use Rattle.dump_text.specs.PropertyList.{IsPropertyBlock, Property};
 ghost use Rattle.dump_text.specs.steps.PropertyViews.{entry_property, props_bytes};
@@ -18,21 +18,21 @@ use dump_records::Record;
 use dump_rules::{Merged, Options, keeps};
 use dump_text::{Entry, Props};
 
-/// What the filter rejects of a node.
+/// What the filter rejects in a node.
 #[derive(Clone, Copy, Debug, PartialEq, Eq)]
 pub(crate) struct Refused {
-    /// There is no new number for the revision that it is copied from.
+    /// The revision that the node is copied from has no new number.
     pub(crate) copy_revision: bool,
-    /// A value of its mergeinfo can't be read.
+    /// A value of the node's mergeinfo can't be read.
     pub(crate) unread: bool,
-    /// A line names a path that isn't kept, and such lines aren't omitted.
+    /// A line of mergeinfo names a path that isn't kept, and the filter doesn't omit such lines.
     pub(crate) missing: bool,
-    /// A line names a revision outside of the dump.
+    /// A line of mergeinfo names a revision outside of the dump.
     pub(crate) outside: bool,
 }
 
 impl Refused {
-    /// Nothing is rejected.
+    /// The filter rejects nothing.
     pub(crate) const NONE: Refused = Refused {
         copy_revision: false,
         unread: false,
@@ -41,7 +41,7 @@ impl Refused {
     };
 }
 
-/// What is rejected of one property of a kept node.
+/// What the filter rejects in one property of a kept node.
 fn entry_refused(entry: &Entry<'_>, options: &Options, numbers: &Numbers) -> Refused
     ensures { node_faults result
         ≡ property_faults options.now numbers.now.first numbers.now.present (entry_property entry.now) }
@@ -62,7 +62,8 @@ fn entry_refused(entry: &Entry<'_>, options: &Options, numbers: &Numbers) -> Ref
     }
 }
 
-/// What is rejected of the properties of a kept node, whose copy is rejected or not. The name may occur more than once.
+/// What the filter rejects in the properties of a kept node; `copy` says whether it rejects the node's copy source. A
+/// name may occur more than once.
 fn refused_in(props: &Props<'_>, options: &Options, numbers: &Numbers, copy: bool) -> Refused
     ensures { (ps : List Property) → IsPropertyBlock (props_bytes props.now) ps
         → node_faults result ≡ faults_read options.now copy numbers.now.first numbers.now.present ps }
@@ -85,7 +86,7 @@ fn refused_in(props: &Props<'_>, options: &Options, numbers: &Numbers, copy: boo
     }
 }
 
-/// Whether a kept node stays a copy.
+/// Whether the filter writes a kept node as a copy.
 fn stays_copy(item: &Record<'_>, options: &Options) -> bool
     requires node { IsTrue (is_node (record_item item.now)) }
     ensures { result ≡ stays_copy options.now (record_item item.now) }
@@ -93,7 +94,7 @@ fn stays_copy(item: &Record<'_>, options: &Options) -> bool
     is_copy(item) && (keeps(options, copy_path_of(item)) || !is_whole_file(item))
 }
 
-/// Whether there is no new number for the revision that a kept node is copied from.
+/// Whether the revision that a kept node is copied from has no new number.
 fn misses_revision(item: &Record<'_>, options: &Options, numbers: &Numbers) -> bool
     requires node { IsTrue (is_node (record_item item.now)) }
     requires kept { IsTrue (has_kept_path options.now (record_item item.now)) }
@@ -105,7 +106,7 @@ fn misses_revision(item: &Record<'_>, options: &Options, numbers: &Numbers) -> b
     options.renumber() && stays_copy(item, options) && numbers.is_missing(number)
 }
 
-/// What is rejected of a kept node with these properties, which may be no block.
+/// What the filter rejects in a kept node with these properties; they are `None` if they are no property block.
 pub(crate) fn refused_of(
     item: &Record<'_>,
     props: &Option<Props<'_>>,

@@ -11,37 +11,38 @@ use dump_nodes::{copy_path_of, copy_revision_of, path_of};
 use dump_records::Record;
 use dump_rules::Memory;
 
-/// A finding in a node, and where that is.
+/// A finding in a node, and the node's place.
 #[derive(Clone, Copy, Debug, PartialEq, Eq)]
 pub struct ReportedFinding<'o, 'a> {
     pub finding: NodeFinding,
     /// The number of the node's record in the dump, from 0.
     pub number: u64,
-    /// The byte of the dump at which the record begins.
+    /// The offset of the record's first byte in the dump.
     pub place: usize,
-    /// The number of the revision that the node belongs to.
+    /// The number of the node's revision.
     pub revision: u64,
-    /// The node's path, as in the dump.
+    /// The node's path, as the dump has it.
     pub path: &'a [u8],
-    /// The path that the node is copied from, as in the dump; no bytes if it is no copy.
+    /// The path that the node is copied from, as the dump has it; empty if the node is no copy.
     pub copy_path: &'a [u8],
-    /// The number of the revision that the node is copied from; 0 if it is no copy.
+    /// The number of the revision that the node is copied from; 0 if the node is no copy.
     pub copy_revision: u64,
-    /// The first prefix, as it was given, by which a copy is filtered differently from its source, if that is found.
+    /// The first prefix because of which the copy is filtered differently from its source, as the caller gave it, if
+    /// this is the finding.
     pub prefix: Option<&'o [u8]>,
 }
 
-/// A node of a revision, and what is found in it.
+/// A node of a revision, and the findings in it.
 #[derive(Clone, Copy)]
 pub struct SurveyedNode<'o, 'a> {
     pub item: Record<'a>,
-    /// The number of the revision that it belongs to.
+    /// The number of the node's revision.
     pub revision: u64,
     pub found: Found<'o>,
 }
 
 impl<'o, 'a> SurveyedNode<'o, 'a> {
-    /// A finding as it is reported of the node.
+    /// The report of one finding in the node.
     pub(crate) fn reported(&self, finding: NodeFinding) -> ReportedFinding<'o, 'a>
         requires { IsTrue (is_node (record_item self.now.item)) }
         ensures { reported_view result ≡ reported_of_finding self.now (meaning finding) }
@@ -58,7 +59,7 @@ impl<'o, 'a> SurveyedNode<'o, 'a> {
         }
     }
 
-    /// Adds what is found in the node to what is reported already.
+    /// Appends one report for each finding in the node.
     pub fn report(&self, reported: &mut Vec<ReportedFinding<'o, 'a>>) -> Result<(), Memory>
         requires { IsTrue (is_node (record_item self.now.item)) }
         ensures { OnOk result (map reported_view reported.new.items

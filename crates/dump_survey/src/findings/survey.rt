@@ -8,18 +8,18 @@ use crate::findings::surveyor::{Step, SurveyEnd, Surveyor};
 use dump_rules::{Memory, Options};
 use std::alloc::Global;
 
-/// All that is found in a dump.
+/// All findings in a dump.
 #[derive(Drop)]
 pub struct Survey<'o, 'a> {
-    /// What is found in its nodes, in their order.
+    /// The findings in nodes, in the dump's order.
     pub reported: Vec<ReportedFinding<'o, 'a>>,
-    /// What is found in the prefixes, in their order.
+    /// The findings in prefixes, in the order of the prefixes.
     pub prefixes: Vec<ReportedPrefix<'o>>,
     pub end: SurveyEnd,
 }
 
-/// Surveys a dump for the filter under these options. Its findings are kept in memory; a caller that writes each as it
-/// is found asks a `Surveyor`.
+/// Surveys a dump for the filter under these options. It keeps all findings in memory; a caller that wants to write
+/// each finding at once uses a `Surveyor`.
 pub fn survey_dump<'o, 'a>(
     alloc: Global,
     dump: &'a [u8],

@@ -25,49 +25,49 @@ use std::marker::Model;
 /// How the list of a dump's records ends.
 #[derive(Clone, Copy, Debug, PartialEq, Eq)]
 pub enum End {
-    /// With the dump.
+    /// The list ends at the end of the dump.
     Whole,
-    /// There is no record at this byte of the dump, for this fault.
+    /// No record begins at this byte of the dump; the fault says why.
     Broken { kind: FaultKind, place: usize },
 }
 
-/// What is known when the records end.
+/// What a surveyor reports after the last record.
 #[derive(Clone, Copy, Debug, PartialEq, Eq)]
 pub struct SurveyEnd {
-    /// What is found in the dump as a whole, up to its end.
+    /// The findings in the dump as a whole.
     pub dump: DumpFindings,
-    /// Which record causes each of these first.
+    /// For each of these findings, the first record that causes it.
     pub places: DumpPlaces,
     pub end: End,
 }
 
-/// What a surveyor gives.
+/// What one call of a surveyor returns.
 #[derive(Clone, Copy)]
 pub enum Step<'o, 'a> {
     /// The next record is a node of a revision.
     Node(SurveyedNode<'o, 'a>),
-    /// The next record is another one, of which nothing is reported.
+    /// The next record is another one, and no finding is reported for it.
     Other,
     /// There is no further record.
     Finished(SurveyEnd),
 }
 
-/// What a surveyor knows of the records that it has given.
+/// What a surveyor knows about the records that it has returned.
 #[derive(Drop)]
 pub(crate) struct Known {
-    /// The prefixes that no node has matched.
+    /// The prefixes that are idle so far.
     idle: PrefixSet,
-    /// What the records add up to.
+    /// What the records say about the revisions.
     tally: Tally,
-    /// Whether a kept node named a revision after a dropped one, and revisions aren't renumbered.
+    /// Whether a kept node named a revision after a revision was dropped, if the filter doesn't renumber.
     numbers_left: bool,
-    /// Whether a revision came whose properties can't be read.
+    /// Whether there was a revision whose properties can't be read.
     unread_revision: bool,
-    /// The first record that causes each finding in the dump as a whole.
+    /// For each finding in the dump as a whole, the first record that causes it.
     places: DumpPlaces,
 }
 
-/// Gives what is found in each record of a dump, in their order.
+/// A surveyor: it returns the findings in each record of a dump, in the dump's order.
 #[derive(Drop)]
 pub struct Surveyor<'o, 'a> {
     cutter: Cutter<'a>,
@@ -86,7 +86,7 @@ impl<'o, 'a> Model for Surveyor<'o, 'a> {
     ghost invariant = { λ s. Surveys s.options.now s.prefixes s.known s.cutter };
 }
 
-/// Where a record is.
+/// The place of a record.
 fn place_of(item: &Record<'_>) -> Place
     ensures { result ≡ record { number = record_number item.now; place = (record_item item.now).place } }
 {
@@ -96,7 +96,8 @@ fn place_of(item: &Record<'_>) -> Place
     }
 }
 
-/// What is found in the next record, which may be a kept node or not, after those of this tally.
+/// What the surveyor returns for a record; `tally` describes the records before it. The record may be a kept node or
+/// not.
 fn step_of<'o, 'a>(
     alloc: Global,
     item: Record<'a>,
@@ -124,7 +125,7 @@ fn step_of<'o, 'a>(
     }))
 }
 
-/// What a surveyor reports that knows this of the records, which end so.
+/// What a surveyor reports after the last record, from what it knows about the records and from how they end.
 fn finished(known: &Known, end: End) -> SurveyEnd
     ensures { ReportsEnd known.now end result }
 {
@@ -140,7 +141,7 @@ fn finished(known: &Known, end: End) -> SurveyEnd
 impl<'o, 'a> Surveyor<'o, 'a> {
     ghost use Rattle.dump_survey.specs.steps.Steps.{ArePrefixesReported, SurveyStep};
 
-    /// A surveyor at the front of the dump, for the filter under these options.
+    /// Makes a surveyor that begins at the front of the dump, for the filter under these options.
     pub fn new(
         alloc: Global,
         dump: &'a [u8],
@@ -165,8 +166,8 @@ impl<'o, 'a> Surveyor<'o, 'a> {
         })
     }
 
-    /// What is found in the next record, or what is known if there is none; then it is returned again. If memory runs
-    /// out, the next call continues after the record.
+    /// Returns the findings in the next record. After the last record it returns the findings in the dump as a whole,
+    /// and so do all later calls. If memory runs out, the next call continues after the record.
     pub fn next(&mut self, alloc: Global) -> Result<Step<'o, 'a>, Memory>
         ensures { IfOk result (λ step. SurveyStep self.old step self.new) }
     {
@@ -196,7 +197,7 @@ impl<'o, 'a> Surveyor<'o, 'a> {
         step_of(alloc, item, kept, self.options, &self.prefixes, &before)
     }
 
-    /// What is found in the options' prefixes, in their order, by the records that were given so far.
+    /// The findings in the options' prefixes, in their order, as far as the records that were returned so far show.
     pub fn reported_prefixes(&self, alloc: Global) -> Result<Vec<ReportedPrefix<'o>>, Memory>
         ensures { IfOk result (λ reported. ArePrefixesReported self.now (map prefix_view reported.items)) }
     {

@@ -1,4 +1,4 @@
-//! What is known of the revisions of a dump after its first records.
+//! What the first records of a dump say about its revisions.
 ghost use Rattle.std.specs.Prelude.{◌≡◌, ◌+◌, ◌<◌, ◌==◌, ◌^◌, IsTrue, Some};
 ghost use Rattle.std.specs.List.{list_any};
 ghost use Rattle.dump_records.specs.steps.RecordViews.{record_item};
@@ -15,29 +15,29 @@ use dump_nodes::{copy_revision_of, makes_copy};
 use dump_records::Record;
 use dump_rules::{Empty, Options};
 
-/// What is found in a dump as a whole.
+/// The findings in a dump as a whole.
 #[derive(Clone, Copy, Debug, PartialEq, Eq)]
 pub struct DumpFindings {
-    /// It has no revision.
+    /// The dump has no revision.
     pub no_revision: bool,
-    /// Its revisions aren't numbered on, one by one, from the number of the first one.
+    /// The revision numbers don't go up by one from the number of the first revision.
     pub other_numbers: bool,
     /// A revision's number isn't above that of the revision before it.
     pub number_falls: bool,
     /// The properties of a revision can't be read.
     pub unread_revision: bool,
-    /// Its first revision is revision 0, and has a node.
+    /// The first revision is revision 0, and it has a node.
     pub node_in_first: bool,
-    /// A node of a revision is a copy from one before the first revision.
+    /// A node of a revision is a copy from a revision before the first one.
     pub source_before: bool,
     /// A node is outside of any revision.
     pub node_outside: bool,
-    /// A revision is dropped, the others aren't renumbered, and a kept node after it names one by its number.
+    /// A revision is dropped, the filter doesn't renumber, and a kept node after it names a revision by its number.
     pub numbers_left: bool,
 }
 
 impl DumpFindings {
-    /// Whether this is among it.
+    /// Whether this finding is one of them.
     pub(crate) fn has(&self, finding: WholeFinding) -> bool
         ensures { result ≡ has_dump_finding self.now (whole_meaning finding) }
     {
@@ -53,7 +53,7 @@ impl DumpFindings {
         }
     }
 
-    /// Whether anything is found.
+    /// Whether there is any finding.
     pub(crate) fn is_any(&self) -> bool
         ensures { result ≡ list_any (has_dump_finding self.now) every_dump_finding }
     {
@@ -68,18 +68,18 @@ impl DumpFindings {
     }
 }
 
-/// The present revision, whose nodes may follow.
+/// The present revision: the last one so far, to which the next nodes belong.
 #[derive(Clone, Copy)]
 pub(crate) struct Present {
     pub(crate) number: u64,
-    /// Whether it has no node so far.
+    /// Whether the revision has no node so far.
     bare: bool,
     /// Whether one of its nodes is kept.
     kept: bool,
 }
 
 impl Present {
-    /// Whether it is kept, if it has no more nodes.
+    /// Whether the filter keeps the revision if no more nodes follow.
     pub(crate) fn stays(&self, options: &Options) -> bool
         ensures { result ≡ keeps_open options.now (Some self.now) }
     {
@@ -92,14 +92,14 @@ impl Present {
     }
 }
 
-/// Whether the number is the first one and so much more.
+/// Whether `number` is `first` plus `count`.
 fn is_above(first: u64, count: u64, number: u64) -> bool
     ensures { result ≡ (number == first + count) }
 {
     number >= first && number - first == count
 }
 
-/// Whether the number is above the last one, if there is one.
+/// Whether the number is above the last one. True if there is no last one.
 fn is_above_last(last: Option<u64>, number: u64) -> bool
     ensures { result ≡ is_above_last last number }
 {
@@ -109,7 +109,7 @@ fn is_above_last(last: Option<u64>, number: u64) -> bool
     }
 }
 
-/// The lesser of two numbers, the first of which there may not be.
+/// The lesser of the two numbers; `number` if there is no `least`.
 fn lesser(least: Option<u64>, number: u64) -> u64
     ensures { result ≡ lesser least number }
 {
@@ -119,7 +119,7 @@ fn lesser(least: Option<u64>, number: u64) -> u64
     }
 }
 
-/// Whether a node makes a copy from a revision before this one.
+/// Whether a node is a copy from a revision before this one.
 fn copies_from_before(item: &Record<'_>, first: u64) -> bool
     requires { IsTrue (is_node (record_item item.now)) }
     ensures { result ≡ copies_from_before first (record_item item.now) }
@@ -127,34 +127,34 @@ fn copies_from_before(item: &Record<'_>, first: u64) -> bool
     copy_revision_of(item) < first && makes_copy(item)
 }
 
-/// What the records up to one say of the dump's revisions.
+/// What the records so far say about the dump's revisions.
 #[derive(Clone, Copy)]
 pub(crate) struct Tally {
-    /// How many revisions there are.
+    /// The number of revisions.
     count: u64,
-    /// The number of the first one; 0 if there is none.
+    /// The number of the first revision; 0 if there is none.
     pub(crate) first: u64,
-    /// Whether they are numbered on from that, one by one.
+    /// Whether the revision numbers go up by one from the first number.
     numbered: bool,
-    /// The number of the last one.
+    /// The number of the last revision.
     last: Option<u64>,
-    /// Whether each number is above the one before.
+    /// Whether each revision number is above the one before it.
     rising: bool,
-    /// Whether the first one has a node.
+    /// Whether the first revision has a node.
     node_in_first: bool,
-    /// Whether a node of one of them is a copy from before the first one.
+    /// Whether a node of a revision is a copy from a revision before the first one.
     source_before: bool,
     /// Whether a node is outside of any revision.
     node_outside: bool,
     /// Whether each revision before the present one is kept.
     all_kept: bool,
-    /// The least number of those that are.
+    /// The least number of the kept revisions before the present one.
     least: Option<u64>,
     pub(crate) present: Option<Present>,
 }
 
 impl Tally {
-    /// That of no record.
+    /// The tally before the first record.
     pub(crate) fn new() -> Tally
         ensures { result ≡ no_tally }
     {
@@ -193,7 +193,7 @@ impl Tally {
         }
     }
 
-    /// The numbers that a node of this revision, the present one, is held against.
+    /// The numbers with which the survey compares the revisions that a node names; `present` is the node's revision.
     pub(crate) fn numbers(&self, present: u64) -> Numbers
         ensures { result ≡ numbers_of self.now present }
     {
@@ -204,14 +204,14 @@ impl Tally {
         }
     }
 
-    /// The number of the first revision, if one of this number comes next.
+    /// The number of the first revision, if the next record is a revision with this number.
     fn first_with(&self, number: u64) -> u64
         ensures { result ≡ first_with self.now number }
     {
         if self.count == 0 { number } else { self.first }
     }
 
-    /// The tally after one more record, which may be a kept node or not.
+    /// The tally after one more record; `kept` says whether the record is a kept node.
     pub(crate) fn with(&self, item: &Record<'_>, kept: bool, options: &Options) -> Tally
         requires room { self.now.count + 1 < 2 ^ 64 }
         requires kept { kept ≡ is_kept_node options.now (record_item item.now) }
@@ -246,7 +246,7 @@ impl Tally {
         }
     }
 
-    /// The tally after one more node, which may be kept or not.
+    /// The tally after one more node; `kept` says whether the node is kept.
     fn with_node(&self, item: &Record<'_>, kept: bool) -> Tally
         requires { IsTrue (is_node (record_item item.now)) }
         ensures { result ≡ node_tally self.now kept (copies_from_before self.now.first (record_item item.now))
@@ -271,15 +271,15 @@ impl Tally {
         }
     }
 
-    /// Whether a revision is present, and one before it is dropped.
+    /// Whether there is a present revision, and a revision before it is dropped.
     pub(crate) fn is_behind_dropped(&self) -> bool
         ensures { result ≡ is_behind_dropped self.now }
     {
         self.present.is_some() && !self.all_kept
     }
 
-    /// What is found in the dump if it ends here, by whether numbers are left, and the properties of a revision can't
-    /// be read or all can.
+    /// The findings in the dump if it ends here. `numbers_left` and `unread_revision` become the findings of these
+    /// names.
     pub(crate) fn findings(&self, numbers_left: bool, unread_revision: bool) -> DumpFindings
         ensures { listed_findings result ≡ tally_findings self.now numbers_left unread_revision }
     {

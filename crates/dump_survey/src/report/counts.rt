@@ -1,4 +1,4 @@
-//! How often each kind of finding was reported of nodes.
+//! The number of nodes for which each kind of finding was reported.
 ghost use Rattle.std.specs.Prelude.{◌≡◌, ◌+◌, ◌<◌, ◌^◌, if◌then◌else◌};
 ghost use Rattle.dump_history.specs.Findings.{Finding};
 ghost use Rattle.dump_survey.specs.Meaning.{meaning};
@@ -6,7 +6,7 @@ ghost use Rattle.dump_survey.specs.steps.Counts.{AreWithNode, count_in, no_count
 
 use crate::findings::node_finding::{Found, NodeFinding};
 
-/// How often each kind was reported.
+/// For each kind, the number of nodes for which it was reported.
 #[derive(Clone, Copy)]
 pub(crate) struct Counts {
     unread_block: u64,
@@ -26,7 +26,7 @@ pub(crate) struct Counts {
     text_comes_in: u64,
 }
 
-/// The count of a kind, with that of one more node.
+/// The count of a kind after one more node; `found` says whether the node has this finding.
 fn with_one(count: u64, found: bool) -> u64
     requires { count + 1 < 2 ^ 64 }
     ensures { result ≡ (if found then count + 1 else count) }
@@ -35,7 +35,7 @@ fn with_one(count: u64, found: bool) -> u64
 }
 
 impl Counts {
-    /// Those of no node.
+    /// The counts before the first node.
     pub(crate) fn new() -> Counts
         ensures { result ≡ no_counts }
     {
@@ -58,7 +58,7 @@ impl Counts {
         }
     }
 
-    /// How often the kind was reported.
+    /// The number of nodes for which the kind was reported.
     pub(crate) fn of(&self, finding: NodeFinding) -> u64
         ensures { result ≡ count_in self.now (meaning finding) }
     {
@@ -81,7 +81,7 @@ impl Counts {
         }
     }
 
-    /// Those with what is found in one more node.
+    /// The counts after one more node.
     pub(crate) fn with(&self, found: &Found<'_>) -> Counts
         requires { (f : Finding) → count_in self.now f + 1 < 2 ^ 64 }
         ensures { AreWithNode self.now found.now result }

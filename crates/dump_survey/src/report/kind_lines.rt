@@ -1,4 +1,4 @@
-//! The lines that count what was found, kind by kind, each with what to do about it.
+//! The lines that count the findings, one line for each kind, with advice.
 ghost use Rattle.std.specs.Prelude.{◌≡◌, ◌++◌, [], if◌then◌else◌, OnOk, flat_map, map};
 ghost use Rattle.dump_survey.specs.DumpFindings.{has_dump_finding, listed_findings};
 ghost use Rattle.dump_survey.specs.Kinds.{broken_kind, dump_kind_line, ending_kind_line, finding_advice, finding_kind, finding_what, kind_line, kind_lines, prefix_kind, times_in_prefixes};
@@ -18,18 +18,18 @@ use crate::report::survey_lines::{push_fault_and_place, push_number};
 use dump_rules::Memory;
 use dump_text::FaultKind;
 
-/// What the line of a kind says.
+/// The parts of the line of a kind.
 #[derive(Clone, Copy, Debug, PartialEq, Eq)]
 pub(crate) struct Kind {
-    /// What was found.
+    /// What the survey found.
     pub(crate) what: &'static [u8],
-    /// The fault that it is, if it is one.
+    /// The fault with which the filter stops because of it, if it stops.
     pub(crate) fault: Option<FaultKind>,
-    /// What to do.
+    /// What the user can do about it.
     pub(crate) advice: &'static [u8],
 }
 
-/// What is found in nodes.
+/// What a finding in nodes is, in words.
 #[tactic(auto, unfolding(crate::specs::Kinds::finding_what))]
 fn finding_what(finding: NodeFinding) -> &'static [u8]
     ensures { result.now ≡ finding_what (meaning finding) }
@@ -55,7 +55,7 @@ fn finding_what(finding: NodeFinding) -> &'static [u8]
     }
 }
 
-/// What to do about it.
+/// What the user can do about a finding in nodes.
 #[tactic(auto, unfolding(crate::specs::Kinds::finding_advice))]
 fn finding_advice(finding: NodeFinding) -> &'static [u8]
     ensures { result.now ≡ finding_advice (meaning finding) }
@@ -91,7 +91,7 @@ fn finding_advice(finding: NodeFinding) -> &'static [u8]
     }
 }
 
-/// What the line of the kind says.
+/// The parts of the line of a kind of finding in nodes.
 #[tactic(auto, unfolding(crate::specs::Kinds::finding_kind, crate::specs::steps::LineViews::kind_view))]
 fn finding_kind(finding: NodeFinding) -> Kind
     ensures { kind_view result ≡ finding_kind (meaning finding) }
@@ -103,7 +103,7 @@ fn finding_kind(finding: NodeFinding) -> Kind
     }
 }
 
-/// What the line of a kind that is found in prefixes says.
+/// The parts of the line of a kind of finding in prefixes.
 #[tactic(auto, unfolding(crate::specs::Kinds::prefix_kind, crate::specs::steps::LineViews::kind_view))]
 fn prefix_kind(finding: PrefixFinding) -> Kind
     ensures { kind_view result ≡ prefix_kind finding }
@@ -122,7 +122,7 @@ fn prefix_kind(finding: PrefixFinding) -> Kind
     }
 }
 
-/// What the line of a dump that cannot be read to its end says.
+/// The parts of the line that says that the dump can't be read to its end.
 #[tactic(auto, unfolding(crate::specs::Kinds::broken_kind, crate::specs::steps::LineViews::kind_view))]
 fn broken_kind() -> Kind
     ensures { kind_view result ≡ broken_kind }
@@ -134,7 +134,7 @@ fn broken_kind() -> Kind
     }
 }
 
-/// Adds the line of a kind that was found so often, if it was.
+/// Adds the line of a kind with its number of findings, unless the number is 0.
 #[tactic(auto, unfolding(crate::specs::Kinds::kind_line, crate::specs::steps::LineViews::kind_view))]
 fn push_kind_line(lines: &mut Vec<u8>, times: u64, kind: &Kind) -> Result<(), Memory>
     ensures { OnOk result (lines.new.items ≡ lines.old.items ++ kind_line times (kind_view kind.now)) }
@@ -152,7 +152,7 @@ fn push_kind_line(lines: &mut Vec<u8>, times: u64, kind: &Kind) -> Result<(), Me
     Ok(lines.push(b'\n')?)
 }
 
-/// Adds the lines of these kinds, as far as they were reported of nodes.
+/// Adds the lines of these kinds, each if it was reported of a node.
 fn push_node_kinds(
     lines: &mut Vec<u8>,
     counts: &Counts,
@@ -169,7 +169,7 @@ fn push_node_kinds(
     Ok(())
 }
 
-/// Adds the line of a kind that is found in the dump as a whole, if it is.
+/// Adds the line of a finding in the dump as a whole, if it was found.
 fn push_dump_kind(
     lines: &mut Vec<u8>,
     found: &DumpFindings,
@@ -184,7 +184,7 @@ fn push_dump_kind(
     Ok(())
 }
 
-/// Adds the lines of the kinds that are found in the dump as a whole.
+/// Adds the lines of the findings in the dump as a whole.
 fn push_dump_kinds(lines: &mut Vec<u8>, found: &DumpFindings) -> Result<(), Memory>
     ensures { OnOk result (lines.new.items ≡ lines.old.items
         ++ flat_map dump_kind_line (listed_findings found.now)) }
@@ -200,7 +200,7 @@ fn push_dump_kinds(lines: &mut Vec<u8>, found: &DumpFindings) -> Result<(), Memo
     Ok(())
 }
 
-/// How often this is found in prefixes.
+/// The number of prefixes that have this finding.
 fn times_in(reported: &[ReportedPrefix<'_>], finding: PrefixFinding) -> u64
     ensures { result ≡ times_in_prefixes (map prefix_view reported.now) finding }
 {
@@ -215,7 +215,7 @@ fn times_in(reported: &[ReportedPrefix<'_>], finding: PrefixFinding) -> u64
     times
 }
 
-/// Adds the line of the kind, if it is found in prefixes.
+/// Adds the line of a kind of finding in prefixes, if a prefix has it.
 fn push_prefix_kind(
     lines: &mut Vec<u8>,
     reported: &[ReportedPrefix<'_>],
@@ -227,7 +227,7 @@ fn push_prefix_kind(
     push_kind_line(lines, times_in(reported, finding), &prefix_kind(finding))
 }
 
-/// Adds the line of what ends the list of records before the dump's end, if something does.
+/// Adds the line that says why the list of records ends before the dump does, if it does.
 fn push_ending_kind(lines: &mut Vec<u8>, end: End) -> Result<(), Memory>
     ensures { OnOk result (lines.new.items ≡ lines.old.items ++ ending_kind_line (survey_ending end)) }
 {
@@ -237,7 +237,7 @@ fn push_ending_kind(lines: &mut Vec<u8>, end: End) -> Result<(), Memory>
     }
 }
 
-/// Adds one line for each kind of what was found.
+/// Adds one line for each kind of finding.
 pub(crate) fn push_kind_lines(
     lines: &mut Vec<u8>,
     counts: &Counts,

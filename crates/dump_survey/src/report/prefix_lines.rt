@@ -1,4 +1,4 @@
-//! The lines of what is found in prefixes.
+//! The lines of the findings in prefixes.
 ghost use Rattle.std.specs.Prelude.{◌≡◌, ◌++◌, OnOk, map};
 ghost use Rattle.dump_survey.specs.PrefixFindings.{prefix_view};
 ghost use Rattle.dump_survey.specs.PrefixLines.{prefix_line, prefix_lines, prefix_line_words};
@@ -7,7 +7,7 @@ use crate::findings::prefix_findings::{PrefixFinding, ReportedPrefix};
 use crate::report::survey_lines::push_shown;
 use dump_rules::Memory;
 
-/// What the line of a prefix says after it.
+/// The words that follow the prefix on its line.
 fn prefix_line_words(finding: PrefixFinding) -> &'static [u8]
     ensures { result.now ≡ prefix_line_words finding }
 {
@@ -21,7 +21,7 @@ fn prefix_line_words(finding: PrefixFinding) -> &'static [u8]
     }
 }
 
-/// Adds the line of what is found in a prefix.
+/// Adds the line of a finding in a prefix.
 #[tactic(auto, unfolding(crate::specs::PrefixLines::prefix_line))]
 fn push_prefix_line(lines: &mut Vec<u8>, reported: &ReportedPrefix<'_>) -> Result<(), Memory>
     ensures { OnOk result (lines.new.items ≡ lines.old.items ++ prefix_line (prefix_view reported.now)) }
@@ -31,7 +31,7 @@ fn push_prefix_line(lines: &mut Vec<u8>, reported: &ReportedPrefix<'_>) -> Resul
     Ok(lines.extend_from_slice(prefix_line_words(reported.finding))?)
 }
 
-/// Adds the lines of what is found in prefixes.
+/// Adds the lines of the findings in prefixes.
 pub(crate) fn push_prefix_lines(
     lines: &mut Vec<u8>,
     reported: &[ReportedPrefix<'_>],

@@ -1,4 +1,4 @@
-//! The map of revisions: the old and the new number of each one that the filter keeps.
+//! The map of revisions: the old and the new number of each revision that the filter keeps.
 ghost use Rattle.std.specs.Prelude.{◌≡◌, ◌≢◌, ◌<◌, ◌++◌, ◌^◌, [], ◌∷◌, Err, IfOk, List, OnErr, OnOk, codes, decimal, ℕ};
 ghost use Rattle.std.specs.List.{concat};
 ghost use Rattle.std.specs.Io.KnownBytes.{Appends};
@@ -18,14 +18,14 @@ use dump_rules::{Memory, Options};
 use dump_writer::Sink;
 use std::alloc::Global;
 
-/// The number of a dump's first revision, and those of the revisions that the filter keeps.
+/// The number of a dump's first revision, and the numbers of the revisions that the filter keeps.
 #[derive(Drop)]
 struct KeptNumbers {
     first: u64,
     numbers: Vec<u64>,
 }
 
-/// Adds the present revision, which has no more nodes, if it is kept.
+/// Adds the number of the present revision, if the filter keeps it when no more nodes follow.
 fn push_ended(numbers: &mut Vec<u64>, tally: &Tally, options: &Options) -> Result<(), Memory>
     ensures { OnOk result (numbers.new.items ≡ numbers.old.items ++ ended_numbers options.now tally.now.present) }
 {
@@ -37,7 +37,7 @@ fn push_ended(numbers: &mut Vec<u64>, tally: &Tally, options: &Options) -> Resul
     Ok(())
 }
 
-/// Adds the present revision, if it is kept and this record isn't one more node of it.
+/// Adds the number of the present revision if this record isn't one more node of it and the filter keeps it.
 fn push_before(
     numbers: &mut Vec<u64>,
     tally: &Tally,
@@ -53,7 +53,7 @@ fn push_before(
     Ok(())
 }
 
-/// The kept revisions, when the records end.
+/// The kept revisions after the last record.
 fn ended(mut numbers: Vec<u64>, tally: &Tally, options: &Options) -> Result<KeptNumbers, Memory>
     ensures first { IfOk result (λ kept. kept.first ≡ tally.now.first) }
     ensures numbers { IfOk result (λ kept.
@@ -85,7 +85,7 @@ fn kept_in(alloc: Global, dump: &[u8], options: &Options) -> Result<KeptNumbers,
     }
 }
 
-/// The same numbers, in rising order. They rise already if the filter accepts the dump.
+/// The same numbers in rising order. They already are in this order if the filter accepts the dump.
 fn in_order(alloc: Global, numbers: &[u64]) -> Result<Vec<u64>, Memory>
     ensures same { IfOk result (λ sorted. IsPermutation numbers.now sorted.items) }
     ensures rising { IfOk result (λ sorted. IsNonDecreasing sorted.items) }
@@ -95,13 +95,14 @@ fn in_order(alloc: Global, numbers: &[u64]) -> Result<Vec<u64>, Memory>
     Ok(sorted)
 }
 
-/// The number under which a revision is written, if the first one and the kept ones, in rising order, are these.
+/// The number under which the filter writes a revision. `first` is the number of the dump's first revision, and
+/// `sorted` has the numbers of the kept revisions in rising order.
 fn written_number(options: &Options, first: u64, sorted: &[u64], number: u64) -> u64
     requires rising { IsNonDecreasing sorted.now }
     requires small { first < 10 ^ 18 }
     ensures { result ≡ written_number options.now (record { first = first; numbers = sorted.now }) number }
 {
-    // so that a slice's length is known to be small
+    // This call shows the checker that the slice's length is small enough for the sum.
     let _count = sorted.len();
     if !options.renumber() {
         return number;
@@ -110,7 +111,7 @@ fn written_number(options: &Options, first: u64, sorted: &[u64], number: u64) ->
     first + below as u64
 }
 
-/// Adds the line of a revision, by its number and the one under which it is written.
+/// Adds the line of a revision: its number, and the number under which the filter writes it.
 fn push_numbers(lines: &mut Vec<u8>, number: u64, written: u64) -> Result<(), Memory>
     ensures { OnOk result (lines.new.items ≡ lines.old.items
         ++ concat (codes "r" ∷ decimal number ∷ codes " becomes r" ∷ decimal written ∷ codes "\n" ∷ [])) }
@@ -122,7 +123,7 @@ fn push_numbers(lines: &mut Vec<u8>, number: u64, written: u64) -> Result<(), Me
     Ok(lines.push(b'\n')?)
 }
 
-/// Adds the line of one of the kept revisions, which are these, in rising order too.
+/// Adds the line of one kept revision; `sorted` has the numbers of all kept revisions in rising order.
 fn push_map_line(
     lines: &mut Vec<u8>,
     options: &Options,
@@ -139,7 +140,7 @@ fn push_map_line(
     push_numbers(lines, number, written)
 }
 
-/// The map of these kept revisions.
+/// The lines for these kept revisions.
 fn map_lines(alloc: Global, options: &Options, kept: &KeptNumbers) -> Result<Vec<u8>, Memory>
     requires { kept.now.first < 10 ^ 18 }
     ensures { IfOk result (λ lines. lines.items ≡ map_lines options.now (kept_view kept.now)) }
@@ -154,7 +155,7 @@ fn map_lines(alloc: Global, options: &Options, kept: &KeptNumbers) -> Result<Vec
     Ok(lines)
 }
 
-/// The map of the revisions of a dump.
+/// The lines of the map of a dump's revisions.
 fn map_of(alloc: Global, dump: &[u8], options: &Options) -> Result<Vec<u8>, Memory>
     ensures { IfOk result (λ lines. IsRevisionMap options.now dump.now lines.items) }
 {
@@ -162,8 +163,8 @@ fn map_of(alloc: Global, dump: &[u8], options: &Options) -> Result<Vec<u8>, Memo
     map_lines(alloc, options, &kept)
 }
 
-/// Writes the old and the new number of each revision that is kept if a dump is filtered under these options, a line
-/// for each, in the dump's order. Nothing is written before all is known.
+/// Writes the old and the new number of each revision that the filter keeps under these options, one line for each, in
+/// the dump's order. It writes nothing before all numbers are known.
 pub fn write_map<S: Sink>(
     alloc: Global,
     dump: &[u8],

@@ -31,7 +31,7 @@ use dump_rules::{Memory, Side, bare_path};
 use dump_text::{FaultKind, spell};
 use std::alloc::Global;
 
-/// A digit of base 16.
+/// A hexadecimal digit.
 fn small_digit(value: u8) -> u8
     requires { value < 16 }
     ensures { result ≡ small_digit value }
@@ -43,7 +43,7 @@ fn small_digit(value: u8) -> u8
     }
 }
 
-/// Adds a byte as it is shown.
+/// Adds a byte in the form in which it is shown.
 #[tactic(auto, unfolding(crate::specs::Lines::shown_byte))]
 fn push_byte(line: &mut Vec<u8>, byte: u8) -> Result<(), Memory>
     ensures { OnOk result (line.new.items ≡ line.old.items ++ shown_byte byte) }
@@ -57,7 +57,7 @@ fn push_byte(line: &mut Vec<u8>, byte: u8) -> Result<(), Memory>
     Ok(())
 }
 
-/// Adds a text as it is shown.
+/// Adds a text in the form in which it is shown.
 pub(crate) fn push_shown(line: &mut Vec<u8>, text: &[u8]) -> Result<(), Memory>
     ensures { OnOk result (line.new.items ≡ line.old.items ++ flat_map shown_byte text.now) }
 {
@@ -69,7 +69,7 @@ pub(crate) fn push_shown(line: &mut Vec<u8>, text: &[u8]) -> Result<(), Memory>
     Ok(())
 }
 
-/// Adds a path as it is shown.
+/// Adds a path in the form in which it is shown.
 #[tactic(auto, unfolding(crate::specs::Lines::shown_path))]
 fn push_path(line: &mut Vec<u8>, path: &[u8]) -> Result<(), Memory>
     ensures { OnOk result (line.new.items ≡ line.old.items ++ shown_path path.now) }
@@ -78,14 +78,14 @@ fn push_path(line: &mut Vec<u8>, path: &[u8]) -> Result<(), Memory>
     push_shown(line, bare_path(path))
 }
 
-/// Adds a number, in decimal digits.
+/// Adds a number in decimal digits.
 pub(crate) fn push_number(line: &mut Vec<u8>, number: u64) -> Result<(), Memory>
     ensures { OnOk result (line.new.items ≡ line.old.items ++ decimal number) }
 {
     Ok(line.extend_from_slice(spell(number).bytes())?)
 }
 
-/// Adds where a record is.
+/// Adds the place of a record.
 #[tactic(auto, unfolding(crate::specs::Lines::place_text))]
 fn push_place(line: &mut Vec<u8>, number: u64, place: usize) -> Result<(), Memory>
     ensures { OnOk result (line.new.items ≡ line.old.items ++ place_text number place) }
@@ -96,7 +96,7 @@ fn push_place(line: &mut Vec<u8>, number: u64, place: usize) -> Result<(), Memor
     push_number(line, place as u64)
 }
 
-/// Adds the fault of a line and its record, in parentheses, so far as it has them.
+/// Adds, in parentheses, the fault and the place of the record, each if there is one.
 #[tactic(auto, unfolding(crate::specs::Lines::fault_and_place))]
 pub(crate) fn push_fault_and_place(
     line: &mut Vec<u8>,
@@ -127,7 +127,7 @@ pub(crate) fn push_fault_and_place(
     }
 }
 
-/// Adds what a node is copied from.
+/// Adds the copy source of a node.
 #[tactic(auto, unfolding(crate::specs::Lines::source_text))]
 fn push_source(line: &mut Vec<u8>, reported: &ReportedFinding<'_, '_>) -> Result<(), Memory>
     ensures { OnOk result (line.new.items ≡ line.old.items ++ source_text (reported_view reported.now)) }
@@ -138,7 +138,7 @@ fn push_source(line: &mut Vec<u8>, reported: &ReportedFinding<'_, '_>) -> Result
     push_number(line, reported.copy_revision)
 }
 
-/// Whether the finding's line states what the node is copied from.
+/// Whether the finding's line states the copy source of the node.
 fn tells_source(finding: NodeFinding) -> bool
     ensures { result ≡ tells_source (meaning finding) }
 {
@@ -154,7 +154,7 @@ fn tells_source(finding: NodeFinding) -> bool
     )
 }
 
-/// Adds what the node is copied from, if the finding's line states it.
+/// Adds the copy source of the node, if the finding's line states it.
 fn push_reported_source(
     line: &mut Vec<u8>,
     reported: &ReportedFinding<'_, '_>,
@@ -168,7 +168,7 @@ fn push_reported_source(
     Ok(())
 }
 
-/// The sentence of the finding.
+/// The words of the finding's line.
 #[tactic(auto, unfolding(crate::specs::Lines::finding_words))]
 fn words(finding: NodeFinding) -> &'static [u8]
     ensures { result.now ≡ finding_words (meaning finding) }
@@ -204,7 +204,7 @@ fn words(finding: NodeFinding) -> &'static [u8]
     }
 }
 
-/// Adds the prefix responsible, if there is one.
+/// Adds the prefix that causes the finding, if there is one.
 #[tactic(auto, unfolding(crate::specs::Lines::cut_words))]
 fn push_cut(line: &mut Vec<u8>, prefix: Option<&[u8]>) -> Result<(), Memory>
     ensures { OnOk result (line.new.items ≡ line.old.items ++ cut_words (option_copied prefix.entry)) }
@@ -240,7 +240,8 @@ pub(crate) fn push_node_line(
     Ok(lines.push(b'\n')?)
 }
 
-/// Adds the line of a finding in the dump as a whole, if it is found, with the first record that causes it.
+/// Adds the line of a finding in the dump as a whole, if it is found, with the place of the first record that causes
+/// it.
 #[tactic(auto, unfolding(crate::specs::Lines::dump_line))]
 fn push_dump_line(lines: &mut Vec<u8>, end: &SurveyEnd, finding: WholeFinding) -> Result<(), Memory>
     ensures { OnOk result (lines.new.items ≡ lines.old.items
@@ -255,7 +256,7 @@ fn push_dump_line(lines: &mut Vec<u8>, end: &SurveyEnd, finding: WholeFinding) -
     Ok(lines.push(b'\n')?)
 }
 
-/// Adds the lines of what is found in the dump as a whole.
+/// Adds the lines of the findings in the dump as a whole.
 fn push_dump_lines(lines: &mut Vec<u8>, end: &SurveyEnd) -> Result<(), Memory>
     ensures { OnOk result (lines.new.items ≡ lines.old.items ++ flat_map dump_line (reported_at_end end.now)) }
 {
@@ -270,7 +271,7 @@ fn push_dump_lines(lines: &mut Vec<u8>, end: &SurveyEnd) -> Result<(), Memory>
     Ok(())
 }
 
-/// Adds the line of a fault for which there is no record at this place.
+/// Adds the line of a fault: no record begins at this place.
 #[tactic(auto, unfolding(crate::specs::Lines::broken_line))]
 fn push_broken_line(lines: &mut Vec<u8>, kind: FaultKind, at: Place) -> Result<(), Memory>
     ensures { OnOk result (lines.new.items ≡ lines.old.items ++ broken_line kind at) }
@@ -281,7 +282,8 @@ fn push_broken_line(lines: &mut Vec<u8>, kind: FaultKind, at: Place) -> Result<(
     Ok(lines.push(b'\n')?)
 }
 
-/// Adds the line of what ends the list of so many records before the dump's end, if something does.
+/// Adds the line that says why the list of records ends before the dump does, if it does; `count` is the number of
+/// records.
 fn push_ending_line(lines: &mut Vec<u8>, count: u64, end: End) -> Result<(), Memory>
     ensures { OnOk result (lines.new.items ≡ lines.old.items ++ ending_line count (survey_ending end)) }
 {
@@ -297,7 +299,7 @@ fn push_ending_line(lines: &mut Vec<u8>, count: u64, end: End) -> Result<(), Mem
     }
 }
 
-/// The lines of what is known after so many records, and then one for each kind of what was found.
+/// The lines of what is known after `count` records, and then one line for each kind of finding.
 pub(crate) fn end_lines(
     alloc: Global,
     count: u64,
@@ -318,7 +320,7 @@ pub(crate) fn end_lines(
     Ok(lines)
 }
 
-/// The lines of what is found in a node.
+/// The lines of the findings in a node.
 pub(crate) fn node_lines(alloc: Global, node: &SurveyedNode<'_, '_>) -> Result<Vec<u8>, Memory>
     requires { IsTrue (is_node (record_item node.now.item)) }
     ensures { IfOk result (λ lines. lines.items ≡ flat_map node_line (reported_of_node node.now)) }
@@ -334,7 +336,7 @@ pub(crate) fn node_lines(alloc: Global, node: &SurveyedNode<'_, '_>) -> Result<V
     Ok(lines)
 }
 
-/// What the line of a path that is to be a prefix too says before it.
+/// The words that precede the path on the line of a prefix to add.
 fn added_prefix_words(side: Side) -> &'static [u8]
     ensures { result.now ≡ added_prefix_words side }
 {
@@ -344,7 +346,7 @@ fn added_prefix_words(side: Side) -> &'static [u8]
     }
 }
 
-/// Adds the line of a path that is to be a prefix too.
+/// Adds the line of a prefix to add.
 #[tactic(auto, unfolding(crate::specs::AddedPrefixLines::added_prefix_line))]
 fn push_added_prefix_line(lines: &mut Vec<u8>, side: Side, path: &[u8]) -> Result<(), Memory>
     ensures { OnOk result (lines.new.items ≡ lines.old.items ++ added_prefix_line side path.now) }
@@ -371,7 +373,7 @@ pub(crate) fn added_prefix_lines(
     Ok(lines)
 }
 
-/// Adds the line of a directory to be created.
+/// Adds the line of a directory to create.
 #[tactic(auto, unfolding(crate::specs::AdviceLines::folder_line))]
 fn push_folder_line(lines: &mut Vec<u8>, path: &[u8]) -> Result<(), Memory>
     ensures { OnOk result (lines.new.items ≡ lines.old.items ++ folder_line path.now) }
@@ -381,7 +383,7 @@ fn push_folder_line(lines: &mut Vec<u8>, path: &[u8]) -> Result<(), Memory>
     Ok(lines.push(b'\n')?)
 }
 
-/// The lines of the directories to be created.
+/// The lines of the directories to create.
 pub(crate) fn folder_lines(alloc: Global, folders: &[&[u8]]) -> Result<Vec<u8>, Memory>
     ensures { IfOk result (λ lines. lines.items ≡ folder_lines (map (λ path. path.now) folders.now)) }
 {
@@ -394,7 +396,7 @@ pub(crate) fn folder_lines(alloc: Global, folders: &[&[u8]]) -> Result<Vec<u8>, 
     Ok(lines)
 }
 
-/// What the line about dropped lines of mergeinfo says after their number.
+/// The words that follow the number on the line about dropped lines of mergeinfo.
 fn left_out_words(count: usize) -> &'static [u8]
     ensures { result.now ≡ left_out_words count }
 {
@@ -405,7 +407,7 @@ fn left_out_words(count: usize) -> &'static [u8]
     }
 }
 
-/// The line that says how many lines of mergeinfo are dropped, if any are.
+/// The line with the number of dropped lines of mergeinfo; empty if the number is 0.
 #[tactic(auto, unfolding(crate::specs::LeftOutLine::left_out_line))]
 pub(crate) fn left_out_line(alloc: Global, count: usize) -> Result<Vec<u8>, Memory>
     ensures { IfOk result (λ line. line.items ≡ left_out_line count) }

@@ -1,4 +1,4 @@
-//! The survey of a dump, written as it is found, and what follows it.
+//! The text of a survey, which is written while the survey reads the dump, and the advice that follows it.
 ghost use Rattle.std.specs.Prelude.{◌≡◌, ◌≢◌, ◌==◌, List, ℕ, Err, IfOk, IsFalse, OnErr, OnOk, length, not};
 ghost use Rattle.std.specs.Io.KnownBytes.{Appends};
 ghost use Rattle.dump_writer.specs.SinkWords.{HasFailedSince};
@@ -19,7 +19,7 @@ use dump_rules::{Memory, Options};
 use dump_writer::{Chunk, Piece, Sink, write_piece};
 use std::alloc::Global;
 
-/// Why a survey wasn't written whole.
+/// Why a survey wasn't written completely.
 #[derive(Clone, Copy, Debug, PartialEq, Eq)]
 pub enum SurveyFailure {
     /// Memory ran out.
@@ -67,8 +67,8 @@ pub(crate) fn write_lines<S: Sink>(
     }
 }
 
-/// Writes the survey of a dump for the filter under these options, each line as it is found and last one for each kind,
-/// and returns whether something was found.
+/// Writes the survey of a dump for the filter under these options, and returns whether it found something. It writes
+/// each finding's line as soon as it is found, and at the end one line for each kind.
 pub fn write_survey<S: Sink>(
     alloc: Global,
     dump: &[u8],
@@ -108,7 +108,8 @@ pub fn write_survey<S: Sink>(
     }
 }
 
-/// The lines of the prefixes to add. If the survey found nothing there are none, and the dump isn't read again.
+/// The lines of the prefixes to add. If the survey found nothing, there are none, and the function doesn't read the
+/// dump again.
 fn lines_of_added_prefixes(
     alloc: Global,
     dump: &[u8],
@@ -125,8 +126,8 @@ fn lines_of_added_prefixes(
     added_prefix_lines(alloc, options.side(), &paths)
 }
 
-/// The lines of how many lines of mergeinfo are dropped, of the parent directories to create before what is filtered
-/// under these options is loaded, and of the prefixes to add.
+/// The lines with the advice for a dump that is filtered under these options: the number of dropped lines of
+/// mergeinfo, the parent directories to create before loading, and the prefixes to add.
 fn advice_lines(
     alloc: Global,
     dump: &[u8],
@@ -145,11 +146,15 @@ fn advice_lines(
     Ok(lines)
 }
 
-/// Writes what follows the findings of a dump that is filtered under these options: a line with the number of
-/// [`left_out_lines`], unless it is 0, then one for each parent directory to create, in the order of
-/// [`folders_to_make`], and one for each prefix to add, in that of [`prefixes_to_add`]: none if the filter stops at no
-/// copy. Nothing is written before all is known. The caller says whether the survey found something: if it didn't,
-/// there is no prefix to add, and none is looked for.
+/// Writes the advice for a dump that is filtered under these options, which follows the findings.
+///
+/// The first line has the number of [`left_out_lines`], unless that is 0. Then there is one line for each parent
+/// directory to create, in the order of [`folders_to_make`], and one for each prefix to add, in the order of
+/// [`prefixes_to_add`]. There is no prefix to add if the filter stops at no copy. The function writes nothing before
+/// all lines are known.
+///
+/// The caller says whether the survey found something. If it didn't, there is no prefix to add, and the function looks
+/// for none.
 pub fn write_advice<S: Sink>(
     alloc: Global,
     dump: &[u8],

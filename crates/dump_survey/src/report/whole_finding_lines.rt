@@ -1,4 +1,4 @@
-//! What the lines of a survey say of a finding in the dump as a whole.
+//! The words that the lines of a survey use for a finding in the dump as a whole.
 ghost use Rattle.std.specs.Prelude.{◌≡◌};
 ghost use Rattle.dump_survey.specs.Kinds.{dump_advice, dump_kind, dump_what};
 ghost use Rattle.dump_survey.specs.Lines.{dump_fault, dump_words};
@@ -9,7 +9,7 @@ use crate::report::kind_lines::Kind;
 use dump_text::FaultKind;
 
 impl WholeFinding {
-    /// The sentence of the finding.
+    /// The words of the finding's line.
     #[tactic(auto, unfolding(crate::specs::Lines::dump_words))]
     pub(crate) fn words(self) -> &'static [u8]
         ensures { result.now ≡ dump_words (whole_meaning self) }
@@ -32,7 +32,7 @@ impl WholeFinding {
         }
     }
 
-    /// The fault with which the filter stops if this is found, if it does.
+    /// The fault with which the filter stops if the dump has this finding, if it stops.
     pub(crate) fn fault(self) -> Option<FaultKind>
         ensures { result ≡ dump_fault (whole_meaning self) }
     {
@@ -43,7 +43,7 @@ impl WholeFinding {
         }
     }
 
-    /// What is found, as the line that counts it says.
+    /// The words for the finding on the line that counts it.
     #[tactic(auto, unfolding(crate::specs::Kinds::dump_what))]
     fn what(self) -> &'static [u8]
         ensures { result.now ≡ dump_what (whole_meaning self) }
@@ -60,7 +60,7 @@ impl WholeFinding {
         }
     }
 
-    /// What to do about it.
+    /// What the user can do about the finding.
     #[tactic(auto, unfolding(crate::specs::Kinds::dump_advice))]
     fn advice(self) -> &'static [u8]
         ensures { result.now ≡ dump_advice (whole_meaning self) }
@@ -79,7 +79,7 @@ impl WholeFinding {
         }
     }
 
-    /// What the line that counts it says.
+    /// The parts of the line that counts the finding.
     #[tactic(auto, unfolding(crate::specs::Kinds::dump_kind, crate::specs::steps::LineViews::kind_view))]
     pub(crate) fn kind(self) -> Kind
         ensures { kind_view result ≡ dump_kind (whole_meaning self) }

@@ -28,7 +28,7 @@ const WANTED: [(Side, &str, &[u8], &str); 8] = [
     (Side::Exclude, "t", NESTED, "x "),
 ];
 
-/// Whether these are the prefixes to add for a dump, with a blank after each.
+/// Whether these are the prefixes to add for a dump; `wanted` has a blank after each.
 fn are_to_add(
     alloc: Global,
     side: Side,
@@ -52,7 +52,8 @@ fn what_copies_need_is_to_be_added(rt: HostRuntime) -> Result<(), Fail> {
     Ok(())
 }
 
-/// Run with each allocation failing in turn: all is reported, or there is no memory.
+/// The test runner repeats this with each allocation failing in turn. The prefixes are complete, or the error is
+/// `Memory`.
 #[test]
 fn prefixes_to_add_or_no_memory(rt: HostRuntime) {
     let Ok(options) = one_prefix(rt.alloc(), Side::Include, b"c") else {
@@ -65,7 +66,7 @@ fn prefixes_to_add_or_no_memory(rt: HostRuntime) {
     assert!(rt; answered);
 }
 
-/// The same of the lines after the findings.
+/// The same test for the lines of the advice.
 #[test]
 fn advice_or_no_memory(rt: HostRuntime) {
     let (side, prefixes) = (Side::Include, [b"x/y".as_slice(), b"c"]);

@@ -1,4 +1,4 @@
-//! The prefix that is reported with a copy that is filtered differently.
+//! The prefix that a survey reports with a copy that is filtered differently from its source.
 use super::{COPIED, rules};
 use crate::{NodeFinding, ReportedFinding, survey_dump};
 use dump_rules::Side;
@@ -9,7 +9,7 @@ fn names(reported: &ReportedFinding<'_, '_>, finding: NodeFinding, prefix: &[u8]
     reported.finding == finding && reported.prefix == Some(prefix)
 }
 
-/// Whether two findings are reported, of what is lost and of what comes back, with these prefixes.
+/// Whether there are two reports, one of what a copy loses and one of what it brings back, with these prefixes.
 fn are_cut(reported: &[ReportedFinding<'_, '_>]) -> bool {
     match reported {
         [loses, lets_in] => {

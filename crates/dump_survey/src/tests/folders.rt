@@ -5,14 +5,14 @@ use dump_rules::Side;
 use std::alloc::Global;
 use std::test::Fail;
 
-/// Whether these prefixes need these directories, with a blank after each.
+/// Whether a call with these prefixes needs these directories; `wanted` has a blank after each.
 fn is_made_first(alloc: Global, side: Side, words: &str, wanted: &str) -> Result<bool, Fail> {
     let options = rules(alloc, side, words)?;
     let folders = folders_to_make(alloc, &options)?;
     Ok(are_words(&folders, wanted))
 }
 
-/// Each row has the prefixes, with blanks between them, and the directories.
+/// Each row has the side, the prefixes with a blank between two, and the directories.
 const MADE: [(Side, &str, &str); 7] = [
     (Side::Include, "a/b/c", "a a/b "),
     (Side::Include, "//a/b/ a/c d/e/f", "a d d/e "),

@@ -1,4 +1,4 @@
-//! Lines of mergeinfo that are omitted, on example dumps.
+//! Lines of mergeinfo that the filter omits, on example dumps.
 use super::rules;
 use crate::{left_out_lines, write_advice};
 use dump_rules::{Empty, Options, Side};
@@ -20,8 +20,8 @@ fn skipping(alloc: Global, prefix: &str) -> Result<Options, Fail> {
     Ok(options)
 }
 
-/// How many lines the filter omits under this prefix, of a dump that has a directory trunk with such a property block:
-/// its length, and the block.
+/// The number of lines that the filter omits under this prefix from a dump that has a directory `trunk` with a
+/// property block. `block` has the block's length and the block.
 fn left_out(alloc: Global, prefix: &str, block: &str) -> Result<usize, Fail> {
     let dump = format!(in alloc;
         "SVN-fs-dump-format-version: 2\n\nRevision-number: 0\n\nNode-path: trunk\nProp-content-length: {block}"
@@ -60,7 +60,7 @@ const MERGED: &[u8] =
     b"SVN-fs-dump-format-version: 2\n\nRevision-number: 0\n\nRevision-number: 1\n\n\
 Node-path: a/b\nProp-content-length: 43\n\nK 13\nsvn:mergeinfo\nV 9\n/branch:1\nPROPS-END\n";
 
-/// Whether these lines follow the findings.
+/// Whether the advice for the dump `MERGED` is these lines.
 fn stand_behind(alloc: Global, options: &Options, lines: &[u8]) -> bool {
     let mut sink = MemorySink::new(alloc, 8, Trouble::Never);
     let written = write_advice(alloc, MERGED, options, true, &mut sink);

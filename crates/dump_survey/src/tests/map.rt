@@ -6,7 +6,7 @@ use std::alloc::Global;
 use std::process::Abort;
 use std::test::Fail;
 
-/// Revision 4 has no kept node, and the filter leaves it out.
+/// Revision 4 has no kept node, and the filter drops it.
 const EMPTIED: &[u8] = b"SVN-fs-dump-format-version: 2\n\n\
 Revision-number: 3\n\n\
 Revision-number: 4\n\n\
@@ -29,7 +29,7 @@ fn renumbering(alloc: Global) -> Result<Options, Memory> {
     )
 }
 
-/// Whether a sink with this trouble leaves this answer, and these bytes.
+/// Whether writing the map to a sink with this trouble has this result, and the sink has taken these bytes.
 fn is_map(
     alloc: Global,
     trouble: Trouble,
@@ -54,7 +54,8 @@ fn a_sink_that_fails_has_the_first_bytes_of_a_map(rt: HostRuntime) -> Result<(),
     Ok(())
 }
 
-/// Run with each allocation failing in turn: all is written, or there is no memory.
+/// The test runner repeats this with each allocation failing in turn. The map is complete, or the error is that memory
+/// ran out.
 #[test]
 fn a_map_or_no_memory(rt: HostRuntime) {
     let Ok(options) = renumbering(rt.alloc()) else {

@@ -1,4 +1,4 @@
-//! What is found in single nodes.
+//! The findings in single nodes.
 use super::rules;
 use crate::{NodeFinding, ReportedFinding, survey_dump};
 use dump_rules::{Empty, Options, Side};
@@ -6,7 +6,7 @@ use std::alloc::Global;
 use std::process::Abort;
 use std::test::Fail;
 
-/// Whether these are the findings that are reported.
+/// Whether the survey reports exactly these findings.
 fn are_reported(reported: &[ReportedFinding<'_, '_>], wanted: &[NodeFinding]) -> bool {
     for (reported, finding) in reported.iter().zip(wanted) {
         if reported.finding != *finding {
@@ -16,7 +16,7 @@ fn are_reported(reported: &[ReportedFinding<'_, '_>], wanted: &[NodeFinding]) ->
     reported.len() == wanted.len()
 }
 
-/// Asserts that these are the findings in a dump, whose last node is this one.
+/// Asserts that the survey of a dump has exactly these findings; `node` is the dump's last node.
 fn assert_found(
     rt: &impl Abort,
     alloc: Global,
@@ -30,7 +30,7 @@ fn assert_found(
     Ok(())
 }
 
-/// The same of a node that is alone in a dump.
+/// Asserts the findings in a dump that has only this node.
 fn assert_found_alone(
     rt: &impl Abort,
     alloc: Global,
@@ -91,7 +91,7 @@ fn nodes_that_make_no_change_are_found(rt: HostRuntime) -> Result<(), Fail> {
     Ok(())
 }
 
-/// Nodes that are copied from `o/f`: a directory, and files without and with properties.
+/// Nodes that are copies of `o/f`: a directory, and files without and with properties.
 const LOST_FOLDER: &str =
     "Node-path: trunk/f\nNode-action: add\nNode-copyfrom-rev: 0\nNode-copyfrom-path: o/f\n\
 Node-kind: dir\nProp-content-length: 10\nContent-length: 10\n\nPROPS-END\n";
@@ -104,7 +104,7 @@ const LOST_FILE: &str =
     "Node-path: trunk/f\nNode-action: add\nNode-copyfrom-rev: 0\nNode-copyfrom-path: o/f\n\
 Node-kind: file\nProp-content-length: 10\nText-content-length: 1\nContent-length: 11\n\nPROPS-END\na";
 
-/// The side, its prefix, the node, and what is found in it.
+/// Each row has the side, the prefix, the node, and the findings in it.
 const COPIES: [(Side, &str, &str, &[NodeFinding]); 13] = [
     (
         Side::Include,
@@ -139,7 +139,8 @@ fn copies_that_lose_or_let_in_something_are_found(rt: HostRuntime) -> Result<(),
     Ok(())
 }
 
-/// A node with mergeinfo of this path, and of no revision if there is no colon.
+/// Nodes with mergeinfo: one from `/trunk`, one from `/o`, and one whose line names no revision, since it has no
+/// colon.
 const MERGED_FROM_TRUNK: &str =
     "Node-path: trunk\nNode-action: change\nProp-content-length: 42\nContent-length: 42\n\n\
     K 13\nsvn:mergeinfo\nV 8\n/trunk:1\nPROPS-END\n";
@@ -202,7 +203,7 @@ fn left_out_folders_and_mergeinfo_are_found(rt: HostRuntime) -> Result<(), Fail>
     Ok(())
 }
 
-/// The same of the last node of a partial dump that is renumbered.
+/// Asserts the findings in the last node of a partial dump that the filter renumbers.
 fn assert_found_in_part(
     rt: &impl Abort,
     alloc: Global,

@@ -1,11 +1,11 @@
-//! What is found in prefixes, on an example dump.
+//! The findings in prefixes, on an example dump.
 use super::rules;
 use crate::{PrefixFinding, ReportedPrefix, survey_dump};
 use dump_rules::Side;
 use std::alloc::Global;
 use std::test::Fail;
 
-/// A directory, a copy of it, and a copy of what is in that one.
+/// A directory, a copy of it, and a copy of a directory below that copy.
 const COPIES: &[u8] = b"SVN-fs-dump-format-version: 2\n\n\
 Revision-number: 0\n\n\
 Revision-number: 1\n\n\
@@ -14,7 +14,7 @@ Revision-number: 2\n\n\
 Node-path: /b\nNode-kind: dir\nNode-action: add\nNode-copyfrom-rev: 1\nNode-copyfrom-path: t\n\n\n\
 Node-path: g\nNode-kind: dir\nNode-action: add\nNode-copyfrom-rev: 1\nNode-copyfrom-path: b/f\n\n\n";
 
-/// Whether this is found in these prefixes and no others, which are in a text with a blank after each.
+/// Whether exactly these prefixes have this finding; `words` has a blank after each.
 fn are_reported(reported: &[ReportedPrefix<'_>], finding: PrefixFinding, words: &str) -> bool {
     let mut rest = words.as_bytes();
     for one in reported {
@@ -28,7 +28,8 @@ fn are_reported(reported: &[ReportedPrefix<'_>], finding: PrefixFinding, words: 
     rest.is_empty()
 }
 
-/// Whether of these prefixes those aren't canonical, and those are idle.
+/// Whether the survey reports, of the prefixes in `words`, exactly those in `not_short` as not canonical and those in
+/// `idle` as idle.
 fn tells(alloc: Global, words: &str, not_short: &str, idle: &str) -> Result<bool, Fail> {
     let options = rules(alloc, Side::Exclude, words)?;
     let survey = survey_dump(alloc, COPIES, &options)?;
@@ -38,7 +39,7 @@ fn tells(alloc: Global, words: &str, not_short: &str, idle: &str) -> Result<bool
     )
 }
 
-/// Each row has the prefixes, with blanks between them, those that aren't canonical, and those that are idle.
+/// Each row has the prefixes with a blank between two, the ones that aren't canonical, and the ones that are idle.
 #[test]
 fn prefixes_are_reported_in_their_order(rt: HostRuntime) -> Result<(), Fail> {
     let rows = [

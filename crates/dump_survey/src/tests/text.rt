@@ -1,4 +1,4 @@
-//! The text of a survey, and sinks and memory that fail.
+//! The text of a survey, also with sinks and memory that fail.
 use super::{COPIED, ONE_NODE, one_prefix, rules};
 use crate::{SurveyFailure, write_survey};
 use dump_rules::Side;
@@ -13,7 +13,7 @@ the revision numbers of the dump do not rise by one (record 2, byte 51)\n\
 total 1: texts that svnadmin load reads differently: correct them in the dump, since a prefix may not match what is loaded\n\
 total 1: revision numbers that do not rise by one: first renumber the dump with svndumpfilter include --renumber-revs /\n";
 
-/// Whether a sink with this trouble leaves this answer, and these bytes.
+/// Whether writing the survey to a sink with this trouble has this result, and the sink has taken these bytes.
 fn is_text(
     alloc: Global,
     trouble: Trouble,
@@ -50,7 +50,8 @@ prefix t/f: no node has a path at or below it, and none is copied from there or 
 total 1: copies that may lack paths that are excluded at their source: exclude these paths below the copy too, or not below the source\n\
 total 1: prefixes that match nothing in the dump: check that they are spelled as in the dump\n";
 
-/// Run with each allocation failing in turn: all is written, or there is no memory.
+/// The test runner repeats this with each allocation failing in turn. The text is complete, or the error is that
+/// memory ran out.
 #[test]
 fn a_text_or_no_memory(rt: HostRuntime) {
     let Ok(options) = one_prefix(rt.alloc(), Side::Exclude, b"t/f") else {
