@@ -1,4 +1,4 @@
--- How paths stand below a directory, and in the order of their bytes.
+-- How paths compare with a directory, and with other paths in the order of their bytes.
 use Rattle.std.proofs.Common.{◌≡◌, ℕ, zero, suc, ◌+◌, ◌<◌, ◌≤◌, Bool, true, false, not, ◌&&◌, cond, List, [], ◌∷◌, ◌++◌, length, take, drop, nat_eq, bytes_eq, append-nil, append_assoc, refl, sym, ap, ap₂, ◌∙◌, ◌≢◌, arith, inl, inr}
 use Rattle.std.proofs.lemmas.Bool.{cases_lt, eqb-true, eq-eqb, false_from_ne_true, and_from, lt-ltb}
 use Rattle.std.proofs.lemmas.Slice.Eq.{bytes_eq-Decides}
@@ -61,13 +61,13 @@ not_less m n r high behind = cases (sides m n)
     cases (Level level is) = ap (λ o. is_lt (ordering_then o r)) is ∙ behind level
     cases (Higher more is) = ap (λ o. is_lt (ordering_then o r)) is
 
--- where the path decides first
+-- the first part of a comparison decides if it isn't equal
 pub first_part : (o r : Ordering) → is_lt (ordering_then o r) ≡ false → is_lt o ≡ false
 first_part Less r isnt = let bad : true ≡ false = isnt in absurd (cc)
 first_part Equal r isnt = refl
 first_part Greater r isnt = refl
 
--- what comes no later than a text that is up to the front is so too
+-- a text that comes no later than a text up to the front is up to the front too
 pub up_to_before : (front a b : List ℕ) → is_lt (slice_cmp nat_cmp b a) ≡ false
     → is_lt (slice_cmp nat_cmp front (take (length front) b)) ≡ false
     → is_lt (slice_cmp nat_cmp front (take (length front) a)) ≡ false
@@ -81,14 +81,14 @@ up_to_before (f ∷ front) (x ∷ a) (y ∷ b) up low =
     up_to_before front a b (level_rest y x (slice_cmp nat_cmp b a) up (omega arith))
     (level_rest f y (slice_cmp nat_cmp front (take (length front) b)) low (omega arith)))
 
--- what begins with the front is up to it
+-- a text that begins with the front is up to the front
 pub up_to_own : (front rest : List ℕ) → is_lt (slice_cmp nat_cmp front (take (length front) (front ++ rest))) ≡ false
 up_to_own [] rest = refl
 up_to_own (f ∷ front) rest =
     not_less f f (slice_cmp nat_cmp front (take (length front) (front ++ rest))) (omega arith)
     (λ same. up_to_own front rest)
 
--- what comes no earlier than a text that begins with the front, and is up to it, begins with it
+-- a text that is up to the front, and comes no earlier than one that begins with the front, begins with the front
 pub front_between : (front rest b : List ℕ) → is_lt (slice_cmp nat_cmp b (front ++ rest)) ≡ false
     → is_lt (slice_cmp nat_cmp front (take (length front) b)) ≡ false → b ≡ front ++ drop (length front) b
 front_between [] rest b up low = refl
@@ -101,7 +101,7 @@ front_between (f ∷ front) rest (y ∷ b) up low =
     (front_between front rest b (level_rest y f (slice_cmp nat_cmp b (front ++ rest)) up same)
     (level_rest f y (slice_cmp nat_cmp front (take (length front) b)) low (sym same)))
 
--- what begins with a text comes no earlier than it
+-- a text that begins with another one doesn't come before it
 pub not_first : (top name : List ℕ) (place : ℕ)
     → is_lt (ordering_then (slice_cmp nat_cmp (top ++ name) top) (nat_cmp place 0)) ≡ false
 not_first [] [] place = cases (sides place 0)
@@ -212,7 +212,7 @@ further top path rest is low = (
       (slash_in rest more low),
 )
 
--- it has nothing more
+-- the path doesn't go on after the top
 pub nothing_more : (top name : List ℕ) → top ≡ top ++ name → is_name name ≡ false
 nothing_more top name is =
     let none : [] ≡ name = same_behind top [] name (append-nil top ∙ is) in

@@ -1,4 +1,4 @@
--- The names of a directory: each once and in order, and exactly those that can stand there and do.
+-- The names of a directory, without duplicates and in order: exactly the names that can exist there and do.
 use Rattle.std.proofs.Common.{◌≡◌, ℕ, ◌+◌, ◌<◌, Bool, true, false, not, ◌&&◌, ◌||◌, cond, List, [], ◌∷◌, ◌++◌, length, take, get_or, Bor, Option, is_some, nat_eq, nat_lt, bytes_eq, append-nil, refl, sym, ap, ap₂, ◌∙◌}
 use Rattle.std.proofs.lemmas.Bool.{and_parts, not-true}
 use Rattle.std.proofs.lemmas.List.{take_more, map-append}
@@ -28,7 +28,7 @@ use Rattle.dump_index.proofs.LookNames.{or_assoc, or_none}
 use Rattle.dump_index.specs.Children.{is_child_named, stands_in, AreChildren}
 use Rattle.dump_index.specs.steps.Names.{texts_of}
 
--- names that are borrowed
+-- borrowed names
 abbrev pub is_text : List ℕ → Bor (List ℕ) → Bool
 is_text name text = bytes_eq text.now name
 
@@ -104,7 +104,7 @@ children_are listed count path given sorted once kept looked others up once_is k
       ∙ dedup_named sorted name ∙ sym (moved_named given sorted others name) ∙ looked name);
 }
 
--- ---- one name more
+-- ---- one more name
 
 pub pushed_named : (names : List (Bor (List ℕ))) (more : Bor (List ℕ)) (name : List ℕ)
     → is_child_named (texts_of (names ++ more ∷ [])) name ≡ (is_child_named (texts_of names) name || bytes_eq more.now name)
@@ -112,7 +112,7 @@ pushed_named names more name =
     named_texts (names ++ more ∷ []) name ∙ list_any-append (is_text name) names (more ∷ [])
     ∙ ap₂ (λ a b. a || b) (sym (named_texts names name)) (or_none (bytes_eq more.now name))
 
--- where the change makes the name, and where it doesn't
+-- the change makes the name, or it doesn't
 pub named_pushed : (old first before after same low makes : Bool) → old ≡ (first || before)
     → after ≡ (before || (same && (low && makes))) → low ≡ true → makes ≡ true → (old || same) ≡ (first || after)
 named_pushed old first before after same low makes is more is_low is_made =
@@ -125,7 +125,7 @@ named_kept old first before after same its is more isnt =
     is ∙ sym (ap (λ b. first || b)
     (more ∙ ap (λ b. before || b) (ap (λ b. same && b) isnt ∙ and_false same) ∙ or_none before))
 
--- ---- which of the names stand
+-- ---- which of the names exist
 
 pub name_at : (names : List (Bor (List ℕ))) (i : ℕ) (d : Bor (List ℕ)) → i < length names → AreNames names
     → is_name (get_or names i d).now ≡ true

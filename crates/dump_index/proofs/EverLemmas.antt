@@ -1,5 +1,5 @@
--- The names by which something can stand in a directory at some time: those of what is made there, and those that each
--- change leaves that shapes the path.
+-- The names by which something can exist in a directory at some time: the names of what is made there, and the names
+-- that each change leaves that shapes the path.
 use Rattle.std.proofs.Common.{◌≡◌, ℕ, zero, suc, ◌<◌, ◌≤◌, Bool, true, false, ◌||◌, cond, List, length, Bor, Option, Some, None, refl, sym, ap, ◌∙◌, subst, arith, inl, inr}
 use Rattle.std.specs.Prelude.{slice_get}
 use Rattle.std.specs.List.{dedup}
@@ -23,7 +23,7 @@ use Rattle.dump_index.proofs.NameLemmas.{made_some, made_at}
 use Rattle.dump_index.proofs.LookNames.{shaped_names}
 use Rattle.dump_index.proofs.ChildLemmas.{same_texts, moved_named, dedup_named, strict_texts}
 
--- where the test holds of none, there is no latest
+-- if no place passes the test, there is no latest one
 pub latest_all : (test : ℕ → Bool) (count k : ℕ) → latest_place test count ≡ None → k < count → test k ≡ false
 latest_all test zero k none low = absurd (omega arith)
 latest_all test (suc count) k none low = cases (latest_all test count k) (test count) refl none
@@ -37,7 +37,7 @@ latest_all test (suc count) k none low = cases (latest_all test count k) (test c
           | inr more ↦ let same : k ≡ count = omega arith in ap test same ∙ is
         ]
 
--- nor behind the latest
+-- no place after the latest one passes the test
 pub latest_behind : (test : ℕ → Bool) (count place k : ℕ) → latest_place test count ≡ Some place → place < k → k < count
     → test k ≡ false
 latest_behind test zero place k is above low = absurd (omega arith)
@@ -61,7 +61,7 @@ module _ (listed : List Listed) (path : List ℕ) where
   abbrev pub is_made : ℕ → List ℕ → Bool
   is_made count name = is_child_named (names_made (all_placed listed) count (names_of path)) name
 
--- what is found so far, of all that is made and of the changes from this one on
+-- the names found so far: of all that is made, and of what the changes from this one on leave
 pub record IsFoundFrom (listed : List Listed) (path : List ℕ) (names : List (Bor (List ℕ))) (before : ℕ) : Type 0 where
   pub low : before ≤ length listed
   pub each : (name : List ℕ) → is_child_named (texts_of names) name ≡ true → CanStandOnce listed (names_of path) name
@@ -98,7 +98,7 @@ module _ (listed : List Listed) (back : LooksBack (all_placed listed))
     left = λ place name high less. absurd (omega arith);
   }
 
-  -- with those of the latest change before
+  -- the names with those of the latest change before
   pub found_more : (names more : List (Bor (List ℕ))) (before place : ℕ) → IsFoundFrom listed path names before
       → latest_place (shapes listed path) before ≡ Some place
       → ((name : List ℕ) → is_child_named (texts_of more) name ≡ (is_child_named (texts_of names) name || left_by listed path (Some place) name))
@@ -134,7 +134,7 @@ module _ (listed : List Listed) (back : LooksBack (all_placed listed))
             ]);
       }
 
-  -- all of them
+  -- all names
   pub ever_found : (names sorted once : List (Bor (List ℕ))) (before : ℕ) → IsFoundFrom listed path names before
       → latest_place (shapes listed path) before ≡ None → IsPermutation names sorted
       → IsSorted (λ one two. slice_cmp nat_cmp one.now two.now) sorted → once ≡ dedup same_texts sorted

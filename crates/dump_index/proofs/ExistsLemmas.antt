@@ -1,4 +1,4 @@
--- Whether something exists at a path at some time: where no change touches the path, what exists there stays.
+-- Whether something exists at a path at some time. If no change touches the path, what exists there doesn't change.
 use Rattle.std.proofs.Common.{◌≡◌, ◌⊎◌, ℕ, zero, suc, ◌+◌, ◌<◌, ◌≤◌, Bool, true, false, ◌||◌, cond, List, [], ◌∷◌, ◌++◌, length, map, Option, Some, None, is_some, option_map, refl, sym, ap, ◌∙◌, arith, inl, inr, append-nil, append_assoc}
 use Rattle.std.specs.Prelude.{slice_get}
 use Rattle.std.proofs.lemmas.Bool.{cases_lt, or_cases, or_left, or_right}
@@ -26,13 +26,13 @@ use Rattle.dump_index.specs.declared.change.NodeKind.{NodeKind}
 use Rattle.dump_index.proofs.LawLemmas.{look_one_more}
 use Rattle.dump_index.proofs.ToldLemmas.{index_tells_kinds}
 
--- after some of so many changes
+-- after some of this number of changes
 
 module _ (listed : List Listed) (path : NodePath) where
   abbrev pub exists_at : ℕ → Bool
   exists_at count = is_some (kind_look listed count path)
 
-  -- something that exists after so many is found
+  -- something that exists after this number of changes or fewer is found
   pub within_some : (count n : ℕ) → n ≤ count → exists_at n ≡ true → exists_within listed count path ≡ true
   within_some zero zero low some = some
   within_some zero (suc n) low some = absurd (omega arith)
@@ -45,7 +45,7 @@ module _ (listed : List Listed) (path : NodePath) where
             or_left (exists_at (suc count)) (exists_within listed count path) (ap exists_at (sym same) ∙ some)
       ]
 
-  -- and nothing else
+  -- if something is found, it exists after this number of changes or fewer
   pub some_within : (count : ℕ) → exists_within listed count path ≡ true → (n : ℕ) × (n ≤ count) × (exists_at n ≡ true)
   some_within zero is = (zero, omega arith, is)
   some_within (suc count) is =
@@ -64,7 +64,7 @@ module _ (listed : List Listed) (path : NodePath) where
         ∙ ap (λ b. cond b (left_there (look root_alone (all_placed listed)) (all_placed listed) count path
         (slice_get (all_placed listed) count)) (look root_alone (all_placed listed) count path)) isnt)
 
-    -- so where nothing exists, nothing does after the latest change that touches the path
+    -- so if nothing exists at the end, nothing has existed since the latest change that touches the path
     pub none_since : (count place : ℕ) → latest (touches_path path) (all_placed listed) count ≡ Some place
         → exists_at count ≡ false → exists_within listed count path ≡ exists_within listed place path
     none_since zero place last none = absurd (let bad : None ≡ Some place = last in cc)
@@ -82,7 +82,7 @@ module _ (listed : List Listed) (path : NodePath) where
             ap (λ n. exists_within listed n path) same
         cases further false isnt last = further last (sym (stays count isnt) ∙ none)
 
-    -- and at no time, where none touches it
+    -- and if no change touches the path, nothing exists at any time
     pub none_ever : (count : ℕ) → latest (touches_path path) (all_placed listed) count ≡ None
         → exists_at count ≡ false → exists_within listed count path ≡ false
     none_ever zero last none = none
@@ -98,7 +98,7 @@ module _ (listed : List Listed) (path : NodePath) where
         cases further true is last = absurd (let bad : Some count ≡ None = last in cc)
         cases further false isnt last = further last (sym (stays count isnt) ∙ none)
 
--- the latest of so many changes is before their end
+-- the latest of this number of changes has a place below the number
 pub touching_low : (path : NodePath) (placed : List Placed) (count place : ℕ)
     → latest (touches_path path) placed count ≡ Some place → place < count
 touching_low path placed zero place is = absurd (let bad : None ≡ Some place = is in cc)
@@ -110,7 +110,7 @@ touching_low path placed (suc count) place is =
     cases further true here = let same : count ≡ place = (let both : Some count ≡ Some place = here in cc) in omega arith
     cases further false there = let low = further there in omega arith
 
--- what an index tells where the first revisions load, the last of which may be cut short
+-- what an index says if the first revisions load, the last of which may be incomplete
 
 kind_some : (one : Option NodeKind) (node : Option Node) → option_map kind_meant one ≡ option_map kind_of_node node
     → is_some one ≡ is_some node
@@ -156,7 +156,7 @@ module _ (changes : List NodeChange) (front : List (List Change)) (done more : L
       kind_some (kind_look (map listed_of changes) (length (placed_from 1 first)) path) (tree path)
       (index_tells_kinds changes (placed_from 1 revisions) all first behind trees tree path split late loads at)
 
--- revisions, parted after so many of their changes
+-- revisions, split after this number of their changes
 
 record PartedAt (number : ℕ) (revisions : List (List Change)) (n : ℕ) : Type 0 where
   front : List (List Change)
@@ -166,7 +166,7 @@ record PartedAt (number : ℕ) (revisions : List (List Change)) (n : ℕ) : Type
   parted : revisions ≡ front ++ (done ++ more) ∷ rest
   size : length (placed_from number (front ++ done ∷ [])) ≡ n
 
--- a number is at most the first one, or that and others
+-- a number is at most the first one, or it is the sum of the first one and another one
 up_to_or_behind : (first n : ℕ) → (n ≤ first) ⊎ ((others : ℕ) × (n ≡ first + others))
 up_to_or_behind zero n = inr (n, omega arith)
 up_to_or_behind (suc first) zero = inl (omega arith)
@@ -227,7 +227,7 @@ part_at number (changes ∷ next ∷ revisions) n some low =
           (let size = placed_size number changes (next ∷ revisions) in let same = over.1 in omega (arith, low, size, same)))
     ]
 
--- where all revisions load, the first ones do, the last of which may be cut short
+-- if all revisions load, the first ones load, the last of which may be incomplete
 
 record LoadsTo (first : Tree) (revisions : List (List Change)) : Type 0 where
   trees : List Tree

@@ -37,7 +37,7 @@ goes_on_cut (b ∷ top) (c ∷ path) is =
     let low = behind.0 in
     (omega arith, and_from (nat_eq b c) (bytes_eq top (take (length top) path)) parts.0 behind.1, behind.2)
 
--- one more byte of the path, which is a slash, or another one
+-- one more byte of the path: a slash, or another byte
 pub over_more : (top path : List ℕ) (k : ℕ) → k < length path → nat_eq (get_or path k 0) 47 ≡ true
     → (stands_over_within k path top || bytes_eq top (take k path)) ≡ stands_over_within (k + 1) path top
 over_more top path k low slash = both_ways _ _ up down

@@ -59,7 +59,7 @@ listed_there (l ∷ listed) (suc place) low = listed_there listed place (omega a
 abbrev pub key_at : Listed → ℕ → PathKey
 key_at l place = (l.path, place)
 
--- a place at which something is
+-- a place with an element is below the length
 inside_of : (listed : List Listed) (place : ℕ) (l : Listed) → slice_get listed place ≡ Some l → place < length listed
 inside_of [] place l at = absurd (let bad : None ≡ Some l = at in cc)
 inside_of (x ∷ listed) zero l at = omega arith
@@ -190,7 +190,7 @@ later_place m n is =
         ap (λ b. is_lt (cond b Less (cond (nat_eq m n) Equal Greater))) (not_below m n high)
         ∙ equal_or_more (nat_eq m n)
 
--- where the first of two decides alike
+-- comparisons whose first part is the same
 squeezed : (o r s : Ordering) → is_lt (ordering_then o r) ≡ false → is_lt (ordering_then o s) ≡ true → is_eq o ≡ true
 squeezed Less r s isnt is = let bad : true ≡ false = isnt in absurd (cc)
 squeezed Equal r s isnt is = refl
@@ -295,7 +295,7 @@ keys_moved effect listed keys moved others all =
           all.only path place (Contains-permutation (keys_in listed moved) (keys_in listed keys) (path, place) back some);
     }
 
--- those of all keys whose changes have an effect
+-- the places of all keys whose changes have an effect
 module _ (effect : Effect) (listed : List Listed) where
   abbrev these : List ℕ → List ℕ
   these keys = filter (has_effect_here effect listed) keys

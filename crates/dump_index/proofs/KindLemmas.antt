@@ -1,4 +1,5 @@
--- What stands at a path is what comes from behind the latest change that shapes it, where no text is set on a folder.
+-- What exists at a path has the origin that the latest change that shapes the path gives it, if no text is set on a
+-- directory.
 use Rattle.std.proofs.Common.{◌≡◌, ℕ, zero, suc, ◌<◌, Bool, true, false, ◌&&◌, ◌||◌, cond, List, [], ◌∷◌, Option, Some, None, is_some, option_map, bytes_eq, refl, sym, ap, ap₂, ◌∙◌, arith}
 use Rattle.std.specs.Prelude.{slice_get}
 use Rattle.std.proofs.lemmas.Bool.{le-leb, lt-leb}
@@ -22,7 +23,7 @@ use Rattle.dump_index.proofs.PlaceLemmas.{latest_low}
 use Rattle.dump_index.proofs.RestLemmas.{split_some, rest_same, rest_over}
 use Rattle.dump_index.proofs.LatestLemmas.{touch_same, and_true, and_false}
 
--- what setting properties and a text leaves
+-- what remains after properties and a text are set
 
 kind_props : (s : Setting) (node : Option Node)
     → option_map node_kind (node_with_props (plain_props s) node) ≡ option_map node_kind node
@@ -87,7 +88,7 @@ module _ (listed : List Listed) (back : LooksBack (all_placed listed)) (path : L
       cases true = refl
       cases false = sym (look_back (all_placed listed) back root_alone n (names_of path))
 
-  -- what stands there behind the change at this place
+  -- what exists there after the change at this place
   abbrev pub kind_left : ℕ → Listed → Option NodePath → Option NodeKind
   kind_left n l rest =
       option_map node_kind
@@ -153,7 +154,7 @@ module _ (listed : List Listed) (back : LooksBack (all_placed listed)) (path : L
     abbrev shaped_by : Option Listed → Bool
     shaped_by o = has_effect_there Shaping path o || moves_there (stands_over path) o
 
-    -- what came, by the rest of the path
+    -- what the change leaves at a rest of the path, by its origin
     came_by : (l : Listed) → slice_get listed n ≡ Some l → (rest : NodePath)
         → below (names_of l.path) (names_of path) ≡ Some rest
         → option_map node_kind (looked_up (look root_alone (all_placed listed)) (all_placed listed) n (names_of path)
@@ -161,7 +162,7 @@ module _ (listed : List Listed) (back : LooksBack (all_placed listed)) (path : L
     came_by l at rest is =
         sym (ap (came_there listed n path) at ∙ ap (came_rest listed n (names_of path) l) is)
 
-    -- at the change's own path
+    -- the change is at the path itself
     own : (l : Listed) → slice_get listed n ≡ Some l → bytes_eq l.path path ≡ true
         → (deletes : Bool) (made : Option Made) → l.deletes ≡ deletes → l.made ≡ made → (p t over : Bool)
         → sets l.props ≡ p → sets l.text ≡ t
@@ -201,7 +202,7 @@ module _ (listed : List Listed) (back : LooksBack (all_placed listed)) (path : L
         cases false None is_deletes is_made false false is_p is_t =
             left false false false (kind_left n l (Some [])) refl refl refl
 
-    -- below it
+    -- the change is at a path above
     further : (l : Listed) → slice_get listed n ≡ Some l → (rest : NodePath)
         → below (names_of l.path) (names_of path) ≡ Some rest → (name : List ℕ) (names : NodePath) → rest ≡ name ∷ names
         → (a p t m : Bool) → has_effect Moving l ≡ m
@@ -220,7 +221,7 @@ module _ (listed : List Listed) (back : LooksBack (all_placed listed)) (path : L
         none_of a p t =
             ap₂ (λ x y. (x || y) || false) (and_false a) (ap₂ (λ x y. x || y) (and_false p) (and_false t))
 
-    -- elsewhere
+    -- the change is elsewhere
     nowhere : (l : Listed) (rest : Option NodePath) (a p t m : Bool)
         → Next (cond (((a && false) || ((p && false) || (t && false))) || (m && false))
         (kind_left n l rest) (kind_look listed n (names_of path))) ((a && false) || (m && false)) (t && false)
@@ -268,7 +269,7 @@ module _ (listed : List Listed) (back : LooksBack (all_placed listed)) (path : L
       kind_next n
       ∙ step n (latest_place (shapes listed path) n) (text_since listed path n) (kinds_since n) (slice_get listed n) refl
 
--- whether a text is set since, by the two latest places
+-- whether a text is set since, by the latest places of both kinds
 since_is : (listed : List Listed) (path : List ℕ) (count : ℕ) → text_since listed path count
     ≡ is_since (latest_place (shapes listed path) count) (latest_place (has_effect_at Texts listed path) count)
 since_is listed path zero = refl

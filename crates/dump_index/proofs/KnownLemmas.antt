@@ -1,4 +1,5 @@
--- What stands at a path is what the latest change left there, and what a change leaves at its own path and at shorter ones.
+-- What exists at a path is what the latest change left there, and what a change leaves at its own path and at shorter
+-- ones.
 use Rattle.std.proofs.Common.{◌≡◌, ℕ, zero, suc, ◌<◌, ◌≤◌, Bool, true, false, not, ◌&&◌, ◌||◌, cond, List, [], ◌∷◌, ◌++◌, length, map, get_or, Option, Some, None, is_some, option_map, nat_eq, nat_lt, bytes_eq, append-nil, refl, sym, subst, ap, ap₂, ◌∙◌, ◌⊎◌, arith, inl, inr}
 use Rattle.std.specs.Prelude.{slice_get}
 use Rattle.std.proofs.lemmas.Bool.{cases_lt, and_parts}
@@ -30,9 +31,9 @@ use Rattle.dump_index.proofs.RestLemmas.{rest_same}
 use Rattle.dump_index.proofs.LatestLemmas.{touch_same, and_false}
 use Rattle.dump_index.proofs.KindLemmas.{set_kind, kind_left, kind_step, kind_next, kinds}
 
--- ---- behind the latest change
+-- ---- after the latest change
 
--- less places, where the test holds of none that is left out
+-- fewer places, if no omitted place passes the test
 latest_front : (test : ℕ → Bool) (count n : ℕ) → n ≤ count → ((k : ℕ) → n ≤ k → k < count → test k ≡ false)
     → latest_place test n ≡ latest_place test count
 latest_front test zero n low none = let same : n ≡ zero = omega arith in ap (latest_place test) same
@@ -44,7 +45,7 @@ latest_front test (suc count) n low none =
       | inr more ↦ let same : n ≡ suc count = omega arith in ap (latest_place test) same
     ]
 
--- behind the latest the test holds of none
+-- after the latest place no place passes the test
 none_behind : (test : ℕ → Bool) (count k : ℕ) → count_through (latest_place test count) ≤ k → k < count → test k ≡ false
 none_behind test zero k high low = absurd (omega arith)
 none_behind test (suc count) k high low = cases (none_behind test count k) (test count) refl high
@@ -78,7 +79,7 @@ later_low None two count low high = high
 later_low (Some place) None count low high = low
 later_low (Some place) (Some other) count low high = omega arith
 
--- what stands at the path is what stood there right behind the latest change that shapes it or sets a text
+-- what exists at the path existed there right after the latest change that shapes it or sets a text
 module _ (listed : List Listed) (path : List ℕ) (before : ℕ) where
   abbrev shaped : Option ℕ
   shaped = latest_place (shapes listed path) before
@@ -103,7 +104,7 @@ module _ (listed : List Listed) (path : List ℕ) (before : ℕ) where
       (latest_front (has_effect_at Texts listed path) before n low
       (λ k high less. none_behind (has_effect_at Texts listed path) before k (further set n (up_to_later shaped set).1 k high) less)))
 
--- so it is the kind that is known of that change
+-- so it is the kind that is known for that change
 pub looks_known : (listed : List Listed) → LooksBack (all_placed listed) → (path : List ℕ) (before : ℕ)
     (one other last : Option ℕ) (kind : Option NodeKind) → one ≡ latest_place (shapes listed path) before
     → other ≡ latest_place (has_effect_at Texts listed path) before → last ≡ later one other
@@ -112,9 +113,9 @@ looks_known listed back path before one other last kind is_one is_other is_last 
     looks_up_to listed path before back
     ∙ sym (is ∙ ap (λ (o : Option ℕ). kind_look listed (count_through o) (names_of path)) (is_last ∙ ap₂ later is_one is_other))
 
--- ---- behind a change
+-- ---- after a change
 
--- what stands at a copy's source
+-- what exists at a copy's source
 abbrev pub copied_kind : List Listed → Option Made → Option NodeKind
 copied_kind listed None = None
 copied_kind listed (Some Made.NewFolder) = None
@@ -213,7 +214,7 @@ module _ (listed : List Listed) (back : LooksBack (all_placed listed)) (n : ℕ)
       none a p t m =
           ap₂ (λ x y. x || y) (ap₂ (λ x y. x || y) (and_false a) (ap₂ (λ x y. x || y) (and_false p) (and_false t))) (and_false m)
 
--- ---- the same of the code's own values
+-- ---- the same for the values of the code
 
 module _ (changes : List NodeChange) (ordered : are_in_order 0 changes ≡ true) (listed : List Listed)
     (view : map listed_of changes ≡ listed) where
@@ -251,7 +252,7 @@ module _ (changes : List NodeChange) (ordered : are_in_order 0 changes ≡ true)
         (ap (λ (x : NodeChange). is_from_before x.revision x.made) at ∙ from_before_at 0 changes n c low ordered))
         ∙ sym (own_behind listed back_in n (listed_of c) stands_in)
 
--- ---- one kind after the other
+-- ---- one kind after another
 
 pub known_none : (listed : List Listed) → AreKindsBehind listed []
 known_none listed place kind l known there = absurd (let bad : None ≡ Some kind = known in cc)

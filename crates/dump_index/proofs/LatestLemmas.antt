@@ -26,7 +26,7 @@ sets_text Replaces = refl
 sets_text Edits = refl
 sets_text EditsNothing = refl
 
--- at the change's own path
+-- the change is at the path itself
 own_touch : (deletes : Bool) (made : Option Made) (p t over : Bool)
     → (((deletes || is_some made) || p) || t)
     ≡ ((((deletes || is_some made) && true) || ((p && true) || (t && true))) || ((deletes || is_copied made) && over))
@@ -46,7 +46,7 @@ pub and_true : (b : Bool) → (b && true) ≡ b
 and_true true = refl
 and_true false = refl
 
--- below it, and elsewhere
+-- the change is at a path above, or elsewhere
 other_touch : (a p t m over : Bool) → (((a && false) || ((p && false) || (t && false))) || (m && over)) ≡ (m && over)
 other_touch a p t m over =
     ap (λ x. (x || ((p && false) || (t && false))) || (m && over)) (and_false a)
@@ -79,7 +79,7 @@ touch_same path l = cases (bytes_eq l.path path) (stands_over path l.path) refl 
         ∙ sym (and_false (has_effect Moving l))
         ∙ sym (other_touch (has_effect Shaping l) (sets l.props) (sets l.text) (has_effect Moving l) false)
 
--- a test of the changes as one of their places
+-- a test of changes as a test of their places
 latest_by_place : (test : Change → Bool) (placed : List Placed) (count : ℕ)
     → latest test placed count ≡ latest_place (λ place. holds_there test (slice_get placed place)) count
 latest_by_place test placed zero = refl

@@ -1,4 +1,4 @@
--- What is found in an index stands in the repository.
+-- What an index finds exists in the repository.
 use Rattle.std.proofs.Common.{◌≡◌, ℕ, zero, suc, ◌+◌, ◌≤◌, Bool, true, false, ◌||◌, cond, List, [], ◌∷◌, map, Option, Some, None, is_some, option_map, nat_le, refl, sym, ap, ap₂, ◌∙◌, arith}
 use Rattle.std.specs.Prelude.{slice_get}
 use Rattle.std.specs.List.{AllZip}
@@ -46,7 +46,7 @@ end_same (l ∷ listed) (p ∷ placed) all number =
     ∙ ap₂ (λ r n. cond (nat_le r number) 1 0 + n) all.0.revision (end_same listed placed all.1 number)
     ∙ sym (sum_by-cons (λ (q : Placed). cond (nat_le q.revision number) 1 0) (placed_of l) (all_placed listed))
 
--- the change at a place, in both
+-- the change at a place in both lists
 pub data Both (listed : List Listed) (placed : List Placed) (n : ℕ) : Type 0 where
   Neither : slice_get listed n ≡ None → slice_get placed n ≡ None → Both listed placed n
   One : (l : Listed) (p : Placed) → slice_get listed n ≡ Some l → slice_get placed n ≡ Some p → IsListed l p
@@ -78,7 +78,7 @@ back_same listed placed all back place p at number source made = cases (both_at 
         let ends = end_same listed placed all number in
         omega arith
 
--- whether something is set
+-- whether the change sets something
 
 some_props : (s : Setting) (o : Option PropertyChange) → HasProps s o → is_some o ≡ is_some (plain_props s)
 some_props Keeps None has = refl
@@ -112,7 +112,7 @@ touch_listed l p is path =
         (some_text l.text p.change.text is.text)
     cases (Some (name ∷ rest)) = ap₂ (λ d m. d || is_copied m) is.deletes is.made
 
--- what is set keeps the kind
+-- setting properties doesn't change the kind
 
 kind_props_kept : (o : Option PropertyChange) (node : Option Node)
     → option_map node_kind (node_with_props o node) ≡ option_map node_kind node
@@ -121,7 +121,7 @@ kind_props_kept (Some change) None = refl
 kind_props_kept (Some change) (Some (Node.Folder props)) = refl
 kind_props_kept (Some change) (Some (Node.File props text)) = refl
 
--- where a text is set at all, it is set on a file, which stays one
+-- if a text is set, it is set on a file, which remains a file
 file_left : (change : TextChange) (props : List Property) (text : List ℕ) (node : Node)
     → option_map (λ new. Node.File props new) (new_text change text) ≡ Some node → node_kind node ≡ AFile
 file_left change props text node is = cases (new_text change text) is
@@ -154,7 +154,7 @@ kind_text_kept Edits None has one two node is same = absurd has
 kind_text_kept Edits (Some change) has one two node is same = file_stays change one two node is same
 kind_text_kept EditsNothing o has one two node is same = absurd has
 
--- nothing is set where nothing stands
+-- nothing is set if nothing exists
 pub none_set : (text : Option TextChange) (props : Option PropertyChange)
     → node_with_text text (node_with_props props None) ≡ None
 none_set None None = refl
@@ -174,7 +174,7 @@ set_kept l p is [] (Some other) two node further set =
     (kind_props_kept p.change.props (Some other) ∙ sym (further other refl) ∙ sym (kind_props_kept (plain_props l.props) two))
 set_kept l p is (name ∷ names) one two node further set = further node set
 
--- kinds
+-- the kinds
 
 module _ (listed : List Listed) (placed : List Placed) (all : AllZip IsListed listed placed) (back : LooksBack placed)
     (plain : LooksBack (all_placed listed)) where
@@ -183,7 +183,7 @@ module _ (listed : List Listed) (placed : List Placed) (all : AllZip IsListed li
       → look root_alone placed count path ≡ Some node → kind_look listed count path ≡ Some (node_kind node)
 
   module _ (n : ℕ) (further : FoundUpTo n) (path : NodePath) where
-    -- what comes from elsewhere
+    -- what has another origin
     origin_found : (l : Listed) (p : Placed) → slice_get placed n ≡ Some p → IsListed l p → (rest : NodePath) (node : Node)
         → looked_up (look root_alone placed) placed n path (origin_of p.change.deletes p.change.made rest) ≡ Some node
         → option_map node_kind (looked_up (look root_alone (all_placed listed)) (all_placed listed) n path

@@ -1,4 +1,4 @@
--- The names that can stand below a path are those of what is made there, and those at the source of a copy.
+-- The names that can exist below a path are the names of what is made there, and the names at the source of a copy.
 use Rattle.std.proofs.Common.{◌≡◌, ℕ, zero, suc, Bool, true, false, ◌&&◌, ◌||◌, cond, List, [], ◌∷◌, ◌++◌, get_or, map, Option, Some, None, option_map, bytes_eq, refl, sym, ap, ap₂, ◌∙◌}
 use Rattle.std.specs.Prelude.{slice_get}
 use Rattle.std.proofs.lemmas.List.Folds.{list_any-append}
@@ -58,7 +58,7 @@ touches_own path l isnt touched = cases (bytes_eq l.path path) refl
         ∙ and_no (has_effect Shaping l) (sets l.props) (sets l.text)) parts.1) ∙ touched in
         absurd (cc)
 
--- ---- what is left behind the latest change that shapes the path
+-- ---- what remains after the latest change that shapes the path
 
 module _ (listed : List Listed) (back : LooksBack (all_placed listed)) (path name : List ℕ) where
   abbrev looked : ℕ → Bool
@@ -98,7 +98,7 @@ module _ (listed : List Listed) (back : LooksBack (all_placed listed)) (path nam
       cases None = refl
       cases (Some l) = touch_same path l
 
-  -- a change that sets something alone leaves what stood there
+  -- a change that only sets something leaves what existed there
   set_leaves : (n : ℕ) (o : Option Listed) → slice_get listed n ≡ o → shaped_there path o ≡ false → touched_by o ≡ true
       → left (Some n) ≡ looked n
   set_leaves n None at isnt touch = let bad : false ≡ true = touch in absurd (cc)
@@ -160,7 +160,7 @@ module _ (listed : List Listed) (back : LooksBack (all_placed listed)) (path nam
               ∙ sym (ap₂ (λ a b. a || b) (made_more n)
               (ap (λ b. left (cond b (Some n) (latest_place (shapes listed path) n))) s_is))
 
--- ---- where the names come from
+-- ---- the origin of the names
 
 left_deleted : (deletes : Bool) → (deletes || false) ≡ true → left_by deletes ≡ LookOrigin.Nowhere
 left_deleted true is = refl
@@ -243,7 +243,7 @@ hop_names listed path one two three is_one is_two is_three before shaped name wh
     ∙ sym (or_assoc old (is_child_named (names_made (all_placed listed) before (names_of one)) name) (is_child_named next name))
     ∙ ap (λ b. b || is_child_named next name) (sym is_new)
 
--- where the names end
+-- the search for names ends
 pub none_next : (listed : List Listed) (o : Origin)
     → ((source : Rattle.dump_index.specs.declared.change.Source.Source) (rest : Rattle.std.specs.Borrow.Bor (List ℕ))
     → o ≡ Copied source rest → ⊥) → origin_names listed o ≡ []

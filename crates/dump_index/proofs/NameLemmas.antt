@@ -78,7 +78,7 @@ is_name_of [] some none = absurd (some refl)
 is_name_of (b ∷ name) some none =
     and_from (nat_lt 0 (length (b ∷ name))) (no_slash (b ∷ name)) (lt-ltb 0 (length (b ∷ name)) (omega arith)) none
 
--- a path right below another one is its text, a slash and the name
+-- a path right below another one is the other one's text, a slash and the name
 pub right_below : (dir path name : List ℕ) → ends_in_slash path ≡ false
     → below (names_of dir) (names_of path) ≡ Some (name ∷ []) → (path ≡ top_text dir ++ name) × (is_name name ≡ true)
 right_below dir path name bare is = cases (bytes_eq dir path) (stands_over path dir) refl refl
@@ -102,7 +102,7 @@ pub names_of_name : (name : List ℕ) → is_name name ≡ true → names_of nam
 names_of_name [] is = let bad : false ≡ true = is in absurd (cc)
 names_of_name (b ∷ name) is = one_name (b ∷ name) (and_parts (nat_lt 0 (length (b ∷ name))) (no_slash (b ∷ name)) is).1
 
--- and the other way round
+-- the same in the other direction
 pub names_right_below : (dir name : List ℕ) → is_name name ≡ true → names_of (top_text dir ++ name) ≡ names_of dir ++ name ∷ []
 names_right_below [] name is = names_of_name name is
 names_right_below (b ∷ dir) name is =
@@ -192,7 +192,7 @@ module _ (listed : List Listed)
       → slice_get (all_placed listed) place ≡ Some (placed_of l)
   there_is place l at = get-map placed_of listed place ∙ ap (option_map placed_of) at
 
-  -- a change that makes this name is among the keys
+  -- the keys have a change that makes this name exactly if the changes do
   pub keys_are : (count : ℕ) (keys : List PathKey) → HasKeys Shaping listed keys
       → (is_name name && list_any (makes_key listed count (top_text path ++ name)) keys) ≡ named_made count
   keys_are count keys all = both_ways _ _ up down
@@ -245,7 +245,7 @@ module _ (listed : List Listed)
               (and_from (nat_lt place count) (makes_at listed place) (lt-ltb place count low)
               (ap makes_there at ∙ its.2))))
 
-  -- what is made has names
+  -- what is made has a name
   pub made_name : (count : ℕ) → named_made count ≡ true → is_name name ≡ true
   made_name count named =
       let some = made_some count named in

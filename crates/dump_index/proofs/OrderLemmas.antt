@@ -1,4 +1,4 @@
--- Changes in the order of their revisions: copies look back, and the revisions' ends are found by a binary search.
+-- Changes in the order of their revisions: copies look back, and a binary search finds the ends of the revisions.
 use Rattle.std.proofs.Common.{◌≡◌, ℕ, zero, suc, ◌+◌, ◌<◌, ◌≤◌, true, false, not, ◌&&◌, cond, List, [], ◌∷◌, length, map, take, get_or, Option, Some, None, option_map, nat_lt, nat_le, refl, sym, ap, ap₂, ◌∙◌, arith}
 use Rattle.std.specs.Prelude.{slice_get}
 use Rattle.std.proofs.lemmas.Bool.{and_parts, and_from, le-leb, leb-true, not-true}
@@ -83,7 +83,7 @@ from_before_at least (c ∷ changes) zero d low is = (ordered_parts least c chan
 from_before_at least (c ∷ changes) (suc place) d low is =
     from_before_at c.revision changes place d (omega arith) (ordered_parts least c changes is).2
 
--- revisions rise
+-- the revisions rise
 at_least : (least : ℕ) (changes : List NodeChange) (place : ℕ) (d : NodeChange) → place < length changes
     → are_in_order least changes ≡ true → least ≤ (get_or changes place d).revision
 at_least least [] place d low is = absurd (omega arith)
@@ -111,7 +111,7 @@ changes_parted changes number is i j d up low within =
     let high = leb-true (get_or changes j d).revision number within in
     le-leb (get_or changes i d).revision number (omega arith)
 
--- how many stand up to a number
+-- how many changes are in revisions up to a number
 abbrev IsEnd : List NodeChange → ℕ → ℕ → Type 0
 IsEnd changes number end =
     ((k : ℕ) (d : NodeChange) → k < end → nat_le (get_or changes k d).revision number ≡ true)

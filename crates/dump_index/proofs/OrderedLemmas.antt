@@ -5,7 +5,8 @@ use Rattle.dump_index.specs.InOrder.{are_in_order, comes_in_order}
 use Rattle.dump_index.specs.steps.OutOfOrder.{IsFirstOutOfOrder}
 use Rattle.dump_index.specs.declared.change.NodeChange.{NodeChange}
 
--- those before what is left are in order, and what follows is so with them exactly if it is so from this revision on
+-- the changes before the remaining ones are in order; so all changes are in order exactly if the remaining ones are,
+-- from this revision on
 pub record OrderedSoFar (changes : List NodeChange) (least : ℕ) (left : List NodeChange) : Type 0 where
   pub before : List NodeChange
   pub whole : changes ≡ before ++ left

@@ -1,4 +1,4 @@
--- What comes from behind a change that decides what stands at a path.
+-- The origin of what exists at a path after a change that decides it.
 use Rattle.std.proofs.Common.{◌≡◌, ℕ, ◌<◌, ◌≤◌, Bool, true, false, not, ◌&&◌, ◌||◌, List, [], ◌∷◌, ◌++◌, length, map, get_or, Bor, Option, Some, None, is_some, option_map, bytes_eq, nat_lt, refl, sym, ap, ap₂, ◌∙◌, ◌≢◌, arith, inl, inr}
 use Rattle.std.specs.Prelude.{slice_get}
 use Rattle.std.proofs.lemmas.Bool.{cases_lt, and_parts, not-true}
@@ -28,12 +28,12 @@ use Rattle.dump_index.proofs.RestLemmas.{split, split_some, rest_same, rest_over
 use Rattle.dump_index.proofs.SlashLemmas.{ends_rest, ends_joined, rest_some, rest_none_same}
 use Rattle.dump_index.proofs.OrderLemmas.{all_look_back, from_before_at}
 
--- whether a change that deletes or not, and makes this, decides what stands at the rest of a path
+-- whether a change that makes this, and deletes or doesn't, decides what exists at the rest of a path
 abbrev pub decides : Bool → Option NodeMade → List ℕ → Bool
 decides deletes made [] = deletes || is_some (option_map listed_made made)
 decides deletes made (b ∷ rest) = deletes || is_copied (option_map listed_made made)
 
--- the same by its names, and by what the code found of it
+-- the same by its names, and by what the code found for it
 abbrev pub IsMade : Option NodeMade → List ℕ → Origin → Type 0
 IsMade made rest Nowhere = makes_none made rest ≡ true
 IsMade made rest (New kind) = (rest ≡ []) × (made ≡ Some (made_as kind))
@@ -95,7 +95,7 @@ module _ (listed : List Listed) (place : ℕ) (path : NodePath) where
       (names_of source.path.now ++ names_of r)) its.1
       ∙ sym (ap (λ m. found deletes m (names_of rest)) its.0)
 
--- the change at a place that decides what stands at the path
+-- the change at a place that decides what exists at the path
 
 pub in_range : (changes : List NodeChange) (path : List ℕ) (place : ℕ)
     → shapes (map listed_of changes) path place ≡ true → place < length changes

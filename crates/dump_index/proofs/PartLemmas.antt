@@ -1,4 +1,4 @@
--- The changes of a trail make the part of the node that stands there.
+-- The changes of a trail make the part of the node that exists at the path.
 use Rattle.std.proofs.Common.{◌≡◌, ℕ, zero, suc, ◌+◌, ◌<◌, ◌≤◌, Bool, true, false, ◌&&◌, ◌||◌, cond, List, [], ◌∷◌, ◌++◌, length, map, Option, Some, None, is_some, option_map, option_and_then, bytes_eq, append-nil, refl, sym, ap, ap₂, subst, ◌∙◌, arith, inl, inr}
 use Rattle.std.specs.Prelude.{slice_get}
 use Rattle.std.specs.List.{AllZip}
@@ -27,7 +27,7 @@ use Rattle.dump_index.proofs.LawLemmas.{look_one_more, end_same, Both, Neither, 
 
 -- ---- tests
 
--- a change that touches the path, where it neither shapes it nor sets the part, sets another part at its own path
+-- a change that touches the path, but neither shapes it nor sets the part, sets another part at its own path
 pub record SetsOther (part : Part) (path : List ℕ) (l : Listed) : Type 0 where
   pub same : bytes_eq l.path path ≡ true
   pub deletes : l.deletes ≡ false
@@ -82,7 +82,7 @@ sets_other part path l isnt keeps touched = cases (bytes_eq l.path path) refl
         = sym (ap₂ (λ a b. a || b) (ap (λ s. (has_effect Shaping l && s) || ((sets l.props && s) || (sets l.text && s))) same
         ∙ and_no (has_effect Shaping l) (sets l.props) (sets l.text)) parts.1) ∙ touched in cc)
 
--- one that shapes the path or sets the part touches it
+-- a change that shapes the path or sets the part touches the path
 pub touches_if : (part : Part) (path : List ℕ) (l : Listed)
     → (shaped_there path (Some l) || sets_there part path (Some l)) ≡ true → touches_there path l ≡ true
 touches_if part path l is =
@@ -218,7 +218,7 @@ module _ (V : Type 0) (part : Part) (val : Node → V) (none : V) (by : Change �
         cases true b_is = after_more place p trail two ∙ ap (option_and_then (by p.change)) before
         cases false b_is = before ∙ sym (keeps l p is b_is v)
 
-    -- a change that copies nothing, and decides what stands at the path, leaves a new node, or nothing
+    -- if a change that is no copy decides what exists at the path, it leaves a new node or nothing
     fresh : (n : ℕ) (path rest : NodePath) (deletes : Bool) (made : Option Made) (node : Node) → is_copied made ≡ false
         → (deletes || is_some made) ≡ true
         → looked_up (look root_alone placed) placed n path (origin_of deletes made []) ≡ Some node → val node ≡ none

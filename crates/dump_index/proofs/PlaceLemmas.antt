@@ -1,4 +1,4 @@
--- The latest of so many places of which a test holds.
+-- The latest of this number of places that passes a test.
 use Rattle.std.proofs.Common.{◌≡◌, ℕ, zero, suc, ◌<◌, Bool, true, false, ◌||◌, cond, max, Option, Some, None, refl, sym, ap, ◌∙◌, arith, inl, inr, eq-eqb}
 use Rattle.std.proofs.lemmas.Bool.{cases_lt, eqb-true}
 use Rattle.std.specs.Cmp.{both_ways}
@@ -6,7 +6,7 @@ use Rattle.dump_index.specs.steps.Keys.{latest_place}
 use Rattle.dump_index.specs.steps.Touching.{later}
 use Rattle.dump_index.specs.steps.Looks.{is_place}
 
--- it is the one behind which the test holds of none
+-- it is the place after which no place passes the test
 pub latest_is : (test : ℕ → Bool) (count place : ℕ) → place < count → test place ≡ true
     → ((k : ℕ) → place < k → k < count → test k ≡ false) → latest_place test count ≡ Some place
 latest_is test zero place low holds none = absurd (omega arith)
@@ -28,7 +28,7 @@ latest_is test (suc count) place low holds none =
               absurd (let bad : true ≡ false = sym holds ∙ ap test same ∙ is in cc)
         ]
 
--- there is none where the test holds of none
+-- there is none if no place passes the test
 pub latest_none : (test : ℕ → Bool) (count : ℕ) → ((k : ℕ) → k < count → test k ≡ false)
     → latest_place test count ≡ None
 latest_none test zero none = refl
@@ -53,7 +53,7 @@ latest_low test (suc count) place is = cases (latest_low test count place) (test
     cases further true here = let same : count ≡ place = (let both : Some count ≡ Some place = here in cc) in omega arith
     cases further false there = let low = further there in omega arith
 
--- the later one of two tests' is that of both
+-- for one test or the other, the latest place is the later of the two tests' latest places
 pub latest_or : (one two : ℕ → Bool) (count : ℕ)
     → later (latest_place one count) (latest_place two count) ≡ latest_place (λ place. one place || two place) count
 latest_or one two zero = refl
@@ -90,7 +90,7 @@ latest_holds test (suc count) place is = cases (latest_holds test count place) (
         let same : count ≡ place = (let both : Some count ≡ Some place = here in cc) in sym (ap test same) ∙ holds
     cases further false holds there = further there
 
--- the latest of two tests' is that of the one that holds there
+-- the latest place for both tests is the latest for the test that it passes
 pub latest_first : (one two : ℕ → Bool) (count place : ℕ) → latest_place (λ n. one n || two n) count ≡ Some place
     → one place ≡ true → latest_place one count ≡ Some place
 latest_first one two zero place is holds = absurd (let bad : None ≡ Some place = is in cc)
@@ -118,7 +118,7 @@ latest_second one two count place is holds =
     or_comm false true = refl
     or_comm false false = refl
 
--- whether the latest is at a place where both may be
+-- whether the latest place is this one, if both tests may pass there
 pub place_is : (test : ℕ → Bool) (count place : ℕ) → (test place ≡ true → latest_place test count ≡ Some place)
     → is_place (latest_place test count) place ≡ test place
 place_is test count place top = both_ways _ _ up down

@@ -1,4 +1,4 @@
--- Where a history loads, it loads without what its changes set, and its trees have nodes of the same kinds.
+-- If a history loads, it loads without what its changes set too, and its trees have nodes of the same kinds.
 use Rattle.std.proofs.Common.{◌≡◌, ℕ, zero, suc, ◌+◌, ◌<◌, ◌≤◌, Bool, true, false, ◌&&◌, ◌||◌, cond, List, [], ◌∷◌, ◌++◌, length, map, Option, Some, None, is_some, option_map, option_and_then, bytes_eq, refl, sym, ap, ap₂, subst, ◌∙◌, arith}
 use Rattle.std.specs.Prelude.{slice_get, is_none}
 use Rattle.std.specs.List.{AllZip}
@@ -123,7 +123,7 @@ at_path (name ∷ top) (other ∷ path) is = cases (at_path top path) (bytes_eq 
         ap₂ (λ n (p : NodePath). n ∷ p) (sym ((bytes_eq-Decides name other).0 same)) (further is)
     cases further false same is = absurd (let bad : None ≡ Some [] = is in cc)
 
--- a node of the same kind in place of another one
+-- a node that is replaced by another one of the same kind
 put_kept : (top : NodePath) (tree : Tree) (node : Node) → Some (node_kind node) ≡ kind_at tree top → AreSame (put top node tree) tree
 put_kept top tree node kind path = cases (below top path) refl
   where
@@ -196,7 +196,7 @@ kind_with : (change : PropertyChange) (node : Node) → node_kind (with_props ch
 kind_with change (Node.Folder props) = refl
 kind_with change (Node.File props text) = refl
 
--- properties that are put on one tree, and on another one or not
+-- properties that are set in one tree, and in another one or not
 props_one : (change : PropertyChange) (top : NodePath) (one after : Tree) → props_put change top one ≡ Some after
     → AreSame after one × (is_some (one top) ≡ true)
 props_one change top one after is = cases (one top) refl is
@@ -281,7 +281,7 @@ text_same (Some change) top one two after same is =
     let second = text_two top two (sym (same top) ∙ first.1) in
     (second.0, second.1, λ path. first.0 path ∙ same path ∙ sym (second.2 path))
 
--- one after the other
+-- one step after the other
 then_same : (f g : Tree → Option Tree) → ((one two after : Tree) → AreSame one two → f one ≡ Some after → SameAfter (g two) after)
     → (o p : Option Tree) → ((tree : Tree) → o ≡ Some tree → SameAfter p tree)
     → (after : Tree) → option_and_then f o ≡ Some after → SameAfter (option_and_then g p) after
@@ -354,7 +354,7 @@ loaded_same (changes ∷ revisions) trees others one two result all same is =
           left.2,
         )
 
--- ---- what an index says of them
+-- ---- what an index says about them
 
 props_plain : (s : Setting) (o : Option PropertyChange) → HasProps s o → plain_props s ≡ plain_props_of o
 props_plain Keeps None has = refl
@@ -424,7 +424,7 @@ kinds_of_trees changes revisions trees number tree path ordered all loads at =
     ∙ ap (option_map node_kind) (look_finds_each root_alone (map (map plain) revisions) plainly.0 number other.0 path plainly.1 other.1)
     ∙ sym (other.2 path)
 
--- a name that stands in a tree is one that can stand there
+-- a name that exists in a tree is a name that can exist there
 pub names_of_trees : (changes : List NodeChange) (revisions : List (List Change)) (trees : List Tree) (number : ℕ) (tree : Tree)
     (path : NodePath) (name : List ℕ) → are_in_order 0 changes ≡ true → AreListed changes (placed_from 1 revisions)
     → loaded_over root_alone revisions ≡ Some trees → slice_get trees number ≡ Some tree

@@ -1,4 +1,4 @@
--- The rest of a path behind a top, told from their texts.
+-- The rest of a path after a top, as determined by their texts.
 use Rattle.std.proofs.Common.{◌≡◌, ℕ, suc, Bool, true, false, ◌&&◌, cond, List, [], ◌∷◌, length, drop, Option, Some, None, nat_eq, bytes_eq, refl, sym, ap, ap₂, ◌∙◌}
 use Rattle.std.proofs.lemmas.Bool.{and_parts, eqb-true, false_from_ne_true}
 use Rattle.std.proofs.Common.{eq-eqb}
@@ -10,7 +10,7 @@ use Rattle.dump_index.specs.steps.Touching.{goes_on, stands_over, rest_text}
 abbrev pub split : List ℕ → NodePath
 split text = slice_split (λ c. nat_eq c 47) text
 
--- it has a name
+-- such a text has a name
 pub split_some : (text : List ℕ) → (name : List ℕ) × (names : NodePath) × (split text ≡ name ∷ names)
 split_some [] = ([], [], refl)
 split_some (b ∷ text) = cases (nat_eq b 47)
@@ -24,7 +24,7 @@ split_some (b ∷ text) = cases (nat_eq b 47)
     cases true = ([], split text, refl)
     cases false = onto (split text)
 
--- the rest behind a top, byte by byte
+-- the rest after a top, byte by byte
 abbrev walk : List ℕ → List ℕ → Option NodePath
 walk [] [] = Some []
 walk [] (c ∷ path) = cond (nat_eq c 47) (Some (split path)) None

@@ -1,4 +1,4 @@
--- Changes that an index says the same of make the same names.
+-- If an index says the same of two lists of changes, they make the same names.
 use Rattle.std.proofs.Common.{◌≡◌, ℕ, zero, suc, ◌≤◌, cond, List, ◌++◌, length, map, Option, Some, None, option_map, nat_le, refl, sym, ap, ap₂, ◌∙◌, arith}
 use Rattle.std.specs.Prelude.{slice_get}
 use Rattle.std.proofs.lemmas.List.{length-map}
@@ -88,7 +88,7 @@ module _ (listed : List Listed) (placed : List Placed) (all : AllZip IsListed li
   pub names_same : (count : ℕ) (path : NodePath) → names_look placed count path ≡ names_look (all_placed listed) count path
   names_same count path = within_same count count path
 
--- how many there are up to a number
+-- how many changes are in revisions up to a number
 end_low : (listed : List Listed) (number : ℕ) → end_of (all_placed listed) number ≤ length listed
 end_low listed number =
     omega (arith, count_by-le-length (λ (p : Placed). nat_le p.revision number) (all_placed listed), length-map listed placed_of)

@@ -7,7 +7,7 @@ use Rattle.dump_index.specs.InOrder.{ends_in_slash}
 use Rattle.dump_index.specs.steps.Touching.{goes_on, stands_over, rest_text, joined_text}
 use Rattle.dump_index.proofs.RestLemmas.{split, split_some}
 
--- whether the last byte is a slash; where there is none, this
+-- whether the last byte is a slash; if there is none, this
 abbrev pub ends_from : Bool → List ℕ → Bool
 ends_from last [] = last
 ends_from last (b ∷ text) = ends_from (nat_eq b 47) text
@@ -43,7 +43,7 @@ ends_joined top [] one two = one
 ends_joined [] (b ∷ rest) one two = two
 ends_joined (b ∷ top) (c ∷ rest) one two = ends_behind b 47 top (c ∷ rest) ∙ two
 
--- behind a top and a slash there is more
+-- more text follows a top and a slash
 goes_on_some : (top path : List ℕ) → goes_on top path ≡ true → ends_in_slash path ≡ false
     → drop (suc (length top)) path ≢ []
 goes_on_some [] [] over is none = let bad : false ≡ true = over in absurd (cc)

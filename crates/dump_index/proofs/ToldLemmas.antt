@@ -1,4 +1,4 @@
--- An index tells what exists.
+-- An index says what exists.
 use Rattle.std.proofs.Common.{◌≡◌, true, not, List, [], ◌∷◌, map, Option, Some, None, is_some, option_map, refl, sym, ◌∙◌}
 use Rattle.std.specs.List.{AllZip}
 use Rattle.dump_trees.specs.Trees.{Node, root_alone}

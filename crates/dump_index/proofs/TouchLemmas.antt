@@ -17,7 +17,7 @@ and_or : (a b c : Bool) → ((a && b) || (a && c)) ≡ (a && (b || c))
 and_or true b c = refl
 and_or false b c = refl
 
--- at one path more
+-- one more path
 moves_or : (test : List ℕ → Bool) (path : List ℕ) (o : Option Listed)
     → (moves_there test o || has_effect_there Moving path o) ≡ moves_there (λ top. test top || bytes_eq top path) o
 moves_or test path None = refl

@@ -1,4 +1,4 @@
--- One step of a trail, told from the change that comes last.
+-- One step of a trail, from the change that comes last.
 use Rattle.std.proofs.Common.{◌≡◌, ℕ, ◌<◌, ◌≤◌, Bool, true, false, ◌||◌, List, ◌++◌, length, map, get_or, Bor, Option, Some, None, option_map, refl, sym, ap, subst, ◌∙◌, arith, inl, inr}
 use Rattle.std.specs.Prelude.{slice_get, option_to_list}
 use Rattle.std.proofs.lemmas.Bool.{cases_lt}
@@ -30,7 +30,7 @@ use Rattle.dump_index.proofs.PlaceLemmas.{latest_low, latest_same}
 use Rattle.dump_index.proofs.SlashLemmas.{names_joined}
 use Rattle.dump_index.proofs.OriginLemmas.{rest_is, origin_back}
 
--- what sets a part is found in its order
+-- a change that sets a part is found in the order for that part
 
 sets_props : (path : List ℕ) (o : Option Listed) → has_effect_there PropsEffect path o ≡ sets_there Props path o
 sets_props path None = refl

@@ -17,14 +17,14 @@ use Rattle.dump_index.proofs.BelowLemmas.{first_part, up_to_before, up_to_own, f
 
 -- ---- keys and their places
 
--- an element that is there
+-- an element at an index
 pub get_inside : {X : Type 0} (xs : List X) (n : ℕ) (x : X) → slice_get xs n ≡ Some x → (n < length xs) × ((d : X) → get_or xs n d ≡ x)
 get_inside [] n x at = absurd (let bad : None ≡ Some x = at in cc)
 get_inside (y ∷ xs) zero x at = (omega arith, λ d. let both : Some y ≡ Some x = at in cc)
 get_inside (y ∷ xs) (suc n) x at =
     let behind = get_inside xs n x at in (omega (arith, behind.0), behind.1)
 
--- the place whose key this is
+-- the place that has this key
 key_at : (listed : List Listed) (keys : List ℕ) (n : ℕ) (key : PathKey) → slice_get (keys_in listed keys) n ≡ Some key
     → (k : ℕ) × (n < length keys) × ((d : ℕ) → key_in listed (get_or keys n d) ≡ key)
 key_at listed keys n key at = cases (slice_get keys n) refl (sym (get-map (key_in listed) keys n) ∙ at)
@@ -37,7 +37,7 @@ key_at listed keys n key at = cases (slice_get keys n) refl (sym (get-map (key_i
         let same : key_in listed k ≡ key = (let both : Some (key_in listed k) ≡ Some key = there in cc) in
         (k, inside.0, λ d. ap (key_in listed) (inside.1 d) ∙ same)
 
--- no path comes before one at a place before its own
+-- no path comes before the path of an earlier place
 abbrev pub RisePaths : List PathKey → Type 0
 RisePaths keys = (i j : ℕ) (a b : PathKey) → i ≤ j → slice_get keys i ≡ Some a → slice_get keys j ≡ Some b
     → is_lt (slice_cmp nat_cmp b.0 a.0) ≡ false
@@ -52,7 +52,7 @@ paths_rise listed keys up i j a b low one two =
     ∙ ap (is_key_before (key_in listed (get_or keys j d))) (sym (first.2 d))
     ∙ sorted_far (λ x y. is_key_before (key_in listed x) (key_in listed y)) (ranks_by keys_total (key_in listed)) keys up i j d low second.1)
 
--- ---- where a search begins
+-- ---- the index at which a search begins
 
 module _ (listed : List Listed) (keys : List ℕ) (top : List ℕ) (point : ℕ) (parted : IsPointOf listed keys (top, 0) point) where
   pub front_none : NoneBelow (keys_in listed keys) top 0 point
@@ -70,7 +70,7 @@ module _ (listed : List Listed) (keys : List ℕ) (top : List ℕ) (point : ℕ)
       first_part (slice_cmp nat_cmp key.0 top) (nat_cmp key.1 0)
       (ap (λ (k : PathKey). is_key_before k (top, 0)) (sym (its.2 d)) ∙ parted.1 n d high its.1)
 
--- ---- what begins with a front
+-- ---- paths that begin with a front
 
 abbrev pub is_key_up_to : List Listed → List ℕ → ℕ → Bool
 is_key_up_to listed front key = ends_up_to front (path_there (slice_get listed key))
@@ -103,7 +103,7 @@ is_behind listed keys front point low parted = record {
 
 module _ (keys : List PathKey) (rise : RisePaths keys) (top : List ℕ) (from at : ℕ) (key : PathKey)
     (there : slice_get keys at ≡ Some key) (none : NoneBelow keys top from at) where
-  -- it doesn't begin with the top
+  -- the path doesn't begin with the top
   pub all_outside : AreFrom keys top from → from ≤ at → StandsSo top key.0 Outside → NoneBelow keys top from (length keys)
   all_outside high low out n k name first less is_there is =
       elim (cases_lt n at) [
@@ -115,7 +115,7 @@ module _ (keys : List PathKey) (rise : RisePaths keys) (top : List ℕ) (from at
             (ap (λ (t : List ℕ). is_lt (slice_cmp nat_cmp top (take (length top) t))) is ∙ up_to_own top name))))
       ]
 
-  -- it is one of those before the next place
+  -- the path is one of those before the next index
   one_more : ((name : List ℕ) → key.0 ≡ top ++ name → is_name name ≡ false) → NoneBelow keys top from (at + 1)
   one_more here n k name first less is_there is =
       elim (cases_lt n at) [

@@ -9,16 +9,16 @@ use Rattle.dump_trees.specs.Listing.{names_look}
 use Rattle.dump_index.specs.Listed.{Listed, all_placed}
 use Rattle.dump_index.specs.Kinds.{kind_look}
 
--- whether it is one of the names
+-- whether the name is one of the names
 abbrev pub is_child_named : List (List ℕ) → List ℕ → Bool
 is_child_named names name = list_any (λ other. bytes_eq other name) names
 
--- whether something of this name exists right below the path, after so many of the changes
+-- whether something with this name exists right below the path after this number of changes
 abbrev pub stands_in : List Listed → ℕ → NodePath → List ℕ → Bool
 stands_in listed count path name = is_some (kind_look listed count (path ++ name ∷ []))
 
--- each name once, in the order of their bytes: the names that can exist right below the path after so many of the
--- changes, and by which something does exist there
+-- the names that can exist right below the path after this number of changes, and by which something does exist there;
+-- without duplicates, in the order of their bytes
 pub record AreChildren (listed : List Listed) (count : ℕ) (path : NodePath) (names : List (List ℕ)) : Type 0 where
   pub ordered : IsStrictlySortedBy (slice_cmp nat_cmp) names
   pub all : (name : List ℕ) → is_child_named names name

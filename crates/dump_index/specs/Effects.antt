@@ -31,7 +31,7 @@ has_effect_there effect path (Some l) = has_effect effect l && bytes_eq l.path p
 abbrev pub has_effect_at : Effect → List Listed → List ℕ → ℕ → Bool
 has_effect_at effect listed path place = has_effect_there effect path (slice_get listed place)
 
--- the latest of so many places of which a test holds
+-- the latest of this number of places that passes the test
 abbrev pub latest_place : (ℕ → Bool) → ℕ → Option ℕ
 latest_place test zero = None
 latest_place test (suc count) = if test count then Some count else latest_place test count
@@ -47,7 +47,7 @@ goes_on (b ∷ top) (c ∷ path) = (b == c) && goes_on top path
 abbrev pub stands_over : List ℕ → List ℕ → Bool
 stands_over path top = bytes_eq top [] || goes_on top path
 
--- whether there is such a change, it deletes or copies, and the test holds of its path
+-- whether there is such a change, it deletes or copies, and its path passes the test
 abbrev pub moves_there : (List ℕ → Bool) → Option Listed → Bool
 moves_there test None = false
 moves_there test (Some l) = has_effect Moving l && test l.path

@@ -12,7 +12,7 @@ use Rattle.dump_index.specs.Kinds.{kind_look}
 use Rattle.dump_index.specs.Listed.{Listed, listed_of}
 use Rattle.dump_index.specs.declared.change.NodeChange.{NodeChange}
 
--- whether something exists at the path after so many of the changes, or after fewer of them
+-- whether something exists at the path after this number of changes, or after fewer of them
 abbrev pub exists_within : List Listed → ℕ → NodePath → Bool
 exists_within listed zero path = is_some (kind_look listed zero path)
 exists_within listed (suc count) path = is_some (kind_look listed (suc count) path) || exists_within listed count path
@@ -21,9 +21,9 @@ exists_within listed (suc count) path = is_some (kind_look listed (suc count) pa
 abbrev pub exists_ever : List Listed → NodePath → Bool
 exists_ever listed path = exists_within listed (length listed) path
 
--- if a dump loads, and something exists at the path after some of its changes, an index finds that something exists
--- there at some time. If the dump has a revision, the reverse holds too. Without revisions there are no changes, though
--- an index finds the root
+-- If a dump loads, and something exists at the path after some of its changes, an index finds that something exists
+-- there at some time. If the dump has a revision, the reverse is true too. A dump without revisions has no changes,
+-- but an index finds the root.
 abbrev pub ExistingIsFound : Type 0
 ExistingIsFound = (changes : List NodeChange) (revisions : List (List Change)) (trees : List Tree) (path : NodePath) →
     IsTrue (are_in_order 0 changes) → AreListed changes (placed_from 1 revisions)

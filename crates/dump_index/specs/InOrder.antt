@@ -1,5 +1,5 @@
--- Changes that can be indexed: in the order of their revisions, each at a path that doesn't end in a slash. Each copy is of an
--- earlier revision, and of a path that doesn't end in a slash.
+-- Changes that can be indexed. They are in the order of their revisions, and each is at a path that doesn't end in a
+-- slash. Each copy is of an earlier revision, and of a path that doesn't end in a slash.
 use Rattle.std.specs.Prelude.{ℕ, Bool, true, false, not, ◌&&◌, ◌==◌, List, [], ◌∷◌, Option, Some, None, nat_lt, nat_le}
 use Rattle.dump_index.specs.declared.change.NodeChange.{NodeChange}
 use Rattle.dump_index.specs.declared.change.NodeMade.{NodeMade}
@@ -11,20 +11,20 @@ ends_in_slash [] = false
 ends_in_slash (b ∷ []) = b == 47
 ends_in_slash (b ∷ c ∷ text) = ends_in_slash (c ∷ text)
 
--- whether a change makes no copy, or one of an earlier revision, and of a path that doesn't end in a slash
+-- whether a change is no copy, or a copy of an earlier revision and of a path that doesn't end in a slash
 abbrev pub is_from_before : ℕ → Option NodeMade → Bool
 is_from_before revision None = true
 is_from_before revision (Some Folder) = true
 is_from_before revision (Some File) = true
 is_from_before revision (Some (CopyOf source)) = nat_lt source.revision revision && not (ends_in_slash source.path.now)
 
--- whether the revision isn't below this one, the path doesn't end in a slash, and a copy is of an earlier revision, and of a
--- path that doesn't end in a slash
+-- whether the change's revision isn't below this one and its path doesn't end in a slash; and whether a copy is of an
+-- earlier revision and of a path that doesn't end in a slash
 abbrev pub comes_in_order : ℕ → NodeChange → Bool
 comes_in_order least c = (nat_le least c.revision && is_from_before c.revision c.made) && not (ends_in_slash c.path.now)
 
--- whether that is so of each change: of the first one with this revision, and of each other one with the revision of the change
--- before it
+-- whether each change comes in order: the first one after this revision, and each other one after the revision of the
+-- change before it
 abbrev pub are_in_order : ℕ → List NodeChange → Bool
 are_in_order least [] = true
 are_in_order least (c ∷ changes) = comes_in_order least c && are_in_order c.revision changes

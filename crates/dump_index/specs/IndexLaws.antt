@@ -1,4 +1,4 @@
--- What is found in an index, and what exists in the repository.
+-- What an index finds, and what exists in the repository.
 use Rattle.std.specs.Prelude.{◌≡◌, ℕ, List, [], ◌∷◌, ◌++◌, map, Option, Some, None, option_map, option_and_then, is_some, slice_get, IsTrue, ⊤}
 use Rattle.std.specs.List.{AllZip, Contains, list_all}
 use Rattle.dump_text.specs.PropertyList.{Property}
@@ -49,7 +49,7 @@ HasText Edits (Some (TextChange.Replaced text)) = ⊥
 HasText Edits (Some (TextChange.Patched patch)) = ⊤
 HasText EditsNothing change = ⊥
 
--- what an index says of a change is what this change of a repository does
+-- an index says of a change what this change of a repository does
 pub record IsListed (l : Listed) (p : Placed) : Type 0 where
   pub revision : p.revision ≡ l.revision
   pub path : p.change.path ≡ names_of l.path
@@ -58,7 +58,7 @@ pub record IsListed (l : Listed) (p : Placed) : Type 0 where
   pub props : HasProps l.props p.change.props
   pub text : HasText l.text p.change.text
 
--- an index of these changes says what these changes of a repository do, each in turn
+-- an index of these changes says, for each change in turn, what these changes of a repository do
 abbrev pub AreListed : List NodeChange → List Placed → Type 0
 AreListed changes placed = AllZip IsListed (map listed_of changes) placed
 
@@ -74,7 +74,7 @@ abbrev pub listed_text : Node → List ℕ
 listed_text (Node.Folder props) = []
 listed_text (Node.File props text) = text
 
--- what a change makes of properties and of a text; if it sets none, they are the same as before
+-- what a change makes of properties and of a text; a change that doesn't set them leaves them as they are
 abbrev pub props_by : Option PropertyChange → List Property → Option (List Property)
 props_by None old = Some old
 props_by (Some change) old = Some (new_props change old)
@@ -83,7 +83,7 @@ abbrev pub text_by : Option TextChange → List ℕ → Option (List ℕ)
 text_by None old = Some old
 text_by (Some change) old = new_text change old
 
--- what the changes at these places, the latest one first, make of no properties and of an empty text
+-- what the changes at these places, the latest one first, make of an empty property list and of an empty text
 abbrev pub props_there : Option Placed → List Property → Option (List Property)
 props_there None old = Some old
 props_there (Some p) old = props_by p.change.props old
@@ -100,7 +100,7 @@ abbrev pub text_after : List Placed → List ℕ → Option (List ℕ)
 text_after placed [] = Some []
 text_after placed (place ∷ trail) = option_and_then (text_there (slice_get placed place)) (text_after placed trail)
 
--- if a node exists at a path, its properties are those that the changes of a trail set, from the oldest on
+-- if a node exists at a path, the changes of a trail set its properties, from the oldest change on
 abbrev pub PropsAreFound : Type 0
 PropsAreFound = (changes : List NodeChange) (placed : List Placed) (count : ℕ) (path trail : List ℕ) (node : Node) →
     IsTrue (are_in_order 0 changes) → AreListed changes placed
@@ -108,7 +108,7 @@ PropsAreFound = (changes : List NodeChange) (placed : List Placed) (count : ℕ)
     → look root_alone placed count (names_of path) ≡ Some node
     → props_after placed trail ≡ Some (properties_of node)
 
--- and its text is the one that the changes of a trail set
+-- and they set its text
 abbrev pub TextsAreFound : Type 0
 TextsAreFound = (changes : List NodeChange) (placed : List Placed) (count : ℕ) (path trail : List ℕ) (node : Node) →
     IsTrue (are_in_order 0 changes) → AreListed changes placed
@@ -116,7 +116,7 @@ TextsAreFound = (changes : List NodeChange) (placed : List Placed) (count : ℕ)
     → look root_alone placed count (names_of path) ≡ Some node
     → text_after placed trail ≡ Some (listed_text node)
 
--- if a dump loads, an index finds what exists in the tree of each revision, and at which paths nothing does
+-- if a dump loads, an index finds what exists in the tree of each revision, and at which paths nothing exists
 abbrev pub KindsAreOfTrees : Type 0
 KindsAreOfTrees = (changes : List NodeChange) (revisions : List (List Change)) (trees : List Tree) (number : ℕ) (tree : Tree)
     (path : NodePath) →
@@ -124,7 +124,7 @@ KindsAreOfTrees = (changes : List NodeChange) (revisions : List (List Change)) (
     → loaded_over root_alone revisions ≡ Some trees → slice_get trees number ≡ Some tree
     → kind_look (map listed_of changes) (end_of (placed_from 1 revisions) number) path ≡ option_map node_kind (tree path)
 
--- and the names that it finds in a directory are those of what exists there
+-- and the names that it finds in a directory are the names of what exists there
 abbrev pub ChildrenAreOfTrees : Type 0
 ChildrenAreOfTrees = (changes : List NodeChange) (revisions : List (List Change)) (trees : List Tree) (number : ℕ)
     (tree : Tree) (path : NodePath) (names : List (List ℕ)) (name : List ℕ) →
@@ -133,7 +133,8 @@ ChildrenAreOfTrees = (changes : List NodeChange) (revisions : List (List Change)
     → AreChildren (map listed_of changes) (end_of (placed_from 1 revisions) number) path names
     → is_child_named names name ≡ is_some (tree (path ++ name ∷ []))
 
--- if a name can exist in a directory at the end of a revision, it is one of those that can exist there at some time
+-- if a name can exist in a directory at the end of a revision, it is one of the names that can exist there at some
+-- time
 abbrev pub NamesEverAreFound : Type 0
 NamesEverAreFound = (changes : List NodeChange) (revisions : List (List Change)) (number : ℕ) (path : NodePath)
     (names : List (List ℕ)) (name : List ℕ) →
@@ -141,7 +142,7 @@ NamesEverAreFound = (changes : List NodeChange) (revisions : List (List Change))
     → AreNamesEver (map listed_of changes) path names → CanStandBelow revisions number path name
     → IsTrue (is_child_named names name)
 
--- so siblings suffice if each sibling that has such a name is one of them, in the root and in the directories above
+-- so it suffices if the siblings include each sibling with such a name, in the root and in the directories above
 -- included paths
 abbrev pub NamesEverSuffice : Type 0
 NamesEverSuffice = (changes : List NodeChange) (included siblings : List NodePath) (revisions : List (List Change))

@@ -7,11 +7,11 @@ use Rattle.dump_index.specs.Listed.{Listed, all_placed}
 use Rattle.dump_index.specs.declared.change.NodeKind.{NodeKind}
 use Rattle.dump_index.specs.declared.change.NodeKind.TheVariants.{Folder, File}
 
--- what a node is
+-- the kind of a node
 abbrev pub node_kind : Node → NodeKind
 node_kind (Node.Folder props) = Folder
 node_kind (Node.File props text) = File
 
--- what is found at the path after so many of the changes in a new repository
+-- the kind that is found at the path after this number of changes in a new repository
 abbrev pub kind_look : List Listed → ℕ → NodePath → Option NodeKind
 kind_look listed count path = option_map node_kind (look root_alone (all_placed listed) count path)

@@ -19,7 +19,7 @@ pub record Listed : Type 0 where
   pub revision : ℕ
   pub record_number : ℕ
 
--- what is made
+-- what a change makes
 abbrev pub listed_made : NodeMade → Made
 listed_made Folder = Made.NewFolder
 listed_made File = Made.NewFile
@@ -37,21 +37,21 @@ listed_of c = record {
   record_number = c.record_number;
 }
 
--- whether and how properties are set; an index doesn't say which, so the list has none
+-- whether and how a change sets properties; an index doesn't know which properties, so the list is empty
 abbrev pub plain_props : Setting → Option PropertyChange
 plain_props Keeps = None
 plain_props Replaces = Some (PropertyChange.Replaced [])
 plain_props Edits = Some (PropertyChange.Edited [])
 plain_props EditsNothing = Some (PropertyChange.Edited [])
 
--- whether a text is set; an index doesn't say which, so it is the empty one
+-- whether a change sets a text; an index doesn't know which text, so it is the empty one
 abbrev pub plain_text : Setting → Option TextChange
 plain_text Keeps = None
 plain_text Replaces = Some (TextChange.Replaced [])
 plain_text Edits = Some (TextChange.Replaced [])
 plain_text EditsNothing = Some (TextChange.Replaced [])
 
--- the change of a repository that it represents
+-- the change of a repository that this change represents
 abbrev pub placed_of : Listed → Placed
 placed_of l = record {
   revision = l.revision;

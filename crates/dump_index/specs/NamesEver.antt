@@ -13,7 +13,7 @@ abbrev pub CanStandOnce : List Listed → NodePath → List ℕ → Type 0
 CanStandOnce listed path name =
     (count : ℕ) × (count ≤ length listed) × (is_child_named (names_look (all_placed listed) count path) name ≡ true)
 
--- each name once, in the order of their bytes: exactly those that can exist right below the path at some time
+-- exactly the names that can exist right below the path at some time, without duplicates, in the order of their bytes
 pub record AreNamesEver (listed : List Listed) (path : NodePath) (names : List (List ℕ)) : Type 0 where
   pub ordered : IsStrictlySortedBy (slice_cmp nat_cmp) names
   pub each : (name : List ℕ) → is_child_named names name ≡ true → CanStandOnce listed path name

@@ -15,7 +15,7 @@ abbrev pub setting_of : Part → Listed → Setting
 setting_of Props l = l.props
 setting_of Text l = l.text
 
--- whether all of the part is set
+-- whether a change sets the whole part
 abbrev pub is_replacing : Setting → Bool
 is_replacing Keeps = false
 is_replacing Replaces = true
@@ -31,18 +31,18 @@ sets_there part path (Some l) = sets (setting_of part l) && bytes_eq l.path path
 abbrev pub sets_at : Part → List Listed → List ℕ → ℕ → Bool
 sets_at part listed path place = sets_there part path (slice_get listed place)
 
--- the latest of so many changes that shapes the path or sets the part
+-- the latest of this number of changes that shapes the path or sets the part
 abbrev pub latest_for : Part → List Listed → List ℕ → ℕ → Option ℕ
 latest_for part listed path count = latest_place (λ place. shapes listed path place || sets_at part listed path place) count
 
--- the place, if something is set there
+-- the place, if the change there sets something
 abbrev pub own_place : Bool → ℕ → List ℕ
 own_place true place = place ∷ []
 own_place false place = []
 
--- these are the places of the changes that set the part of what exists at the path after so many changes, the latest
--- one first. They go back to one that sets the whole part or makes something new, if there is one; before a copy they
--- are those at its source
+-- These are the places of the changes that set the part of what exists at the path after this number of changes, the
+-- latest one first. They go back to a change that sets the whole part or makes a new node, if there is one. Before a
+-- copy they are the places for the copy's source.
 pub data IsTrail (part : Part) (listed : List Listed) : ℕ → List ℕ → List ℕ → Type 0 where
   -- no change sets the part or shapes the path
   Unset : (count : ℕ) (path : List ℕ) → latest_for part listed path count ≡ None → IsTrail part listed count path []
@@ -50,7 +50,7 @@ pub data IsTrail (part : Part) (listed : List Listed) : ℕ → List ℕ → Lis
   Whole : (count : ℕ) (path : List ℕ) (place : ℕ) (l : Listed) → latest_for part listed path count ≡ Some place
       → slice_get listed place ≡ Some l → sets_at part listed path place ≡ true → is_replacing (setting_of part l) ≡ true
       → IsTrail part listed count path (place ∷ [])
-  -- a change sets the part of what is at the path before it
+  -- a change edits the part of what is at the path before it
   Edited : (count : ℕ) (path : List ℕ) (place : ℕ) (trail : List ℕ) → latest_for part listed path count ≡ Some place
       → sets_at part listed path place ≡ true → shapes listed path place ≡ false
       → IsTrail part listed place path trail → IsTrail part listed count path (place ∷ trail)

@@ -10,12 +10,12 @@ use Rattle.dump_index.specs.declared.change.NodeChange.{NodeChange}
 use Rattle.dump_index.specs.declared.change.NodeKind.{NodeKind}
 use Rattle.dump_index.specs.declared.change.NodeKind.TheVariants.{Folder, File}
 
--- the same kind, as the laws name it
+-- the same kind, with the name that the laws use
 abbrev pub kind_meant : NodeKind → Kind
 kind_meant Folder = Kind.Directory
 kind_meant File = Kind.File
 
--- the kind that an index finds at a path, after so many of the changes
+-- the kind that an index finds at a path, after this number of changes
 abbrev pub kinds_told_by : List Listed → ToldKinds
 kinds_told_by listed count path = option_map kind_meant (kind_look listed count path)
 

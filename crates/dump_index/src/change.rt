@@ -1,6 +1,6 @@
 //! The changes that the nodes of a dump make, as data.
 
-/// What a node is copied from.
+/// The copy source of a node.
 #[derive(Clone, Copy, Debug, PartialEq, Eq)]
 pub struct Source<'a> {
     pub revision: u64,
@@ -15,7 +15,7 @@ pub enum NodeKind {
     File,
 }
 
-/// What a change makes at its path.
+/// What a change makes at its path: a new node, or a copy.
 #[derive(Clone, Copy, Debug, PartialEq, Eq)]
 pub enum NodeMade<'a> {
     Folder,
@@ -26,18 +26,18 @@ pub enum NodeMade<'a> {
 /// What a change does to the properties of a node, or to its text.
 #[derive(Clone, Copy, Debug, PartialEq, Eq)]
 pub enum Setting {
-    /// They stay as they are.
+    /// The change doesn't set them.
     Keeps,
-    /// Others replace them.
+    /// The change replaces them.
     Replaces,
-    /// They are edited, as by a delta.
+    /// The change edits them, as a delta does.
     Edits,
     /// A delta of properties has no entry, so it edits nothing. `svnadmin load` accepts it even if no node exists.
     EditsNothing,
 }
 
-/// A change that a node of a dump makes. It deletes what exists at its path, makes something there, and sets properties
-/// and a text, or only some of these, in this order.
+/// A change that a node of a dump makes. In this order, it deletes what exists at its path, makes something there, and
+/// sets properties and a text; or it does only some of these.
 #[derive(Clone, Copy, Debug, PartialEq, Eq)]
 pub struct NodeChange<'a> {
     /// Without a leading slash.
@@ -47,7 +47,7 @@ pub struct NodeChange<'a> {
     pub revision: u64,
     /// Which record of the dump the node is.
     pub record_number: u64,
-    // the smallest fields come last, so that they take the least memory
+    // The smallest fields come last so that a value takes the least memory.
     pub deletes: bool,
     pub props: Setting,
     pub text: Setting,

@@ -28,11 +28,11 @@ use dump_rules::Memory;
 use std::alloc::Global;
 use std::marker::Model;
 
-/// All changes of a dump, in orders in which those at a path are found.
+/// All changes of a dump, in orders in which the changes at a path can be found.
 ///
-/// An index answers a question about a path by binary searches for that path and for the paths above it. To make an index takes
-/// time to sort the changes. It takes 16 bytes more than they do, at most, for each of them. Places have 32 bits, so of more
-/// than 2^32 changes no index can be made.
+/// An index answers a question about a path by binary searches for that path and for the paths above it. Making an
+/// index takes the time to sort the changes. Besides the changes, it takes at most 16 bytes for each of them. An index
+/// stores places in 32 bits, so it can't be made of more than 2^32 changes.
 #[derive(Drop)]
 pub struct ChangeIndex<'a> {
     changes: Vec<NodeChange<'a>>,
@@ -42,7 +42,7 @@ pub struct ChangeIndex<'a> {
     texts: PathOrder,
 }
 
-// a change, and its place in each of the orders
+// A change and its place in each of the orders take at most 96 bytes.
 const _: () = prove!(size_of::<NodeChange<'static>>() + 4 * size_of::<u32>() <= 96);
 
 impl<'a> Model for ChangeIndex<'a> {
@@ -58,8 +58,9 @@ impl<'a> Model for ChangeIndex<'a> {
     ghost invariant = { λ index. IsChangeIndex index.changes.items index.shaping index.moving index.props index.texts };
 }
 
-/// The place of the first of the changes that isn't in order. Its revision is below that of the one before, or its path ends in
-/// a slash; or it is a copy, and that is of no earlier revision, or of a path that ends in a slash.
+/// The place of the first change that isn't in order. Its revision is below that of the change before it, or its path
+/// ends in a slash, or it is a wrong copy. A copy is wrong if its source isn't of an earlier revision, or if the
+/// source path ends in a slash.
 pub fn first_out_of_order(changes: &[NodeChange<'_>]) -> Option<usize>
     ensures { IsFirstOutOfOrder changes.now result }
 {
@@ -75,14 +76,14 @@ pub fn first_out_of_order(changes: &[NodeChange<'_>]) -> Option<usize>
     None
 }
 
-/// Whether the change is in order after one of this revision.
+/// Whether the change is in order if it follows a change of the revision `least`.
 fn comes_in_order(least: u64, change: &NodeChange<'_>) -> bool
     ensures { result ≡ comes_in_order least change.now }
 {
     change.revision >= least && is_from_before(change) && !ends_in_slash(change.path)
 }
 
-/// Whether the change makes no copy, or one of an earlier revision, and of a path that doesn't end in a slash.
+/// Whether the change is no copy, or a copy of an earlier revision and of a path that doesn't end in a slash.
 fn is_from_before(change: &NodeChange<'_>) -> bool
     ensures { result ≡ is_from_before change.now.revision change.now.made }
 {
@@ -95,13 +96,13 @@ fn is_from_before(change: &NodeChange<'_>) -> bool
 }
 
 impl<'a> ChangeIndex<'a> {
-    /// An index of these changes, which come in the order of the dump.
+    /// Makes an index of these changes, which are in the order of the dump.
     pub fn new(alloc: Global, changes: Vec<NodeChange<'a>>) -> Result<ChangeIndex<'a>, Memory>
         requires { IsTrue (are_in_order 0 changes.items) }
         ensures { IfOk result (λ index. index ≡ map listed_of changes.entry.items) }
     {
         let listed = changes.as_slice();
-        // one sort for all
+        // All orders are made from one sort.
         let mut shaping = PathOrder::new(alloc, listed)?;
         let moving = shaping.with_effect(alloc, listed, Effect::Moving)?;
         let props = shaping.with_effect(alloc, listed, Effect::Props)?;
@@ -116,8 +117,8 @@ impl<'a> ChangeIndex<'a> {
         })
     }
 
-    /// The place of the latest of the first `count` changes that touches the path: it does something there, or deletes or
-    /// copies at a path above.
+    /// The place of the latest of the first `count` changes that touches the path. A change touches a path if it does
+    /// something there, or if it deletes or copies at a path above.
     pub fn latest_touching(&self, path: &[u8], count: usize) -> Option<usize>
         ensures { result ≡ latest (touches_path (names_of path.now)) (all_placed self.now) count }
     {
@@ -136,8 +137,8 @@ impl<'a> ChangeIndex<'a> {
         self.shaping.latest_at(&self.changes, path, count)
     }
 
-    /// The place of the latest of the first `count` changes that decides what exists at the path: it deletes or makes something
-    /// there, or deletes or copies at a path above.
+    /// The place of the latest of the first `count` changes that decides what exists at the path. Such a change
+    /// deletes or makes something there, or deletes or copies at a path above.
     fn latest_shaping(&self, path: &[u8], count: usize) -> Option<usize>
         ensures place { result ≡ latest_place (shapes self.now path.now) count }
         ensures looks { kind_look self.now count (names_of path.now)
@@ -179,7 +180,7 @@ impl<'a> ChangeIndex<'a> {
         self.changes.is_empty()
     }
 
-    /// How many of the changes are in revisions up to this number.
+    /// The number of changes in revisions up to this number.
     pub fn end_of(&self, revision: u64) -> usize
         ensures { result ≡ end_of (all_placed self.now) revision }
     {
@@ -187,7 +188,7 @@ impl<'a> ChangeIndex<'a> {
             .partition_point(|change| change.revision <= revision)
     }
 
-    /// An index of the changes of the revisions up to this number.
+    /// Makes an index of the changes of the revisions up to this number.
     pub fn up_to(&self, alloc: Global, revision: u64) -> Result<ChangeIndex<'a>, Memory>
         ensures { IfOk result (λ index. index ≡ take (end_of (all_placed self.now) revision) self.now) }
     {
@@ -196,7 +197,8 @@ impl<'a> ChangeIndex<'a> {
         ChangeIndex::new(alloc, changes)
     }
 
-    /// The origin of what exists at the path after the latest change that shapes the path, if there is one.
+    /// The origin of what exists at the path after the latest change that shapes the path. `shaped` is that change's
+    /// place; without one, the result is the origin in the first tree.
     fn origin<'p>(&self, path: &'p [u8], shaped: Option<usize>) -> Origin<'p, 'a>
         requires bare { ends_in_slash path.now ≡ false }
         requires shaped { (place : ℕ) → shaped ≡ Some place → shapes self.now path.now place ≡ true }
@@ -212,7 +214,7 @@ impl<'a> ChangeIndex<'a> {
         }
     }
 
-    /// What the change at this place left at the path, if that is known and the path is the change's own.
+    /// What the change at this place left at the path, if this is known and the change is at this path.
     fn known_at(
         &self,
         path: &[u8],
@@ -232,7 +234,7 @@ impl<'a> ChangeIndex<'a> {
         }
     }
 
-    /// What exists at the path after the first `before` changes, or the source of a copy at which that is looked up.
+    /// What exists at the path after the first `before` changes, or the copy source at which the caller has to look.
     fn look<'p>(&self, path: &'p [u8], before: usize, known: &[Option<NodeKind>]) -> Look<'p, 'a>
         requires bare { ends_in_slash path.now ≡ false }
         requires known { AreKindsBehind self.now known.now }
@@ -241,7 +243,7 @@ impl<'a> ChangeIndex<'a> {
         let shaped = self.latest_shaping(path, before);
         match self.origin(path, shaped) {
             Origin::Nowhere => Look::Found(None),
-            // a text that is set on a file leaves it one, so none is looked up
+            // A text that is set on a file leaves a file, so there is no need to look for one.
             Origin::New(NodeKind::File) => Look::Found(Some(NodeKind::File)),
             Origin::New(NodeKind::Folder) => {
                 let set = self.texts.latest_at(&self.changes, path, before);
@@ -257,7 +259,7 @@ impl<'a> ChangeIndex<'a> {
         }
     }
 
-    /// What exists at the path after the first `count` changes, and after a text is set on it, if `has_text` says so.
+    /// What exists at the path after the first `count` changes, and after a text is set on it if `has_text` is true.
     fn kind_since(
         &self,
         alloc: Global,
@@ -287,9 +289,9 @@ impl<'a> ChangeIndex<'a> {
         }
     }
 
-    /// What exists at the path after the first `count` changes. The caller gives what some of the first of all changes left at
-    /// their own paths, each kind right after its change, as [`ChangeIndex::kind_behind`] says it. When a look comes to such a
-    /// path, it follows no more copies. It takes memory only where it follows a copy.
+    /// What exists at the path after the first `count` changes. The caller gives what some of the first changes left
+    /// at their own paths: for each change, the kind right after it, as [`ChangeIndex::kind_behind`] returns it. If a
+    /// look comes to such a path, it follows no further copies. The function takes memory only if it follows a copy.
     pub fn kind_known(
         &self,
         alloc: Global,
@@ -324,8 +326,9 @@ impl<'a> ChangeIndex<'a> {
         self.kind_known(alloc, path, count, &[])
     }
 
-    /// What the change at this place leaves at its path, if these kinds of node exist there before it, and at the source of the
-    /// copy that it makes. It changes nothing at a path with fewer bytes.
+    /// What the change at this place leaves at its path. The arguments are the kinds of nodes that exist before the
+    /// change at its path and at the source of the copy that it makes. A change changes nothing at a path with fewer
+    /// bytes.
     pub fn kind_behind(
         &self,
         place: usize,
@@ -356,7 +359,7 @@ impl<'a> ChangeIndex<'a> {
         }
     }
 
-    /// What is looked up for the part of what the change at this place leaves at the path.
+    /// One step of a trail for the part of what the change at this place leaves at the path.
     fn step_behind<'p>(
         &self,
         part: Part,
@@ -392,7 +395,7 @@ impl<'a> ChangeIndex<'a> {
         Step::last(own)
     }
 
-    /// What is looked up for the part of what exists at the path after the first `before` changes.
+    /// One step of a trail for the part of what exists at the path after the first `before` changes.
     fn step<'p>(&self, part: Part, path: &'p [u8], before: usize) -> Step<'p, 'a>
         requires { ends_in_slash path.now ≡ false }
         ensures { IsTrailStep part self.now before path.now result }
@@ -411,8 +414,9 @@ impl<'a> ChangeIndex<'a> {
         )
     }
 
-    /// The places of the changes that set the part of what exists at the path after the first `count` changes, in their order.
-    /// The first one sets the whole part, or is of a new node; each other one edits what the one before left.
+    /// The places of the changes that set the part of what exists at the path after the first `count` changes, in the
+    /// dump's order. The first of them sets the whole part or makes a new node. Each other one edits what the one
+    /// before it left.
     pub fn settings_at(
         &self,
         alloc: Global,

@@ -1,10 +1,10 @@
-//! Laws of an index, each the contract of a function that does nothing.
+//! Laws of an index; each is the contract of a function that does nothing.
 ghost use Rattle.dump_index.specs.ExistsEver.{ExistingIsFound};
 ghost use Rattle.dump_index.specs.ToldKinds.{IndexTellsKinds};
 ghost use Rattle.dump_index.specs.IndexLaws.{ChildrenAreOfTrees, KindsAreFound, KindsAreOfTrees, NamesEverAreFound, NamesEverSuffice, PropsAreFound, TextsAreFound};
 
-/// If a node exists in the repository, an index finds its kind. If the dump loads, an index finds what exists in each tree, and
-/// at which paths nothing does.
+/// If a node exists in the repository, an index finds its kind. If the dump loads, an index finds what exists in each
+/// tree, and at which paths nothing exists.
 pub fn kinds_are_found()
     ensures node { KindsAreFound }
     ensures trees { KindsAreOfTrees }
@@ -17,16 +17,17 @@ pub fn settings_are_found()
     ensures text { TextsAreFound }
 {}
 
-/// If the dump loads, the names that an index finds in a directory are exactly those of what exists in it. Each name by which
-/// something can exist in it at the end of a revision is among those that ever can, so siblings are found by them.
+/// If the dump loads, the names that an index finds in a directory are exactly the names of what exists in it. Each
+/// name by which something can exist in the directory at the end of a revision is one of the names that `names_ever`
+/// returns, so siblings are found with these names.
 pub fn children_are_found()
     ensures trees { ChildrenAreOfTrees }
     ensures ever { NamesEverAreFound }
     ensures siblings { NamesEverSuffice }
 {}
 
-/// If the dump loads, and something exists at a path after some of the changes, an index finds that something exists there at
-/// some time. If the dump has a revision, the reverse holds too.
+/// If the dump loads, and something exists at a path after some of the changes, an index finds that something exists
+/// there at some time. If the dump has a revision, the reverse is true too.
 pub fn existing_is_found()
     ensures { ExistingIsFound }
 {}

@@ -1,14 +1,15 @@
-//! What exists at a path of a repository after the first changes of a dump, found without building trees.
+//! Finds what exists at a path of a repository after the first changes of a dump, without building trees.
 //!
-//! A [`ChangeIndex`] is made of the changes of a dump in their order. [`first_out_of_order`] finds the first change that can't
-//! be indexed, such as a copy that isn't of an earlier revision. [`ChangeIndex::kind_at`] says what exists at a path,
-//! [`ChangeIndex::settings_at`] which changes set its properties or its text, and [`ChangeIndex::children`] the names in a
-//! directory. [`ChangeIndex::names_ever`] says which names can ever be in it. [`ChangeIndex::exists_ever`] says whether
-//! something exists at a path at some time. [`ChangeIndex::end_of`] says how many changes are in the revisions up to a number.
+//! A [`ChangeIndex`] is made of the changes of a dump in their order. [`first_out_of_order`] finds the first change
+//! that can't be indexed, such as a copy that isn't of an earlier revision. [`ChangeIndex::kind_at`] returns what
+//! exists at a path. [`ChangeIndex::settings_at`] returns the changes that set its properties or its text, and
+//! [`ChangeIndex::children`] the names in a directory. [`ChangeIndex::names_ever`] returns the names that can ever be
+//! in it. [`ChangeIndex::exists_ever`] returns whether something exists at a path at some time.
+//! [`ChangeIndex::end_of`] returns how many changes are in the revisions up to a number.
 //!
-//! A caller that looks at the changes one after the other can collect what each leaves at its path, as
-//! [`ChangeIndex::kind_behind`] says it, and give that to [`ChangeIndex::kind_known`]. Then no look follows a long chain of
-//! copies again.
+//! A caller that looks at the changes one after the other can collect what each change leaves at its path, as
+//! [`ChangeIndex::kind_behind`] returns it, and pass that to [`ChangeIndex::kind_known`]. Then no look follows a long
+//! chain of copies again.
 //!
 //! ```
 //! if first_out_of_order(&changes).is_none() {

@@ -4,16 +4,17 @@ ghost use Rattle.dump_index.specs.steps.Looks.{is_since};
 
 use crate::change::{NodeKind, Source};
 
-/// What exists at a path, or the source at which that is looked up.
+/// What exists at a path, or the copy source at which the caller has to look for it.
 #[derive(Clone, Copy)]
 pub(crate) enum Look<'p, 'a> {
-    /// This exists there.
+    /// This exists at the path.
     Found(Option<NodeKind>),
-    /// What existed at the source, or below it at this rest of the path; and whether a text is set on it since.
+    /// What existed at the source, or at this rest of the path below it. The flag says whether a text is set on it
+    /// since.
     Copied(Source<'a>, &'p [u8], bool),
 }
 
-/// Whether a text is set, and not before the place that shapes the path.
+/// Whether a text is set, and not before the change that shapes the path. Both arguments are places.
 pub(crate) fn is_since(shaped: Option<usize>, set: Option<usize>) -> bool
     ensures { result ≡ is_since shaped set }
 {

@@ -1,4 +1,4 @@
-//! Changes in the order of their paths, looked up by path.
+//! Changes in the order of their paths, for lookups by path.
 ghost use Rattle.std.specs.Prelude.{◌≡◌, ◌||◌, All, Bool, ℕ, IfOk, filter, length, map, slice_get};
 ghost use Rattle.dump_index.specs.Listed.{listed_of};
 ghost use Rattle.dump_index.specs.steps.Keys.{AreFirstPlaces, IsKeyIn, IsOrder, IsSortedKeys, key_of, place_of, is_key_before, has_effect_at, has_effect_here, has_effect, key_cmp, key_in, keys_in, latest_place, path_there, sets};
@@ -12,23 +12,23 @@ use std::alloc::Global;
 use std::cmp::Ordering;
 use std::marker::Model;
 
-/// What a change does that an order is made for.
+/// The effect of a change: each order has the changes of one effect.
 #[derive(Clone, Copy)]
 pub(crate) enum Effect {
-    /// It deletes or makes something at its path.
+    /// The change deletes or makes something at its path.
     Shaping,
-    /// It deletes or copies, so what exists below its path changes too.
+    /// The change deletes or copies, so what exists below its path changes too.
     Moving,
-    /// It sets properties.
+    /// The change sets properties.
     Props,
-    /// It sets a text.
+    /// The change sets a text.
     Texts,
-    /// Each change has this one.
+    /// Each change has this effect.
     Any,
 }
 
 impl Setting {
-    /// Whether something is set.
+    /// Whether the setting sets something.
     pub(crate) fn sets(self) -> bool
         ensures { result ≡ sets self }
     {
@@ -51,7 +51,7 @@ impl Effect {
     }
 }
 
-/// The path of the change at this place; that of the root, if there is none.
+/// The path of the change at this place; the root if there is no such change.
 fn path_at<'a>(changes: &[NodeChange<'a>], place: u32) -> &'a [u8]
     ensures { result.now ≡ path_there (slice_get (map listed_of changes.now) place) }
 {
@@ -61,7 +61,7 @@ fn path_at<'a>(changes: &[NodeChange<'a>], place: u32) -> &'a [u8]
     }
 }
 
-/// Whether the change at this place comes before a path and a place: by the paths, and then by the places.
+/// Whether the change at this place comes before a path and a place. Paths are compared first, and then places.
 fn is_before(changes: &[NodeChange<'_>], place: u32, path: &[u8], other: usize) -> bool
     ensures { result ≡ is_key_before (key_in (map listed_of changes.now) place) (path.now, other) }
 {
@@ -69,7 +69,7 @@ fn is_before(changes: &[NodeChange<'_>], place: u32, path: &[u8], other: usize) 
     own.cmp(path).then((place as usize).cmp(&other)).is_lt()
 }
 
-/// A change by its path and its place, as they are sorted.
+/// A key for sorting: the path and the place of a change.
 #[derive(Clone, Copy)]
 pub(crate) struct Key<'a> {
     path: &'a [u8],
@@ -77,7 +77,7 @@ pub(crate) struct Key<'a> {
 }
 
 impl Key<'_> {
-    /// How two keys compare: by the paths, and then by the places.
+    /// Compares two keys: first the paths, and then the places.
     fn compare(&self, other: &Key<'_>) -> Ordering
         ensures { result ≡ key_cmp (key_of self.now) (key_of other.now) }
     {
@@ -85,7 +85,8 @@ impl Key<'_> {
     }
 }
 
-/// A change at a path right below a directory, by its name and its place in the dump, and which key comes after its own.
+/// A change at a path right below a directory: its name, its place in the dump, and the index of the key after its
+/// own.
 #[derive(Clone, Copy)]
 pub(crate) struct Child<'a> {
     pub(crate) name: &'a [u8],
@@ -93,8 +94,8 @@ pub(crate) struct Child<'a> {
     pub(crate) behind: usize,
 }
 
-/// The changes of one effect, in the order of their paths, and among those of one path in the order of the dump. It has their
-/// places in a list of changes, which each call is given.
+/// The changes of one effect, sorted by their paths, and for equal paths by the order of the dump. A value stores the
+/// places of the changes in a list of changes; each call gets that list as an argument.
 #[derive(Drop)]
 pub(crate) struct PathOrder {
     places: Vec<u32>,
@@ -108,7 +109,7 @@ impl Model for PathOrder {
     ghost view = { λ o. o.places.items };
 }
 
-/// The later of two places, if there is one.
+/// The later of two places; if there is only one place, that one.
 pub(crate) fn later(one: Option<usize>, other: Option<usize>) -> Option<usize>
     ensures { result ≡ later one other }
 {
@@ -158,14 +159,14 @@ fn has_effect(changes: &[NodeChange<'_>], place: u32, effect: Effect) -> bool
     }
 }
 
-/// How many of the changes have this effect.
+/// The number of changes that have this effect.
 fn count_of(changes: &[NodeChange<'_>], effect: Effect) -> usize
     ensures { result ≡ length (filter (λ change. has_effect effect (listed_of change)) changes.now) }
 {
     changes.iter().filter(|change| effect.has(change)).count()
 }
 
-/// Those of the places whose changes have this effect.
+/// Returns the places whose changes have this effect.
 fn chosen(
     alloc: Global,
     places: &[u32],
@@ -174,7 +175,7 @@ fn chosen(
 ) -> Result<Vec<u32>, Memory>
     ensures { IfOk result (λ found. found.items ≡ filter (has_effect_here effect (map listed_of changes.now)) places.now) }
 {
-    // of the right size at once, so that no memory is taken in vain
+    // The vector gets the right size at once, so that it takes no more memory than it needs.
     let mut found = Vec::with_capacity(alloc, count_of(changes, effect))?;
     for place in places {
         if has_effect(changes, *place, effect) {
@@ -185,18 +186,18 @@ fn chosen(
 }
 
 impl PathOrder {
-    /// All changes.
+    /// The order of all changes.
     pub(crate) fn new(alloc: Global, changes: &[NodeChange<'_>]) -> Result<PathOrder, Memory>
         ensures { IfOk result (λ order. IsOrder Effect.Any (map listed_of changes.now) order) }
     {
-        // the paths are in the keys, so that a sort reads them from one place less
+        // The keys contain the paths, so that a sort has to look at only one place in memory.
         let mut keys = keys_of(alloc, changes)?;
         keys.sort_unstable_by(|a, b| a.compare(b));
         let places = places_of(alloc, &keys)?;
         Ok(PathOrder { places })
     }
 
-    /// Those of all changes that have this effect.
+    /// The order of those of all changes that have this effect.
     pub(crate) fn with_effect(
         &self,
         alloc: Global,
@@ -210,7 +211,7 @@ impl PathOrder {
         Ok(PathOrder { places })
     }
 
-    /// Keeps those of all changes that have this effect.
+    /// Removes the changes that don't have this effect.
     pub(crate) fn keep_effect(&mut self, changes: &[NodeChange<'_>], effect: Effect)
         requires { IsOrder Effect.Any (map listed_of changes.now) self.old }
         ensures { IsOrder effect (map listed_of changes.now) self.new }
@@ -241,8 +242,8 @@ impl PathOrder {
         }
     }
 
-    /// The later of a place and that of the latest of the first `count` changes that is at the root or at a path above this
-    /// one. It looks up each part of the path before a slash.
+    /// The later of a place and of the place of the latest of the first `count` changes that is at the root or at a
+    /// path above this one. The function looks up each part of the path before a slash.
     pub(crate) fn latest_above(
         &self,
         changes: &[NodeChange<'_>],
@@ -264,7 +265,7 @@ impl PathOrder {
     }
 }
 
-/// How many places come before the first one whose path is after all paths that begin with the front.
+/// The number of places before the first one whose path comes after all paths that begin with the front.
 fn behind(changes: &[NodeChange<'_>], places: &[u32], front: &[u8]) -> usize
     requires { IsSortedKeys (map listed_of changes.now) places.now }
     ensures { IsBehind (keys_in (map listed_of changes.now) places.now) front.now result }
@@ -273,7 +274,7 @@ fn behind(changes: &[NodeChange<'_>], places: &[u32], front: &[u8]) -> usize
 }
 
 impl PathOrder {
-    /// How many changes come before those whose paths begin with this.
+    /// The number of changes before those whose paths begin with this top.
     pub(crate) fn first_from(&self, changes: &[NodeChange<'_>], top: &[u8]) -> usize
         requires { IsSortedKeys (map listed_of changes.now) self.now }
         ensures front { NoneBelow (keys_in (map listed_of changes.now) self.now) top.now 0 result }
@@ -283,8 +284,8 @@ impl PathOrder {
             .partition_point(|place| is_before(changes, *place, top, 0))
     }
 
-    /// The first change, from this one of the order on, whose path is right below the directory. It passes over what is
-    /// further below, by one binary search for each directory there.
+    /// The first change, from this index of the order on, whose path is right below the directory. The function skips
+    /// paths further below, with one binary search for each directory that they are in.
     pub(crate) fn next_child<'a>(
         &self,
         changes: &[NodeChange<'a>],

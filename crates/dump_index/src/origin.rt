@@ -10,15 +10,15 @@ use crate::path_text::rest_behind;
 /// The origin of what a change leaves at a path, if the change decides what exists there.
 #[derive(Clone, Copy)]
 pub(crate) enum Origin<'p, 'a> {
-    /// Nothing exists there.
+    /// Nothing exists at the path.
     Nowhere,
-    /// It is new.
+    /// The node is new.
     New(NodeKind),
-    /// It existed at the source, or below it at this rest of the path.
+    /// The node existed at the source, or at this rest of the path below it.
     Copied(Source<'a>, &'p [u8]),
 }
 
-/// The origin of what the change leaves at the path. The path is the change's own one, or below that.
+/// The origin of what the change leaves at the path. The path is the change's own path, or it is below that.
 pub(crate) fn made_origin<'p, 'a>(change: &NodeChange<'a>, path: &'p [u8]) -> Origin<'p, 'a>
     ensures { IsMadeBy change.now path.now result }
 {
@@ -31,7 +31,8 @@ pub(crate) fn made_origin<'p, 'a>(change: &NodeChange<'a>, path: &'p [u8]) -> Or
     }
 }
 
-/// The kind of a node on which a text is set, or none is. No load sets a text on a directory, so that gives nothing.
+/// The kind of a node after a text is set on it, or not. No load sets a text on a directory, so the result is `None`
+/// then.
 pub(crate) fn with_text(kind: Option<NodeKind>, has_text: bool) -> Option<NodeKind>
     ensures { result ≡ kind_with_text has_text kind }
 {
@@ -41,8 +42,8 @@ pub(crate) fn with_text(kind: Option<NodeKind>, has_text: bool) -> Option<NodeKi
     }
 }
 
-/// What the change leaves at its path, apart from a text, if these kinds of node exist there before it, and at its copy's
-/// source.
+/// What the change leaves at its path before it sets a text. The arguments are the kinds of nodes that exist before
+/// the change at its path and at the source of the copy that it makes.
 pub(crate) fn kind_made(
     change: &NodeChange<'_>,
     here: Option<NodeKind>,

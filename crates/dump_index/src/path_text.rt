@@ -20,7 +20,7 @@ pub fn ends_in_slash(text: &[u8]) -> bool
     ends
 }
 
-/// The text that follows a top and a slash in the path; nothing, if no text does.
+/// The text that follows a top and a slash in the path; empty if no text follows.
 pub fn rest_behind<'p>(top: &[u8], path: &'p [u8]) -> &'p [u8]
     ensures { result.now ≡ rest_text top.now path.now }
 {
@@ -33,7 +33,7 @@ pub fn rest_behind<'p>(top: &[u8], path: &'p [u8]) -> &'p [u8]
     }
 }
 
-/// The text of a path and of a rest below it.
+/// The text of a path and a rest below it, with a slash between them if neither is empty.
 pub fn joined(alloc: Global, top: &[u8], rest: &[u8]) -> Result<Vec<u8>, Memory>
     ensures { IfOk result (λ text. text.items ≡ joined_text top.now rest.now) }
 {
@@ -47,7 +47,7 @@ pub fn joined(alloc: Global, top: &[u8], rest: &[u8]) -> Result<Vec<u8>, Memory>
     Ok(text)
 }
 
-/// The text with which the paths below this one begin: the path and a slash, but nothing for the root.
+/// The text with which the paths below this one begin: the path and a slash, or the empty text for the root.
 pub fn top_of(alloc: Global, path: &[u8]) -> Result<Vec<u8>, Memory>
     ensures { IfOk result (λ text. text.items ≡ top_text path.now) }
 {
@@ -58,7 +58,7 @@ pub fn top_of(alloc: Global, path: &[u8]) -> Result<Vec<u8>, Memory>
     Ok(text)
 }
 
-/// How many bytes come before the first slash; all, if there is none.
+/// The number of bytes before the first slash; all bytes if there is none.
 fn name_end(text: &[u8]) -> usize
     ensures { result ≡ name_end text.now }
 {
@@ -74,20 +74,20 @@ fn name_end(text: &[u8]) -> usize
     end
 }
 
-/// How a path compares to the text with which the paths below a directory begin.
+/// How a path compares with the text with which the paths below a directory begin, the top.
 #[derive(Clone, Copy)]
 pub(crate) enum Below<'p> {
-    /// It doesn't begin so.
+    /// The path doesn't begin with the top.
     Outside,
-    /// It has nothing more.
+    /// The path is the top.
     Itself,
-    /// It goes on with this name alone.
+    /// The path is the top and this name.
     Child(&'p [u8]),
-    /// It goes on further, as all paths do that begin with this part of it.
+    /// The path goes on further than one name, and so does each path that begins with this first part of it.
     Further(&'p [u8]),
 }
 
-/// How the path compares to this top.
+/// Compares the path with this top.
 pub(crate) fn stand_below<'p>(top: &[u8], path: &'p [u8]) -> Below<'p>
     ensures { StandsSo top.now path.now result }
 {
@@ -105,7 +105,7 @@ pub(crate) fn stand_below<'p>(top: &[u8], path: &'p [u8]) -> Below<'p>
     }
 }
 
-/// Whether the path comes before those that begin with the front, or is one of them.
+/// Whether the path comes before the paths that begin with the front, or is one of these.
 pub(crate) fn ends_up_to(path: &[u8], front: &[u8]) -> bool
     ensures { result ≡ ends_up_to front.now path.now }
 {

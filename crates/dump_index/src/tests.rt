@@ -1,4 +1,4 @@
-//! What no clause says: a worked history, asked at each path, and allocations that fail.
+//! Tests of what no contract says: an example history with a question at each path, and allocations that fail.
 use crate::{
     ChangeIndex, Memory, NodeChange, NodeKind, NodeMade, Part, Setting, Source, ends_in_slash,
     first_out_of_order,
@@ -39,7 +39,8 @@ fn deleted<'a>(revision: u64, path: &'a [u8]) -> NodeChange<'a> {
     }
 }
 
-/// trunk with a file in r1; a branch of it in r2; the file edited in both, and the one in trunk deleted in r5.
+/// Revision 1 has `trunk` with a file, and revision 2 a branch of it. Then the file is edited in both, and revision 5
+/// deletes the one in `trunk`.
 fn history(alloc: Global) -> Result<Vec<NodeChange<'static>>, Memory> {
     let trunk = Source {
         revision: 1,
@@ -152,8 +153,8 @@ fn history_is_found(rt: HostRuntime) -> Result<(), Fail> {
     Ok(())
 }
 
-/// d with a directory and two files in r1; a copy of it in r2; in r3 the directory of the copy is deleted, and a file
-/// made there.
+/// Revision 1 has `d` with a directory and two files, and revision 2 a copy of `d`. Revision 3 deletes the directory
+/// in the copy and makes a file there.
 fn nested(alloc: Global) -> Result<Vec<NodeChange<'static>>, Memory> {
     let source = Source {
         revision: 1,
@@ -201,7 +202,8 @@ fn directories_are_listed(rt: HostRuntime) -> Result<(), Fail> {
     Ok(())
 }
 
-/// Whether this exists, after all changes, at the path of the first, if what that leaves there is known. It is a copy.
+/// Whether, after all changes, this kind exists at the path of the first change, if what that change leaves there is
+/// known. The first change is a copy.
 fn first_leaves(alloc: Global, index: &ChangeIndex<'_>, kind: NodeKind) -> Result<bool, Memory> {
     let Some(first) = index.get(0) else {
         return Ok(false);
@@ -222,7 +224,7 @@ fn first_leaves(alloc: Global, index: &ChangeIndex<'_>, kind: NodeKind) -> Resul
     Ok(found == Some(kind))
 }
 
-/// A copy of the root, and a file in it.
+/// The history has a copy of the root and a file in it.
 #[test]
 fn what_is_known_is_found(rt: HostRuntime) -> Result<(), Fail> {
     let alloc = rt.alloc();
@@ -243,8 +245,8 @@ fn what_is_known_is_found(rt: HostRuntime) -> Result<(), Fail> {
     Ok(())
 }
 
-/// A directory with two files in r1; in r2 a copy of it, and a file of the copy is deleted; in r3 a file of the first
-/// directory is deleted.
+/// Revision 1 has a directory with two files. Revision 2 copies the directory and deletes a file of the copy. Revision
+/// 3 deletes a file of the first directory.
 fn copied_and_deleted(alloc: Global) -> Result<Vec<NodeChange<'static>>, Memory> {
     let source = Source {
         revision: 1,
@@ -262,14 +264,14 @@ fn copied_and_deleted(alloc: Global) -> Result<Vec<NodeChange<'static>>, Memory>
 
 fn assert_existing(rt: &impl Abort, alloc: Global, index: &ChangeIndex<'_>) {
     assert!(rt; exists_is(alloc, index, b"", true));
-    // at the end
+    // it exists at the end
     assert!(rt; exists_is(alloc, index, b"d/x", true));
     assert!(rt; exists_is(alloc, index, b"e/y", true));
-    // deleted in a later revision
+    // a later revision deletes it
     assert!(rt; exists_is(alloc, index, b"d/y", true));
-    // copied and deleted in one revision
+    // one revision copies and deletes it
     assert!(rt; exists_is(alloc, index, b"e/x", true));
-    // at no time
+    // it exists at no time
     assert!(rt; exists_is(alloc, index, b"e/z", false));
     assert!(rt; exists_is(alloc, index, b"d/x/z", false));
     assert!(rt; exists_is(alloc, index, b"f", false));
@@ -323,7 +325,7 @@ fn has_first_or_lacks_memory(alloc: Global, index: &ChangeIndex<'_>) -> bool {
     }
 }
 
-/// Run with each allocation failing in turn: the directory is listed, or there is no memory.
+/// The test runner repeats this with each allocation failing in turn. The directory is listed, or memory ran out.
 #[test]
 fn a_directory_or_no_memory(rt: HostRuntime) {
     let alloc = rt.alloc();

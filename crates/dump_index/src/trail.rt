@@ -14,18 +14,18 @@ pub enum Part {
     Text,
 }
 
-/// What is looked up before a change.
+/// What a trail looks up before a change.
 #[derive(Clone, Copy)]
 pub(crate) enum Next<'p, 'a> {
-    /// Nothing.
+    /// Nothing is looked up.
     End,
-    /// What existed there before the change at this place.
+    /// What existed at the path before the change at this place.
     Before(usize),
-    /// What existed at the source, or below it at this rest of the path.
+    /// What existed at the source, or at this rest of the path below it.
     Copied(Source<'a>, &'p [u8]),
 }
 
-/// The change that sets a part last, if one does, and what is looked up before it.
+/// The change that sets a part last, if there is one, and what the trail looks up before it.
 #[derive(Clone, Copy)]
 pub(crate) struct Step<'p, 'a> {
     pub(crate) set: Option<usize>,
@@ -33,7 +33,7 @@ pub(crate) struct Step<'p, 'a> {
 }
 
 impl<'p, 'a> Step<'p, 'a> {
-    /// Nothing is looked up before that.
+    /// The step after which a trail ends.
     pub(crate) fn last(set: Option<usize>) -> Step<'p, 'a>
         ensures { result ≡ record { set = set; next = Next.End } }
     {
@@ -62,7 +62,7 @@ pub(crate) fn own_place(set: bool, place: usize) -> Option<usize>
     if set { Some(place) } else { None }
 }
 
-/// Whether there is a place, and it is this one.
+/// Whether there is a place, and it is equal to the other one.
 pub(crate) fn is_place(place: Option<usize>, other: usize) -> bool
     ensures { result ≡ is_place place other }
 {

@@ -1,4 +1,4 @@
--- What holds of the changes and the orders of an index.
+-- What is true of the changes and the orders of an index.
 use Rattle.std.specs.Prelude.{◌≡◌, true, ℕ, List, map}
 use Rattle.dump_index.specs.Listed.{listed_of}
 use Rattle.dump_index.specs.InOrder.{are_in_order}

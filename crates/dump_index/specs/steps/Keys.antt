@@ -1,4 +1,4 @@
--- Changes in the order of their paths, and among those of one path in the order of the dump.
+-- Changes sorted by their paths, and for equal paths by the order of the dump.
 use Rattle.std.specs.Prelude.{◌≡◌, ◌<◌, ℕ, Bool, true, false, List, [], Option, Some, None, map, slice_get}
 use Rattle.std.specs.List.{Contains}
 use Rattle.std.specs.List.Sorted.{IsSortedBy}
@@ -14,26 +14,26 @@ use Rattle.dump_index.specs.declared.order.Key.{Key}
 abbrev pub PathKey : Type 0
 PathKey = List ℕ × ℕ
 
--- the path of a change; that of the root, if there is none
+-- the path of a change; the root if there is no change
 abbrev pub path_there : Option Listed → List ℕ
 path_there None = []
 path_there (Some l) = l.path
 
--- the path of the change at this place, and the place
+-- the path of the change at this place, and the place itself
 abbrev pub key_in : List Listed → ℕ → PathKey
 key_in listed place = (path_there (slice_get listed place), place)
 
 abbrev pub keys_in : List Listed → List ℕ → List PathKey
 keys_in listed places = map (key_in listed) places
 
--- keys are compared by their paths, and keys of one path by their places
+-- paths are compared first, and for equal paths the places
 abbrev pub key_cmp : PathKey → PathKey → Ordering
 key_cmp a b = ordering_then (slice_cmp nat_cmp a.0 b.0) (nat_cmp a.1 b.1)
 
 abbrev pub is_key_before : PathKey → PathKey → Bool
 is_key_before a b = is_lt (key_cmp a b)
 
--- the key of no place comes before that of the one that precedes it
+-- no key comes before the key that precedes it in the list
 abbrev pub IsSortedKeys : List Listed → List ℕ → Type 0
 IsSortedKeys listed places = IsSortedBy (λ a b. is_key_before (key_in listed a) (key_in listed b)) places
 
@@ -42,7 +42,7 @@ pub record HasKeys (effect : Effect) (listed : List Listed) (keys : List PathKey
   pub has : (path : List ℕ) (place : ℕ) → has_effect_at effect listed path place ≡ true → Contains keys (path, place)
   pub only : (path : List ℕ) (place : ℕ) → Contains keys (path, place) → has_effect_at effect listed path place ≡ true
 
--- the path and the place of a key, and the place alone
+-- a key as a path and a place, and its place
 abbrev pub key_of : Key → PathKey
 key_of key = (key.path.now, key.place)
 
@@ -53,7 +53,7 @@ place_of key = key.place
 abbrev pub IsKeyIn : List Listed → Key → Type 0
 IsKeyIn listed key = key.path.now ≡ path_there (slice_get listed key.place)
 
--- the places are the first ones, as many as this, in any order
+-- the places are the numbers below the count, in any order
 pub record AreFirstPlaces (count : ℕ) (places : List ℕ) : Type 0 where
   pub has : (place : ℕ) → place < count → Contains places place
   pub only : (place : ℕ) → Contains places place → place < count

@@ -13,7 +13,7 @@ use Rattle.dump_index.specs.declared.look.Look.TheVariants.{Found, Copied}
 use Rattle.dump_index.specs.steps.Touching.{joined_text}
 use Rattle.dump_index.specs.steps.Looks.{kind_with_text}
 
--- how many changes there are up to the one at this place, and with it; none, if there is no place
+-- the number of changes up to and including the one at this place; 0 if there is no place
 abbrev pub count_through : Option ℕ → ℕ
 count_through None = zero
 count_through (Some place) = suc place
@@ -24,7 +24,7 @@ AreKindsBehind listed known = (place : ℕ) (kind : Option NodeKind) (l : Listed
     slice_get known place ≡ Some kind → slice_get listed place ≡ Some l
     → kind ≡ kind_look listed (suc place) (names_of l.path)
 
--- what exists at the source of a change of this revision, if it makes a copy of an earlier one
+-- what exists at the source of a change of this revision, if the change is a copy of an earlier revision
 abbrev pub source_look : List Listed → ℕ → Option Made → Option NodeKind
 source_look listed revision None = None
 source_look listed revision (Some Made.NewFolder) = None
@@ -37,14 +37,14 @@ abbrev pub left_kind : Bool → Option NodeKind → Option NodeKind
 left_kind true here = None
 left_kind false here = here
 
--- and after it makes something, if it does; a copy makes what exists at its source
+-- what exists there after the change makes something, if it does; a copy makes what exists at its source
 abbrev pub made_kind : Option Made → Option NodeKind → Option NodeKind → Option NodeKind
 made_kind None left source = left
 made_kind (Some Made.NewFolder) left source = Some Folder
 made_kind (Some Made.NewFile) left source = Some File
 made_kind (Some (Made.Copied number from)) left source = source
 
--- one step of a look: what exists at the path, or the source of a copy at which that is looked up, after fewer changes
+-- one step of a look after fewer changes: it finds what exists at the path, or the copy source at which to look
 abbrev pub IsLook : List Listed → ℕ → List ℕ → Look → Type 0
 IsLook listed before path (Found kind) = kind_look listed before (names_of path) ≡ kind
 IsLook listed before path (Copied source rest set) =

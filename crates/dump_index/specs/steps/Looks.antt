@@ -1,4 +1,4 @@
--- What is looked up to find what exists at a path.
+-- The looks that find what exists at a path.
 use Rattle.std.specs.Prelude.{◌≡◌, ◌≤◌, ℕ, zero, suc, Bool, true, false, ◌||◌, ◌==◌, List, [], ◌∷◌, ◌++◌, Option, Some, None, option_map, slice_get, nat_le, ⊤, if◌then◌else◌}
 use Rattle.dump_trees.specs.Paths.{NodePath, names_of, below}
 use Rattle.dump_trees.specs.Trees.{root_alone}
@@ -18,7 +18,7 @@ use Rattle.dump_index.specs.declared.origin.Origin.TheVariants.{Nowhere, New, Co
 use Rattle.dump_index.specs.steps.Keys.{has_effect_at}
 use Rattle.dump_index.specs.steps.Touching.{shapes, rest_text, joined_text}
 
--- the kind of a node on which a text is set, or none is; no load sets a text on a directory, so that gives nothing
+-- the kind of a node after a text is set on it, or not; no load sets a text on a directory, so the result is None then
 abbrev pub kind_with_text : Bool → Option NodeKind → Option NodeKind
 kind_with_text false kind = kind
 kind_with_text true None = None
@@ -42,20 +42,20 @@ abbrev pub came : List Listed → List ℕ → Option ℕ → Option NodeKind
 came listed path None = option_map node_kind (root_alone (names_of path))
 came listed path (Some place) = came_there listed place path (slice_get listed place)
 
--- whether one of so many changes sets a text at the path, and is the latest that shapes it or comes after that
+-- whether one of this number of changes sets a text at the path, and no later change shapes the path
 abbrev pub text_since : List Listed → List ℕ → ℕ → Bool
 text_since listed path zero = false
 text_since listed path (suc count) =
     if shapes listed path count then has_effect_at Texts listed path count
     else (has_effect_at Texts listed path count || text_since listed path count)
 
--- whether there is a second place, and it isn't before the first, if there is one
+-- whether there is a second place, and the first place, if there is one, isn't after it
 abbrev pub is_since : Option ℕ → Option ℕ → Bool
 is_since shaped None = false
 is_since None (Some place) = true
 is_since (Some shaped) (Some place) = nat_le shaped place
 
--- whether there is a place, and it is this one
+-- whether there is a place, and it is equal to this one
 abbrev pub is_place : Option ℕ → ℕ → Bool
 is_place None other = false
 is_place (Some place) other = place == other
@@ -75,12 +75,13 @@ origin_names listed (Copied source rest) =
     names_look (all_placed listed) (end_of (all_placed listed) source.revision)
     (names_of source.path.now ++ names_of rest.now)
 
--- what makes a node of this kind
+-- what a change makes when it makes a node of this kind
 abbrev pub made_as : NodeKind → NodeMade
 made_as AFolder = Folder
 made_as AFile = File
 
--- whether nothing is made at this rest of a path: no copy, and nothing new, which is made only at the empty rest
+-- whether nothing is made at this rest of a path: there is no copy, and no new node, which only exists at the empty
+-- rest
 abbrev pub makes_none : Option NodeMade → List ℕ → Bool
 makes_none None rest = true
 makes_none (Some Folder) [] = false
@@ -89,13 +90,14 @@ makes_none (Some File) [] = false
 makes_none (Some File) (b ∷ rest) = true
 makes_none (Some (CopyOf source)) rest = false
 
--- what the change leaves at the path has this origin
+-- this is the origin of what the change leaves at the path
 abbrev pub IsMadeBy : NodeChange → List ℕ → Origin → Type 0
 IsMadeBy c path Nowhere = makes_none c.made (rest_text c.path.now path) ≡ true
 IsMadeBy c path (New kind) = (rest_text c.path.now path ≡ []) × (c.made ≡ Some (made_as kind))
 IsMadeBy c path (Copied source rest) = (c.made ≡ Some (CopyOf source)) × (rest.now ≡ rest_text c.path.now path)
 
--- a copy's source is looked up after no more changes than come before the copy, and its text doesn't end in a slash
+-- the source of a copy is looked up after at most as many changes as come before the copy, and its text doesn't end in
+-- a slash
 abbrev pub GoesBack : List Listed → Option ℕ → Origin → Type 0
 GoesBack listed shaped Nowhere = ⊤
 GoesBack listed shaped (New kind) = ⊤

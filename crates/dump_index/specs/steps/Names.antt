@@ -6,7 +6,7 @@ use Rattle.dump_index.specs.Listed.{Listed}
 use Rattle.dump_index.specs.Children.{is_child_named}
 use Rattle.dump_index.specs.steps.Keys.{PathKey}
 
--- the texts that are borrowed
+-- the borrowed texts
 abbrev pub texts_of : List (Bor (List ℕ)) → List (List ℕ)
 texts_of texts = map (λ (text : Bor (List ℕ)). text.now) texts
 
@@ -19,11 +19,11 @@ makes_there (Some l) = is_some l.made
 abbrev pub makes_at : List Listed → ℕ → Bool
 makes_at listed place = makes_there (slice_get listed place)
 
--- whether the key is of this path, and of a change that makes something among the first ones, so many
+-- whether the key is of this path, and of one of this number of first changes that makes something
 abbrev pub makes_key : List Listed → ℕ → List ℕ → PathKey → Bool
 makes_key listed count path key = bytes_eq key.0 path && (nat_lt key.1 count && makes_at listed key.1)
 
--- the new names are the old ones and those of which the test holds
+-- the new names are the old ones and those that pass the test
 abbrev pub AddsNames : List (Bor (List ℕ)) → List (Bor (List ℕ)) → (List ℕ → Bool) → Type 0
 AddsNames old new more = (name : List ℕ) → is_child_named (texts_of new) name ≡ (is_child_named (texts_of old) name || more name)
 

@@ -3,7 +3,7 @@ use Rattle.std.specs.Prelude.{◌≡◌, ℕ, true, false, List, [], ◌∷◌, 
 use Rattle.dump_index.specs.InOrder.{are_in_order}
 use Rattle.dump_index.specs.declared.change.NodeChange.{NodeChange}
 
--- the first of the changes that isn't in order is at this place; or all are
+-- the first change that isn't in order is at this place; without a place, all are in order
 abbrev pub IsFirstOutOfOrder : List NodeChange → Option ℕ → Type 0
 IsFirstOutOfOrder changes None = are_in_order 0 changes ≡ true
 IsFirstOutOfOrder changes (Some place) = (before : List NodeChange) × (c : NodeChange) × (behind : List NodeChange)

@@ -5,11 +5,11 @@ pub use Rattle.dump_index.specs.Effects.{goes_on, stands_over, moves_there, move
 use Rattle.dump_index.specs.declared.order.Effect.TheVariants.{Shaping, Props, Texts}
 use Rattle.dump_index.specs.steps.Keys.{has_effect_at}
 
--- the same as `stands_over`, for the root and for tops with fewer bytes than this
+-- the same as `stands_over`, but only for the root and for tops with fewer bytes than this
 abbrev pub stands_over_within : ℕ → List ℕ → List ℕ → Bool
 stands_over_within bound path top = bytes_eq top [] || (goes_on top path && nat_lt (length top) bound)
 
--- the same as `moves_above`, for the root and for tops with fewer bytes than this
+-- the same as `moves_above`, but only for the root and for tops with fewer bytes than this
 abbrev pub moves_within : ℕ → List Listed → List ℕ → ℕ → Bool
 moves_within bound listed path place = moves_there (stands_over_within bound path) (slice_get listed place)
 
@@ -31,7 +31,7 @@ abbrev pub rest_text : List ℕ → List ℕ → List ℕ
 rest_text [] path = path
 rest_text (b ∷ top) path = drop (suc (length (b ∷ top))) path
 
--- the text of a path and of a rest below it: with a slash between them, if neither is empty
+-- the text of a path and a rest below it, with a slash between them if neither is empty
 abbrev pub joined_text : List ℕ → List ℕ → List ℕ
 joined_text top [] = top
 joined_text [] (b ∷ rest) = b ∷ rest

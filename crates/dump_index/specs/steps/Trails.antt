@@ -10,7 +10,7 @@ use Rattle.dump_index.specs.declared.trail.Next.{Next}
 use Rattle.dump_index.specs.declared.trail.Next.TheVariants.{End, Before, Copied}
 use Rattle.dump_index.specs.steps.Touching.{joined_text}
 
--- the trail continues after these places with what is looked up next
+-- the trail continues after these places with the next lookup
 abbrev pub TrailGoesOn : Part → List Listed → ℕ → List ℕ → List ℕ → Next → Type 0
 TrailGoesOn part listed before path own End = IsTrail part listed before path own
 TrailGoesOn part listed before path own (Before place) =

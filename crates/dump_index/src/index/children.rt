@@ -54,8 +54,8 @@ fn push_made<'a>(
 }
 
 impl<'a> ChangeIndex<'a> {
-    /// Adds the names that can exist right below the path after the first `count` changes: those of what is made there, and
-    /// those at the source of a copy.
+    /// Adds the names that can exist right below the path after the first `count` changes: the names of what is made
+    /// there, and the names at the source of a copy.
     fn push_names(
         &self,
         alloc: Global,
@@ -84,7 +84,7 @@ impl<'a> ChangeIndex<'a> {
         }
     }
 
-    /// Those of the names by which something exists right below the path after the first `count` changes.
+    /// Returns, of these names, those by which something exists right below the path after the first `count` changes.
     fn standing(
         &self,
         alloc: Global,
@@ -108,8 +108,8 @@ impl<'a> ChangeIndex<'a> {
         Ok(kept)
     }
 
-    /// The names of what exists in the directory at the path after the first `count` changes, each once and in the order of
-    /// their bytes. There are none if no directory exists there.
+    /// The names of what exists in the directory at the path after the first `count` changes, without duplicates and
+    /// in the order of their bytes. There are none if no directory exists there.
     pub fn children(
         &self,
         alloc: Global,
@@ -126,8 +126,9 @@ impl<'a> ChangeIndex<'a> {
         self.standing(alloc, path, count, &names)
     }
 
-    /// The names by which something can exist right below the path at some time, each once and in the order of their bytes.
-    /// They are those of what is made there, and those at the source of each copy of the path or of a directory above.
+    /// The names by which something can exist right below the path at some time, without duplicates and in the order
+    /// of their bytes. They are the names of what is made there, and the names at the source of each copy of the path
+    /// or of a directory above.
     pub fn names_ever(&self, alloc: Global, path: &[u8]) -> Result<Vec<&'a [u8]>, Memory>
         requires { ends_in_slash path.now ≡ false }
         ensures { IfOk result (λ names. AreNamesEver self.now (names_of path.now) (texts_of names.items)) }

@@ -11,8 +11,8 @@ use std::alloc::Global;
 impl<'a> ChangeIndex<'a> {
     /// Whether something exists at the path after some of the changes, at the end of a revision or within one.
     ///
-    /// It looks at the path before and after each change that touches it, the latest first, and ends once it finds
-    /// something.
+    /// The function looks at the path before and after each change that touches it, the latest change first, and stops
+    /// when it finds something.
     pub fn exists_ever(&self, alloc: Global, path: &[u8]) -> Result<bool, Memory>
         requires { ends_in_slash path.now ≡ false }
         ensures { IfOk result (λ found. found ≡ exists_ever self.now (names_of path.now)) }

@@ -4,7 +4,7 @@ use Rattle.dump_index.specs.steps.Below.{GoesFurther}
 use Rattle.dump_index.proofs.BelowLemmas.{outside, inside, child_name, further}
 use Rattle.dump_index.proofs.path_text.stand_below.Goals as goal
 
--- the rest stands behind the top
+-- the rest follows the top
 whole : (top path rest : List ℕ) → path ≡ top ++ drop (length top) path → rest ≡ drop (length top) path → path ≡ top ++ rest
 whole top path rest is same = is ∙ ap (λ (t : List ℕ). top ++ t) (sym same)
 
