@@ -1,4 +1,4 @@
--- The words of std, of the definitions and of the lemmas below, for the proofs of this crate.
+-- The names of std, of the definitions and of the lemmas below, for the proofs of this crate.
 pub use Rattle.std.specs.Prelude.{drop, slice_get, take}
 pub use Rattle.std.proofs.Common.{Bool, Contains, IsSome, IsTrue, MatchBool, None, Option, ap, append-nil, append_assoc, ap₂, arith, bytes_eq, cond, count_by, if◌then◌else◌, inl, inr, is_some, length, lit<, lit≤, map, not, option_and_then, option_map, refl, subst, suc, sym, take_while, true, unwrap_or, zero, ◌&&◌, ◌++◌, ◌+◌, ◌-◌, ◌<◌, ◌==◌, ◌^◌, ◌||◌, ◌↔◌, ◌∙◌, ◌≡◌, ◌≤◌, ◌⊎◌}
 pub use Rattle.std.proofs.Math.Bool.{or-true}

@@ -1,4 +1,4 @@
--- What a survey finds is exact, and where it finds nothing the law has its premise.
+-- What a survey finds is exact, and if it finds nothing, the premise of the law is true.
 pub mod FindingLemmas
 pub mod PartLemmas
 pub mod UnreadTest

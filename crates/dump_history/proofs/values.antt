@@ -1,4 +1,4 @@
--- The definitions, tried on worked values, and the laws, applied to a worked dump.
+-- Examples for the definitions, and the laws, applied to an example dump.
 pub mod WorkedDump
 pub mod WorkedFilter
 pub mod WorkedLaw

@@ -117,8 +117,8 @@ TellsKeptPaths patched settings text = (again : List DumpRecord) × (written : L
     × HasRecords text again Ending.Whole × MakeRevisionsWithGaps patched again written
     × IsTrue (list_all (λ changes. list_all (tells_kept_paths settings) changes) written)
 
--- so does what the filter writes of a dump, whether or not it is separated: no node is left at an excluded path, also
--- where revisions show none
+-- so does what the filter writes of a dump, whether or not it is separated: no node is at an excluded path, even if
+-- the revisions show none
 abbrev pub FilteredDumpsTellKeptPaths : Type 0
 FilteredDumpsTellKeptPaths = (patched : Patching) (settings : Settings) (dump text : List ℕ)
     (records : List DumpRecord) (revisions : List (List Change)) →

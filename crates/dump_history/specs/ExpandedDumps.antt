@@ -79,8 +79,8 @@ expanded_records [] steads = []
 expanded_records (r ∷ records) [] = []
 expanded_records (r ∷ records) (stead ∷ steads) = stead_records r stead ++ expanded_records records steads
 
--- whether so much may be left of the record: of a node that makes nothing no load reads a copy source, a node that adds
--- may replace, and a node may be omitted; any other record is unchanged
+-- Whether this may remain of the record. If a node makes nothing, no load reads its copy source, so that may be
+-- removed. A node that adds may replace instead, and a node may be omitted. Any other record is unchanged.
 abbrev pub may_be_left : DumpRecord → OwnForm → Bool
 may_be_left r OwnForm.AsItIs = true
 may_be_left r OwnForm.WithoutSource = is_node r && not (makes r)

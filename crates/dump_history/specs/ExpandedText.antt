@@ -29,7 +29,7 @@ AreRecordTexts [] text = text ≡ []
 AreRecordTexts (r ∷ records) text = (lfs : ℕ) × (rest : List ℕ)
     × (text ≡ record_text r ++ (line_feeds lfs ++ rest)) × AreRecordTexts records rest
 
--- the text has in place of each record what may be there, after some line feeds
+-- the text has, in place of each record, what may replace it, after some line feeds
 pub record IsExpandedText (records : List DumpRecord) (steads : List Stead) (text : List ℕ) : Type 0 where
   pub may : AllZip (λ r stead. IsTrue (may_stand r stead)) records steads
   pub lfs : ℕ

@@ -1,4 +1,4 @@
--- What is written of a dump, where no record is replaced, comes of its kept changes.
+-- What is written of a dump comes from its kept changes, if no record is replaced.
 use Rattle.std.specs.Prelude.{◌≡◌, ℕ, false, List, ◌++◌, Some, IsTrue, ◌⊎◌}
 use Rattle.std.specs.List.{All}
 use Rattle.dump_text.specs.PropertyList.{Property}
@@ -44,10 +44,11 @@ pub record ComesOfKept (settings : Settings) (revisions : List (List Change)) (I
   pub copies : (number : ℕ) (source : NodePath) → d.made ≡ Some (Made.Copied number source)
       → (old : ℕ) × IsNumber old number × SomeKeptDoes settings revisions (CopiesPart d.path old source)
 
--- the text is a dump, and all that its changes do with content comes of kept changes of these revisions: the kept ones have
--- set each property, but for mergeinfo as the filter writes it, have set or made each text, and have made each copy, but for
--- its number. So nothing of an excluded change is in the text, also where no revision shows it. If prefixes are excluded, a copy
--- in it is over what its own revision changed only where these revisions have one
+-- The text is a dump, and all that its changes do with content comes from kept changes of these revisions. The kept
+-- changes have set each property, except mergeinfo as the filter writes it. They have set or made each text, and they
+-- have made each copy, except its number. So nothing of an excluded change is in the text, even if no revision shows
+-- it. If prefixes are excluded, a copy in the text is over what its own revision changed only if these revisions have
+-- such a copy.
 abbrev pub ChangesComeOfKept : Patching → Settings → List DumpRecord → List (List Change) → List ℕ → Type 0
 ChangesComeOfKept patched settings records revisions text =
     (parts : List DumpRecord) × (written : List (List Change))
@@ -57,21 +58,21 @@ ChangesComeOfKept patched settings records revisions text =
     × (settings.side ≡ Exclude → (path : NodePath) → IsTrue (some_copies_over path written)
     → IsTrue (some_copies_over path revisions))
 
--- so is what the filter writes of a dump, where it leaves no gap
+-- the same for what the filter writes of a dump, if it leaves no gap
 abbrev pub FilteredChangesAreKept : Type 0
 FilteredChangesAreKept = (patched : Patching) (settings : Settings) (dump filtered : List ℕ) (records : List DumpRecord)
     (revisions : List (List Change)) →
     IsCleanText settings dump records filtered → LengthsFit settings records → MakeRevisions patched records revisions
     → IsTrue (leaves_no_gap settings) → ChangesComeOfKept patched settings records revisions filtered
 
--- and with deletions behind its copies, where no revision is dropped, emptied or renumbered
+-- and with deletions after its copies, if no revision is dropped, emptied or renumbered
 abbrev pub TrimmedChangesAreKept : Type 0
 TrimmedChangesAreKept = (patched : Patching) (settings : Settings) (dump : List ℕ) (records : List DumpRecord)
     (revisions : List (List Change)) (trees : List Tree) (text : List ℕ) →
     FiltersTrimmed patched settings dump records revisions trees text
     → settings.empty ≡ Pad → settings.renumber ≡ false → ChangesComeOfKept patched settings records revisions text
 
--- or where they are renumbered
+-- or if revisions are renumbered
 abbrev pub RenumberedChangesAreKept : Type 0
 RenumberedChangesAreKept = (patched : Patching) (settings : Settings) (dump : List ℕ) (records : List DumpRecord)
     (revisions : List (List Change)) (trees : List Tree) (text : List ℕ) →

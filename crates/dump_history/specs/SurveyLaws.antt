@@ -93,8 +93,8 @@ RestrictsFrom patched settings records text (suc before) =
 abbrev pub DumpRestricts : Patching → Settings → List DumpRecord → List ℕ → Type 0
 DumpRestricts patched settings records text = RestrictsFrom patched settings records text (begins_at records)
 
--- if the filter's answer is clean, and the survey finds nothing in the dump as a whole and no obstacle and no alarm in
--- its nodes, loading commutes with filtering, for a whole dump and for a partial one
+-- Let the filter's answer be clean. If the survey finds nothing in the dump as a whole, and no obstacle and no alarm
+-- in its nodes, loading commutes with filtering. This is true of a whole dump and of a partial one.
 abbrev pub SurveyedDumpRestricts : Type 0
 SurveyedDumpRestricts = (patched : Patching) (settings : Settings) (dump text : List ℕ) (records : List DumpRecord)
     (found : FindingsByGroup) →

@@ -1,4 +1,4 @@
--- A dump's revisions, and those of what is written of it.
+-- The revisions of a dump, and the revisions of what is written of it.
 use Rattle.dump_history.proofs.Prelude.{◌≡◌, suc, ◌==◌, Bool, true, ◌||◌, map, MatchBool, refl, sym, ap, ◌∙◌, subst, take_while, if◌then◌else◌, list_all, eqb-true, take_while-cons, equals_itself, first_true, second_true, both_true, DumpRecord, Settings, KeptRevisions, is_revision_record, is_node, Group, groups, group_number, has_kept_node, is_bare, keeps_empty, first_number, keeps_group, kept_revisions, IsNewProperty, IsWrittenCopyNumber, Change, NewNumber, AreNewRevisions, names_none_behind, kept_from, kept_of, counts_from, names_revision, count_to_gap, HasNamingNode, HasNamingNodeBehind, Patching}
 use Rattle.std.proofs.Common.{ℕ, false, List, [], ◌∷◌}
 use Rattle.dump_history.proofs.again.NodeChanges.{entries_kept}
@@ -32,7 +32,7 @@ groups_are (r ∷ records) = cases (is_revision_record r) refl (groups_are recor
     cases true is (revs, nodes) = rw is ((is, revs), (all_nodes records, nodes))
     cases false is more = rw is more
 
--- numbers that count from a number on
+-- the groups' numbers go up by one from a number
 pub numbered_from : (n : ℕ) (gs : List Group) → counts_from n (map group_number gs) ≡ true → AreNumberedFrom n gs
 numbered_from n [] counts = tt
 numbered_from n (g ∷ gs) counts =
@@ -41,19 +41,19 @@ numbered_from n (g ∷ gs) counts =
       numbered_from (suc n) gs (second_true (group_number g == n) more counts),
     )
 
--- and back
+-- the same in the other direction
 pub counted_from : (n : ℕ) (gs : List Group) → AreNumberedFrom n gs → counts_from n (map group_number gs) ≡ true
 counted_from n [] numbered = refl
 counted_from n (g ∷ gs) numbered =
     both_true (group_number g == n) (counts_from (suc n) (map group_number gs))
     (ap (λ m. m == n) numbered.0 ∙ equals_itself n) (counted_from (suc n) gs numbered.1)
 
--- the numbers of these groups are 0, and behind it those of these revisions, perhaps with a gap
+-- the numbers of these groups are 0 and then those of these revisions, possibly with a gap
 abbrev pub CountToGap : List Group → List (List Change) → Type 0
 CountToGap gs revisions = (later : List ℕ) × (map group_number gs ≡ 0 ∷ later)
     × (count_to_gap 1 later revisions ≡ true)
 
--- groups that are numbered on have none
+-- if the groups are numbered one by one, there is no gap
 pub counts_without : (patched : Patching) (gs : List Group) (revisions : List (List Change)) → AreNumberedFrom 0 gs
     → GroupsMake patched gs ([] ∷ revisions) → CountToGap gs revisions
 counts_without patched [] revisions numbered make = absurd make
@@ -93,7 +93,7 @@ module _ (patched : Patching) (settings : Settings) where
       let numbers = numbers_are (groups records) revisions (groups_are records).1 numbered make in
       λ i. record { first = first i; numbers = numbers i }
 
-  -- where no node names a revision behind the first dropped group, no change does
+  -- if no node names a revision after the first dropped group, no change does
   pub none_named : (gs : List Group) (revisions : List (List Change)) → AllHaveNodes gs → AreNumberedFrom 0 gs
       → GroupsMake patched gs ([] ∷ revisions) → ¬ HasNamingNodeBehind settings gs
       → names_none_behind settings (empty_rule settings) names_revision revisions ≡ true
@@ -110,7 +110,7 @@ module _ (patched : Patching) (settings : Settings) where
         × AreNewRevisions settings (IsNewProperty settings kept) (IsWrittenCopyNumber settings kept)
         (empty_rule settings) revisions written
 
-    -- without renumbering the groups that are read again may have one, where no revision is named behind it
+    -- without renumbering, the groups that are read again may have a gap, if no revision after it is named
     pub counts_with : settings.renumber ≡ false → (IsNumber : NewNumber) (gs again : List Group)
         (revisions written : List (List Change)) → AllRevisions gs → AllHaveNodes gs → AreNumberedFrom 0 gs
         → GroupsMake patched gs ([] ∷ revisions) → AreGroupsAgain settings kept gs again
@@ -128,7 +128,7 @@ module _ (patched : Patching) (settings : Settings) where
               rest revisions written revs.1 are.1 numbered.1 make.1 reads made.1 new none,
         )
 
-    -- the groups that are read again, where the first one has the number 0 and no nodes
+    -- the groups that are read again, if the first one has the number 0 and no nodes
     pub revisions_change : (gs again : List Group) (revisions : List (List Change)) → AllHaveNodes gs
         → AreNumberedFrom 0 gs → GroupsMake patched gs ([] ∷ revisions) → AreGroupsAgain settings kept gs again
         → LeavesRevisions revisions again

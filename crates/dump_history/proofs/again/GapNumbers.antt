@@ -1,4 +1,4 @@
--- The numbers of the groups that are read again where some were dropped, and the others have their own.
+-- The numbers of the groups that are read again, if some groups were dropped and the others have their own numbers.
 use Rattle.dump_history.proofs.Prelude.{◌≡◌, suc, ◌<◌, ◌==◌, Bool, true, map, cond, refl, sym, ap, ◌∙◌, subst, arith, MatchBool, and_from, or_left, or_right, lt-ltb, equals_itself, Settings, KeptRevisions, Group, group_number, keeps_group, Change, NewProperty, KeepsEntries, NewNumber, AreNewChanges, keeps_revision, AreNewRevisions, names_none, names_none_behind, Patching, names_revision, name_no_revision, go_up, count_to_gap}
 use Rattle.std.proofs.Common.{ℕ, false, List, [], ◌∷◌, nat_lt}
 use Rattle.dump_history.proofs.again.GroupsAgain.{IsGroupAgain, AreGroupsAgain}
@@ -8,7 +8,7 @@ use Rattle.dump_history.proofs.again.PlainAgain.{revisions_plain}
 
 -- numbers of groups
 
--- groups that are numbered on have no gap
+-- groups that are numbered one by one have no gap
 pub no_gap : (patched : Patching) (n : ℕ) (gs : List Group) (revisions : List (List Change))
     → AreNumberedFrom n gs → GroupsMake patched gs revisions
     → count_to_gap n (map group_number gs) revisions ≡ true
@@ -18,7 +18,7 @@ no_gap patched n (g ∷ gs) (changes ∷ revisions) numbered make =
     or_left _ _ (and_from (group_number g == n) _ (ap (λ m. m == n) numbered.0 ∙ equals_itself n)
     (no_gap patched (suc n) gs revisions numbered.1 make.1))
 
--- groups whose numbers go up, and which name no revision, are a gap
+-- groups whose numbers rise, and which name no revision, may follow a gap
 plain_gap : (patched : Patching) (n : ℕ) (gs : List Group) (revisions : List (List Change))
     → go_up n (map group_number gs) ≡ true → name_no_revision revisions ≡ true → GroupsMake patched gs revisions
     → count_to_gap n (map group_number gs) revisions ≡ true
@@ -28,7 +28,7 @@ plain_gap patched n (g ∷ gs) (changes ∷ revisions) up plain make =
     or_right _ _ (and_from _ (name_no_revision (changes ∷ revisions)) up plain)
 
 module _ (settings : Settings) (kept : KeptRevisions) (stays : settings.renumber ≡ false) where
-  -- the numbers of kept groups go up
+  -- the numbers of kept groups rise
   up_again : (m n : ℕ) → m < n → (gs again : List Group) → AllRevisions gs → AreNumberedFrom n gs
       → AreGroupsAgain settings kept gs again → go_up m (map group_number again) ≡ true
   up_again m n below [] again revs numbered none = ap (λ (l : List Group). go_up m (map group_number l)) none
@@ -53,7 +53,7 @@ module _ (settings : Settings) (kept : KeptRevisions) (stays : settings.renumber
       by_kept false reads later = later m again (omega arith) reads
 
   module _ (patched : Patching) (IsNew : NewProperty) (entries : KeepsEntries IsNew) (IsNumber : NewNumber) where
-    -- where no revision is named behind the first dropped group, they count up to a gap
+    -- if no revision after the first dropped group is named, the numbers go up to a gap
     pub gap_again : (n : ℕ) (gs again : List Group) (revisions written : List (List Change)) → AllRevisions gs
         → AllHaveNodes gs → AreNumberedFrom (suc n) gs → GroupsMake patched gs revisions
         → AreGroupsAgain settings kept gs again → GroupsMake patched again written

@@ -1,4 +1,4 @@
--- The changes of the groups that are read again: those that the filter leaves of the dump's changes.
+-- The changes of the groups that are read again are what the filter leaves of the dump's changes.
 use Rattle.dump_history.proofs.Prelude.{◌≡◌, suc, ◌==◌, Bool, true, ◌&&◌, ◌||◌, length, refl, sym, ap, ◌∙◌, subst, arith, MatchBool, AllZip, list_all, list_any, first_true, second_true, DumpRecord, Settings, keeps_path, KeptRevisions, is_node, is_kept_node, node_path, Group, group_number, has_kept_node, is_bare, keeps_empty, keeps_group, IsNewProperty, IsWrittenCopyNumber, keeps, Change, AreNewChanges, EmptyRule, keeps_revision, AreNewRevisions, keeps_text, Patching, MakesChange}
 use Rattle.std.proofs.Common.{ℕ, false, List, [], ◌∷◌}
 use Rattle.dump_history.proofs.again.NodeChanges.{change_path, node_makes_new_change}
@@ -12,7 +12,7 @@ AllMake patched nodes changes = AllZip (MakesChange patched) nodes changes
 abbrev pub GroupsMake : Patching → List Group → List (List Change) → Type 0
 GroupsMake patched gs revisions = AllZip (λ (g : Group) changes. AllMake patched g.nodes changes) gs revisions
 
--- which revisions without a kept change the options keep
+-- the rule of the options for revisions without a kept change
 abbrev pub empty_rule : Settings → EmptyRule
 empty_rule settings changes = keeps_empty settings.empty (length changes == 0)
 
@@ -20,7 +20,7 @@ empty_rule settings changes = keeps_empty settings.empty (length changes == 0)
 abbrev pub HasNodes : Group → Type 0
 HasNodes g = list_all is_node g.nodes ≡ true
 
--- the nodes of each of the groups are
+-- the nodes of each group are nodes
 abbrev pub AllHaveNodes : List Group → Type 0
 AllHaveNodes [] = Unit {0}
 AllHaveNodes (g ∷ gs) = HasNodes g × AllHaveNodes gs
@@ -30,12 +30,12 @@ abbrev pub AreNumberedFrom : ℕ → List Group → Type 0
 AreNumberedFrom n [] = Unit {0}
 AreNumberedFrom n (g ∷ gs) = (group_number g ≡ n) × AreNumberedFrom (suc n) gs
 
--- a number behind another isn't 0
+-- a number after another number isn't 0
 pub later_number : (m n : ℕ) → m ≡ suc n → (m == 0) ≡ false
 later_number m n is = grind (arith, is)
 
 module _ (patched : Patching) (settings : Settings) where
-  -- a node is kept where its change is
+  -- a node is kept exactly if its change is
   pub kept_node : (r : DumpRecord) (c : Change) → is_node r ≡ true → MakesChange patched r c
       → is_kept_node settings r ≡ keeps settings c.path
   kept_node r c node change =
@@ -43,7 +43,7 @@ module _ (patched : Patching) (settings : Settings) where
       ap (λ b. b && keeps_path settings (node_path r)) node ∙ sym path
       ∙ ap (keeps settings) (sym (change_path patched r c change))
 
-  -- a group of nodes has a kept node where a change is kept
+  -- a group of nodes has a kept node exactly if a change is kept
   kept_nodes : (nodes : List DumpRecord) (changes : List Change) → list_all is_node nodes ≡ true
       → AllMake patched nodes changes
       → list_any (is_kept_node settings) nodes ≡ list_any (λ (c : Change). keeps settings c.path) changes
@@ -54,7 +54,7 @@ module _ (patched : Patching) (settings : Settings) where
       λ i. kept_node r c (first_true (is_node r) (list_all is_node nodes) are) make.0 i
       || kept_nodes nodes changes (second_true (is_node r) (list_all is_node nodes) are) make.1 i
 
-  -- nodes are as many as their changes
+  -- there are as many nodes as changes
   as_many : (nodes : List DumpRecord) (changes : List Change) → AllMake patched nodes changes
       → length nodes ≡ length changes
   as_many [] [] make = refl
@@ -62,7 +62,7 @@ module _ (patched : Patching) (settings : Settings) where
   as_many (r ∷ nodes) [] make = absurd make
   as_many (r ∷ nodes) (c ∷ changes) make = ap suc (as_many nodes changes make.1)
 
-  -- a group of a number above 0 is kept where its revision is
+  -- a group with a number above 0 is kept exactly if its revision is
   pub kept_group : (g : Group) (changes : List Change) → (group_number g == 0) ≡ false → HasNodes g
       → AllMake patched g.nodes changes → keeps_group settings g ≡ keeps_revision settings (empty_rule settings) changes
   kept_group g changes later are make =

@@ -1,16 +1,16 @@
--- The numbers of the groups that are read again: 0, 1, 2 and so on, as those of the dump are.
+-- The numbers of the groups that are read again are 0, 1, 2 and so on, as those of the dump are.
 use Rattle.dump_history.proofs.Prelude.{◌≡◌, suc, ◌+◌, ◌<◌, Bool, true, ◌++◌, length, map, count_by, refl, sym, ap, ap₂, ◌∙◌, subst, arith, append_assoc, if◌then◌else◌, MatchBool, AllZip, list_all, and_from, lt-ltb, first_true, second_true, Property, Settings, KeptRevisions, new_number, is_revision_record, HasPropertyList, Group, group_number, is_padded, keeps_group, revision_properties, written_number, Change, kept_from, length_push, AreBelow, AreAbove, below_next, below_pushed, all_counted, KeepsProperties, Patching}
 use Rattle.std.proofs.Common.{ℕ, false, List, [], ◌∷◌, filter, nat_lt}
 use Rattle.dump_history.proofs.again.GroupsAgain.{IsGroupAgain, AreGroupsAgain}
 use Rattle.dump_history.proofs.again.GroupChanges.{GroupsMake, empty_rule, AllHaveNodes, AreNumberedFrom, kept_group, later_number}
 
--- the groups' revisions are revisions
+-- the revision record of each group is a revision record
 abbrev pub AllRevisions : List Group → Type 0
 AllRevisions [] = Unit {0}
 AllRevisions (g ∷ gs) = (is_revision_record g.revision ≡ true) × AllRevisions gs
 
 module _ (settings : Settings) where
-  -- the numbers of the kept ones of these groups
+  -- the numbers of the kept groups
   abbrev pub kept_numbers : List Group → List ℕ
   kept_numbers gs = map group_number (filter (keeps_group settings) gs)
 
@@ -19,7 +19,7 @@ module _ (settings : Settings) where
   kept_first g gs true is = rw is refl
   kept_first g gs false is = rw is refl
 
-  -- the kept numbers of groups above 0 are those of their revisions
+  -- the kept numbers of groups with numbers above 0 are those of their revisions
   pub kept_numbers_are : (patched : Patching) (n : ℕ) (gs : List Group) (revisions : List (List Change))
       → AllHaveNodes gs
       → AreNumberedFrom (suc n) gs → GroupsMake patched gs revisions
@@ -59,8 +59,8 @@ module _ (settings : Settings) where
     own_number stays g h rev read = number_again g h rev read
         ∙ ap (λ b. if b then new_number kept (group_number g) else group_number g) stays
 
-    -- with renumbering: the groups that are read again are numbered on from the dump's first number, and the count of
-    -- the kept ones before them
+    -- with renumbering, the first group that is read again has the dump's first number plus the number of groups kept
+    -- before it, and the others follow one by one
     pub renumbered_again : settings.renumber ≡ true → (first : ℕ) → kept.first ≡ first → (n : ℕ) (earlier : List ℕ)
         (gs again : List Group)
         → kept.numbers ≡ earlier ++ kept_numbers gs → AreBelow n earlier → AllRevisions gs → AreNumberedFrom n gs
@@ -107,7 +107,7 @@ module _ (settings : Settings) where
             later earlier (at ∙ ap (λ ks. earlier ++ ks) (kept_first g gs false drop), below_next n earlier below)
             again reads
 
-    -- without: where none is dropped, they have their own numbers
+    -- without renumbering: if no group is dropped, the groups have their own numbers
     pub same_again : settings.renumber ≡ false → (n : ℕ) (gs again : List Group)
         → list_all (keeps_group settings) gs ≡ true → AllRevisions gs → AreNumberedFrom n gs
         → AreGroupsAgain settings kept gs again → AreNumberedFrom n again

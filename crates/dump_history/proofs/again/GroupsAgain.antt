@@ -3,11 +3,11 @@ use Rattle.dump_history.proofs.Prelude.{◌≡◌, ◌==◌, Bool, true, ◌&&�
 use Rattle.std.proofs.Common.{ℕ, false, List, [], ◌∷◌}
 
 module _ (settings : Settings) (kept : KeptRevisions) where
-  -- what is written of a record is read again so
+  -- the second record is what is written of the first one, read again
   abbrev pub IsAgain : DumpRecord → DumpRecord → Type 0
   IsAgain r s = (after : List DumpRecord) × (front : List ℕ) × IsReadAgain settings kept r after front s
 
-  -- of these nodes the kept ones are read again so
+  -- the second nodes are what is written of the kept nodes, read again
   abbrev pub AreNodesAgain : List DumpRecord → List DumpRecord → Type 0
   AreNodesAgain [] again = again ≡ []
   AreNodesAgain (r ∷ nodes) again =
@@ -15,7 +15,7 @@ module _ (settings : Settings) (kept : KeptRevisions) where
       ((s : DumpRecord) × (rest : List DumpRecord) × (again ≡ s ∷ rest) × IsAgain r s × AreNodesAgain nodes rest)
       (AreNodesAgain nodes again)
 
-  -- what is written of a kept group is read again as this group
+  -- the second group is what is written of the kept first group, read again
   pub record IsGroupAgain (g h : Group) : Type 0 where
     pub after : List DumpRecord
     pub whole : group_of g.revision after ≡ g
@@ -23,7 +23,7 @@ module _ (settings : Settings) (kept : KeptRevisions) where
     pub revision : IsReadAgain settings kept g.revision after front h.revision
     pub nodes : AreNodesAgain g.nodes h.nodes
 
-  -- of these groups the kept ones are read again so
+  -- the second groups are what is written of the kept groups, read again
   abbrev pub AreGroupsAgain : List Group → List Group → Type 0
   AreGroupsAgain [] again = again ≡ []
   AreGroupsAgain (g ∷ gs) again =
@@ -31,24 +31,24 @@ module _ (settings : Settings) (kept : KeptRevisions) where
       ((h : Group) × (rest : List Group) × (again ≡ h ∷ rest) × IsGroupAgain g h × AreGroupsAgain gs rest)
       (AreGroupsAgain gs again)
 
-  -- the nodes that stand first
+  -- the nodes at the beginning of the records
 
   node_first : (s : DumpRecord) (more : List DumpRecord) (b : Bool) → is_node s ≡ b
       → take_while is_node (s ∷ more) ≡ (if b then s ∷ take_while is_node more else [])
   node_first s more b is = take_while-cons is_node s more
       ∙ ap (λ c. if c then s ∷ take_while is_node more else []) is
 
-  -- whether one of the nodes that stand first is kept
+  -- whether one of the nodes at the beginning is kept
   abbrev pub keeps_first : List DumpRecord → Bool
   keeps_first records = list_any (is_kept_node settings) (take_while is_node records)
 
-  -- a node that stands first, or one behind it
+  -- a node at the beginning is kept, or one after it
   pub keeps_first-node : (r : DumpRecord) (records : List DumpRecord) (b : Bool) → is_node r ≡ b
       → keeps_first (r ∷ records) ≡ (if b then is_kept_node settings r || keeps_first records else false)
   keeps_first-node r records true is = ap (list_any (is_kept_node settings)) (node_first r records true is)
   keeps_first-node r records false is = ap (list_any (is_kept_node settings)) (node_first r records false is)
 
-  -- when a record is written
+  -- whether a record is written
 
   is_written-revision : (r : DumpRecord) (after : List DumpRecord) → is_revision_record r ≡ true
       → is_written settings true r after ≡ keeps_group settings (group_of r after)
@@ -69,9 +69,9 @@ module _ (settings : Settings) (kept : KeptRevisions) where
       (first_false ((group_number g == 0) || has_kept_node settings g)
       (keeps_empty settings.empty (is_bare g)) dropped)
 
-  -- that no node stands first where none is kept
+  -- no node is at the beginning if none is kept
 
-  -- where a record isn't written, none of the nodes behind it that stand first is kept, if it is no node itself
+  -- if a record that is no node isn't written, none of the nodes that directly follow it is kept
   pub dropped_behind : (r : DumpRecord) (after : List DumpRecord) → is_node r ≡ false
       → is_written settings true r after ≡ false → keeps_first after ≡ false
   dropped_behind r after no_node dropped = cases (is_revision_record r) refl
@@ -83,13 +83,13 @@ module _ (settings : Settings) (kept : KeptRevisions) where
           is_written-other r after other ∙ ap (λ b. if b then is_kept_node settings r else true) no_node in
           absurd (absurd_bool (is_written settings true r after) written dropped)
 
-  -- a node is written where it is kept
+  -- a node is written if it is kept
   pub node_written : (r : DumpRecord) (after : List DumpRecord) (number : ℕ) → is_lawful number r.headers ≡ true
       → is_node r ≡ true → is_written settings true r after ≡ is_kept_node settings r
   node_written r after number lawful node = is_written-other r after (alone number r lawful node)
       ∙ ap (λ b. if b then is_kept_node settings r else true) node
 
-  -- what is read again of a record that is written or not, and of those behind it
+  -- what is read again of a record, written or not, and of the records after it
   abbrev pub Reads : DumpRecord → List DumpRecord → List ℕ → List ℕ → List DumpRecord → Bool → Type 0
   Reads r after front rest again written =
       MatchBool written
@@ -124,7 +124,7 @@ module _ (settings : Settings) (kept : KeptRevisions) where
   LaterNodes text records = (again : List DumpRecord) → AreReadAgain settings kept records text again
       → AreNodesAgain (take_while is_node records) (take_while is_node again)
 
-  -- the nodes that stand first are those that stood first, without those that aren't kept
+  -- the nodes at the beginning are the earlier ones without those that aren't kept
   nodes_again : (records : List DumpRecord) (text : List ℕ) (again : List DumpRecord) → AllLawful records
       → AreReadAgain settings kept records text again
       → AreNodesAgain (take_while is_node records) (take_while is_node again)

@@ -1,11 +1,11 @@
--- A change that names a revision is that of a node that does.
+-- A change that names a revision is the change of a node that names one.
 use Rattle.dump_history.proofs.Prelude.{◌≡◌, suc, Bool, true, not, ◌&&◌, None, if◌then◌else◌, cond, Contains, IsTrue, MatchBool, refl, ap, ◌∙◌, inl, inr, arith, list_all, list_any, or_cases, and_parts, and_cases, not-false, true_from_ne_false, Contains-append_right, Property, property_length_name, has_header, first_true, second_true, DumpRecord, has_prop_delta, Settings, is_copy, is_node, is_kept_node, is_mergeinfo, Group, group_number, keeps_group, keeps, Made, is_copied, PropertyChange, Change, names_kept, names_none, names_none_behind, Patching, makes, made_by_kind, made_of, copied_from, property_change_of, MakesChange, entries_of, sets_mergeinfo, names_revision, NamesRevision, HasNamingNode, HasNamingNodeBehind}
 use Rattle.std.proofs.Common.{ℕ, false, List, [], ◌∷◌, Some}
 use Rattle.dump_history.proofs.again.NodeChanges.{node_change, change_is}
 use Rattle.dump_history.proofs.again.GroupChanges.{AllMake, GroupsMake, empty_rule, AllHaveNodes, AreNumberedFrom, kept_node, kept_group, later_number}
 
 module _ (patched : Patching) (settings : Settings) where
-  -- what a node makes is copied where it makes a copy
+  -- if what a node makes is copied, the node is a copy
   copy_made : (r : DumpRecord) → is_copied (made_of r) ≡ true → (makes r && is_copy r) ≡ true
   copy_made r = cases (makes r) (is_copy r)
     where
@@ -23,7 +23,7 @@ module _ (patched : Patching) (settings : Settings) where
           by_kind false true copied = copied
           by_kind false false copied = copied
 
-  -- the entries that it sets are those of its block
+  -- the entries that the change sets are those of the node's block
   merge_set : (r : DumpRecord) (ps : List Property)
       → list_any is_mergeinfo (entries_of (property_change_of r ps)) ≡ true → list_any is_mergeinfo ps ≡ true
   merge_set r ps = cases (has_header property_length_name r.headers) (has_prop_delta r)
@@ -48,7 +48,7 @@ module _ (patched : Patching) (settings : Settings) where
   abbrev NamingNode : List DumpRecord → Type 0
   NamingNode nodes = (r : DumpRecord) × Contains nodes r × IsTrue (is_kept_node settings r) × NamesRevision r
 
-  -- a kept change of a group that names a revision is that of a kept node that does
+  -- a kept change of a group that names a revision is the change of a kept node that names one
   naming_node_of : (nodes : List DumpRecord) (changes : List Change) → list_all is_node nodes ≡ true
       → AllMake patched nodes changes → names_kept settings names_revision changes ≡ true → NamingNode nodes
   naming_node_of [] [] are make names = absurd (let bad : false ≡ true = names in cc)
@@ -67,7 +67,7 @@ module _ (patched : Patching) (settings : Settings) where
             (s, Contains-append_right (r ∷ []) nodes s within, kept, naming))
       ]
 
-  -- so of all groups
+  -- the same for all groups
   naming_node_of_groups : (gs : List Group) (revisions : List (List Change)) → AllHaveNodes gs → GroupsMake patched gs revisions
       → names_none settings names_revision revisions ≡ false → HasNamingNode settings gs
   naming_node_of_groups [] [] are make named = absurd (let bad : true ≡ false = named in cc)
@@ -82,7 +82,7 @@ module _ (patched : Patching) (settings : Settings) where
             (h, r, Contains-append_right (g ∷ []) gs h there, within, kept, naming))
       ]
 
-  -- and of those behind the first dropped one
+  -- the same for the nodes after the first dropped group
   naming_node_behind : (n : ℕ) (gs : List Group) (revisions : List (List Change)) → AllHaveNodes gs
       → AreNumberedFrom (suc n) gs → GroupsMake patched gs revisions
       → names_none_behind settings (empty_rule settings) names_revision revisions ≡ false
@@ -106,7 +106,7 @@ module _ (patched : Patching) (settings : Settings) where
       by_kept true named later = later named
       by_kept false named later = naming_node_of_groups gs revisions are.1 make.1 named
 
-  -- so where no node names a revision behind the first dropped group, no change does
+  -- so if no node names a revision after the first dropped group, no change does
   pub none_named_behind : (n : ℕ) (gs : List Group) (revisions : List (List Change)) → AllHaveNodes gs
       → AreNumberedFrom (suc n) gs → GroupsMake patched gs revisions → ¬ HasNamingNodeBehind settings gs
       → names_none_behind settings (empty_rule settings) names_revision revisions ≡ true

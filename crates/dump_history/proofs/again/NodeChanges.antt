@@ -3,11 +3,11 @@ use Rattle.dump_history.proofs.Prelude.{◌≡◌, Bool, true, not, ◌&&◌, �
 use Rattle.std.proofs.Common.{ℕ, false, List, [], ◌∷◌, codes, Some}
 use Rattle.dump_history.proofs.again.NodeLines.{value_stays, text_there, props_there, plain_stays, HasNewSource, new_source, short_stays}
 
--- whether no zero byte stands in the property's name
+-- whether the property's name contains no zero byte
 abbrev is_plain_property : Property → Bool
 is_plain_property p = not (has_byte 0 p.name)
 
--- the names of properties stay as they were
+-- the names of properties don't change
 plain_names : (settings : Settings) (kept : KeptRevisions) (ps qs : List Property)
     → AreNewProperties settings kept ps qs
     → list_all is_plain_property qs ≡ list_all is_plain_property ps
@@ -17,7 +17,7 @@ plain_names settings kept (p ∷ ps) [] all = absurd all
 plain_names settings kept (p ∷ ps) (q ∷ qs) all =
     λ i. not (has_byte 0 (all.0.0 i)) && plain_names settings kept ps qs all.1 i
 
--- what is written of a property keeps its name, and has a value where it had one
+-- what is written of a property keeps its name, and has a value if the property had one
 pub entries_kept : (settings : Settings) (kept : KeptRevisions) → KeepsEntries (IsNewProperty settings kept)
 entries_kept settings kept old new is = (is.0, by_case (is_mergeinfo old) refl is.1)
   where
@@ -29,7 +29,7 @@ entries_kept settings kept old new is = (is.0, by_case (is_mergeinfo old) refl i
         ∙ sym (second_true (bytes_eq old.name mergeinfo_name) (is_some old.value) tells)
     by_case false tells same = ap (λ (o : Option (List ℕ)). is_some o) same
 
--- whether a change is made of the node
+-- whether the node makes a change
 abbrev pub makes_change : DumpRecord → Bool
 makes_change r = has_known_action r && not (has_odd_delta r)
 
@@ -43,7 +43,7 @@ node_change patched r ps = record {
   text = text_change_of patched r;
 }
 
--- the change that a node makes, and that it makes one
+-- a node makes a change, and this is the change
 pub change_is : (patched : Patching) (r : DumpRecord) (ps : List Property) (c : Change)
     → change_of patched r ps ≡ Some c
     → (makes_change r ≡ true) × (node_change patched r ps ≡ c)
@@ -62,7 +62,7 @@ pub change_path : (patched : Patching) (r : DumpRecord) (c : Change) → MakesCh
     → c.path ≡ path_of (node_path r)
 change_path patched r c (ps, list, plain, is) = ap (λ (d : Change). d.path) (sym (change_is patched r ps c is).1)
 
--- a node makes one change
+-- a node makes only one change
 pub change_once : (patched : Patching) (r : DumpRecord) (c d : Change) → MakesChange patched r c
     → MakesChange patched r d → c ≡ d
 change_once patched r c d (ps, list, plain, is) (qs, other, plain_too, also) =
@@ -133,7 +133,7 @@ module _ (patched : Patching) (settings : Settings) (kept : KeptRevisions) (r s 
       (ap is_short same_path ∙ second_true (lines && names) (is_short (node_path r)) three))
       (short_stays settings kept r s a (second_true (lines && names && is_short (node_path r)) source is))
 
-  -- what is made
+  -- what a node makes, and what the node that is read again makes
 
   abbrev IsMadeAgain : Option Made → Option Made → Type 0
   IsMadeAgain old new = IsNewMade settings (IsWrittenCopyNumber settings kept)
@@ -155,7 +155,7 @@ module _ (patched : Patching) (settings : Settings) (kept : KeptRevisions) (r s 
       (second_true (is_copy r) (not (keeps_path settings (copy_path r)))
       (first_true (has_lost_source settings r) (is_whole_file r) plain))
 
-  -- made of a kind, new from old
+  -- the new node makes what the old one makes, by its kind
   same_kind_made : (o : Option Made) → made_by_kind r ≡ o → IsMadeAgain o o
   same_kind_made o is = by_case (tells (header_value node_kind_name r.headers) (codes "dir"))
       (tells (header_value node_kind_name r.headers) (codes "file")) is

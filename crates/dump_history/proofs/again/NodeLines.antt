@@ -3,8 +3,8 @@ use Rattle.dump_history.proofs.Prelude.{◌≡◌, Bool, true, ◌||◌, length,
 use Rattle.std.proofs.Common.{ℕ, false, List, [], Some}
 use Rattle.dump_history.proofs.again.RecordLines.{plain_put, plain_gone, plain_lengths, spelled_plain, lengths_have}
 
--- a node r that becomes a plain one, one that stays a copy, and one that is none: what holds of the lines in each of
--- these cases holds of them
+-- a node r becomes a plain one, stays a copy, or is no copy: what is true of the lines in each of these cases is true
+-- of them
 by_new_copy : (P : List Header → Type 0) (settings : Settings) (kept : KeptRevisions) (r : DumpRecord)
     → (becomes_plain settings r ≡ true → P (without_copy_headers r.headers))
     → ((number n : ℕ) → becomes_plain settings r ≡ false → is_copy r ≡ true
@@ -26,7 +26,7 @@ by_new_copy P settings kept r plain renumbered same mid copy =
         subst P (sym lines) (renumbered number n is copies read written)
     by_plain false is false copies lines = subst P (sym lines) (same is copies)
 
--- whether the filter may write another line of this name in a node, or leave it out
+-- whether the filter may write another line of this name in a node, or omit it
 abbrev pub is_rewritten : List ℕ → Bool
 is_rewritten name = is_copy_line name || (bytes_eq copy_revision_name name || is_length_name name)
 
@@ -34,11 +34,11 @@ module _ (settings : Settings) (kept : KeptRevisions) (r s : DumpRecord) (a : Is
   abbrev props : List ℕ
   props = new_block false r a.new
 
-  -- what is so of the lines with their lengths is so of the node's
+  -- what is true of the lines with their lengths is true of the node's lines
   on_lines : (P : List Header → Type 0) → P (with_lengths props r.text a.mid) → P s.headers
   on_lines P is = subst P (sym a.lines) is
 
-  -- a line of another name than those of the copy source stays where that source changes
+  -- a change of the copy source doesn't change a line with another name
   mid_value : (name : List ℕ) → is_copy_line name ≡ false → bytes_eq copy_revision_name name ≡ false
       → header_value name a.mid ≡ header_value name r.headers
   mid_value name other apart =
@@ -70,12 +70,12 @@ module _ (settings : Settings) (kept : KeptRevisions) (r s : DumpRecord) (a : Is
   mid_has name other apart = sym (has_value name a.mid) ∙ ap is_some (mid_value name other apart)
       ∙ has_value name r.headers
 
-  -- there is a text where there was one
+  -- there is a text exactly if there was one
   pub text_there : has_text s ≡ has_text r
   text_there = on_lines (λ lines. has_header text_length_name lines ≡ has_header text_length_name r.headers)
       (text_stays props r.text a.mid a.small ∙ mid_has text_length_name refl refl)
 
-  -- there are properties where there were
+  -- there are properties exactly if there were some
   pub props_there : has_header property_length_name s.headers ≡ has_header property_length_name r.headers
   props_there = on_lines (λ lines. has_header property_length_name lines ≡ has_header property_length_name r.headers)
       (by_case (has_header property_length_name r.headers) refl)
@@ -91,7 +91,7 @@ module _ (settings : Settings) (kept : KeptRevisions) (r s : DumpRecord) (a : Is
           let empty : length props ≡ 0 = ap (λ b. length (if b then property_block_text a.new else [])) is in
           props_stay props r.text a.mid a.small empty (before ∙ is) ∙ sym is
 
-  -- no zero byte came into the lines
+  -- the lines still have no zero byte
   pub plain_stays : list_all is_plain_line r.headers ≡ true → list_all is_plain_line s.headers ≡ true
   plain_stays all = on_lines (λ lines. list_all is_plain_line lines ≡ true)
       (plain_lengths props r.text a.small a.mid
@@ -107,8 +107,8 @@ module _ (settings : Settings) (kept : KeptRevisions) (r s : DumpRecord) (a : Is
   late_has : (name : List ℕ) → is_length_name name ≡ false → has_header name s.headers ≡ has_header name a.mid
   late_has name other = sym (has_value name s.headers) ∙ ap is_some (late_value name other) ∙ has_value name a.mid
 
-  -- what is left of the copy source: nothing where the node becomes a plain one, its path and the written number where
-  -- it stays a copy, and nothing where there was none
+  -- what remains of the copy source. If the node becomes a plain one, or had no source, nothing remains. If it stays a
+  -- copy, its path and the written number remain.
   abbrev pub HasNewSource : Bool → Bool → Type 0
   HasNewSource plain copies =
       MatchBool plain (is_copy s ≡ false)
@@ -118,7 +118,7 @@ module _ (settings : Settings) (kept : KeptRevisions) (r s : DumpRecord) (a : Is
       × (header_number copy_revision_name s.headers ≡ Some n) × (is_copy s ≡ true) × (copy_path s ≡ copy_path r))
       (is_copy s ≡ false))
 
-  -- the copy source of the node that is read again, by what becomes of the old one
+  -- the copy source of the node that is read again, from what becomes of the old one
   pub new_source : HasNewSource (becomes_plain settings r) (is_copy r)
   new_source = by_plain (becomes_plain settings r) (is_copy r) refl a.new_copy
     where
@@ -149,7 +149,7 @@ module _ (settings : Settings) (kept : KeptRevisions) (r s : DumpRecord) (a : Is
           )
       by_plain false false is lines = late_has copy_path_name refl ∙ ap (has_header copy_path_name) lines ∙ is
 
-  -- the copy source's path stays in its short form
+  -- the path of the copy source is still in short form
   pub short_stays : is_short (copy_path r) ≡ true → is_short (copy_path s) ≡ true
   short_stays short = by_source (becomes_plain settings r) (is_copy r) new_source
     where

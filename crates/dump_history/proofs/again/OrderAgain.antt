@@ -1,10 +1,10 @@
--- The records that are read again are in order: their nodes stand in revisions.
+-- The records that are read again are in order: their nodes are in revisions.
 use Rattle.dump_history.proofs.Prelude.{◌≡◌, Bool, true, not, ◌||◌, refl, sym, ap, ◌∙◌, subst, or-true, first_true, second_true, both_true, absurd_bool, DumpRecord, Settings, KeptRevisions, is_revision_record, is_node, is_written, AllLawful, AreReadAgain, has_ordered_nodes}
 use Rattle.std.proofs.Common.{ℕ, false, List, [], ◌∷◌}
 use Rattle.dump_history.proofs.again.GroupsAgain.{Reads, keeps_first, keeps_first-node, dropped_behind, node_written}
 
 module _ (settings : Settings) (kept : KeptRevisions) where
-  -- where no node may follow, none of those that stand first is kept: there are none
+  -- if no node may follow, no node at the beginning is kept, since there is none
   pub none_behind : (records : List DumpRecord) → has_ordered_nodes false records ≡ true
       → keeps_first settings kept records ≡ false
   none_behind [] fine = refl
@@ -16,7 +16,8 @@ module _ (settings : Settings) (kept : KeptRevisions) where
           (rw node refl))
       cases false other = keeps_first-node settings kept r records false other
 
-  -- where a node may follow if one does, the records that are read again are in order if the dump's are
+  -- the records that are read again are in order if the dump's are, and a node may follow them if it may follow the
+  -- dump's
   pub order_again : (may_follow may_again : Bool) (records : List DumpRecord) (text : List ℕ) (again : List DumpRecord)
       → AllLawful records → has_ordered_nodes may_follow records ≡ true
       → (keeps_first settings kept records ≡ true → may_again ≡ true)

@@ -26,7 +26,7 @@ module _ (settings : Settings) (IsNew : NewProperty) (entries : KeepsEntries IsN
   same_sets (Some (PropertyChange.Edited old)) (Some (PropertyChange.Replaced new)) is = absurd is
   same_sets (Some (PropertyChange.Edited old)) (Some (PropertyChange.Edited new)) is = same_merges old new is
 
-  -- what isn't copied isn't a copy afterwards
+  -- what isn't a copy doesn't become one
   still_plain : (whole : Bool) (old new : Option Made) → IsNewMade settings IsNumber whole old new
       → is_copied old ≡ false → is_copied new ≡ false
   still_plain whole None None is plain = refl
@@ -68,7 +68,7 @@ module _ (settings : Settings) (IsNew : NewProperty) (entries : KeepsEntries IsN
           ∙ or_from (names_revision new) (list_any names_revision rest) (change_plain c new is none) (later rest more)
       cases false none more later = later written more
 
-  -- and all revisions
+  -- all revisions
   pub revisions_plain : (rule : EmptyRule) (revisions written : List (List Change))
       → AreNewRevisions settings IsNew IsNumber rule revisions written
       → names_none settings names_revision revisions ≡ true → name_no_revision written ≡ true

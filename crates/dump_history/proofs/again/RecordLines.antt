@@ -59,7 +59,7 @@ plain_length name n plain_name small headers all = by_case (has_header name head
     by_case false true = all
     by_case false false = joined
 
--- where the copy source is left out, no zero byte comes in
+-- without the lines of the copy source, there still is no zero byte
 pub plain_gone : (headers : List Header) → list_all is_plain_line headers ≡ true
     → list_all is_plain_line (without_copy_headers headers) ≡ true
 plain_gone [] all = refl
@@ -72,7 +72,7 @@ plain_gone (h ∷ headers) all = by_case (is_copy_line h.name) refl
     by_case false is more =
         rw (is, first_true (is_plain_line h) (list_all is_plain_line headers) all) more
 
--- the lines with the lengths of a content have no zero byte where they had none
+-- the lines with the lengths of a content have no zero byte if the lines before had none
 pub plain_lengths : (props text : List ℕ) → length props + length text < 10 ^ 18 → (headers : List Header)
     → list_all is_plain_line headers ≡ true → list_all is_plain_line (with_lengths props text headers) ≡ true
 plain_lengths props text small headers all =
@@ -84,7 +84,7 @@ plain_lengths props text small headers all =
     (with_header_value text_length_name (spelled_number (length text))
     (with_length property_length_name (length props) headers)) two
 
--- a line that stands there
+-- a line that the record has
 
 length_has : (name other : List ℕ) (n : ℕ) (headers : List Header) → has_header name headers ≡ true
     → has_header name (with_length other n headers) ≡ true
@@ -100,7 +100,7 @@ length_has name other n headers has = by_case (has_header other headers) (n == 0
     by_case false true = has
     by_case false false = list_any-append (is_named name) headers (line ∷ []) ∙ rw has refl
 
--- new lengths take no line away
+-- new lengths remove no line
 pub lengths_have : (name props text : List ℕ) (headers : List Header) → has_header name headers ≡ true
     → has_header name (with_lengths props text headers) ≡ true
 lengths_have name props text headers has =

@@ -1,4 +1,4 @@
--- Copies over what their revision changed: what is written has one only where the dump does.
+-- Copies over what their revision changed: what is written has such a copy only if the dump does.
 use Rattle.dump_history.proofs.Prelude.{◌≡◌, true, refl, sym, ap, ◌∙◌, subst, inl, inr, ◌⊎◌, not, ◌&&◌, ◌||◌, is_some, append-nil, map, both_ways, and_parts, and_from, or_cases, or_left, or_right, MatchBool-at_false, Exclude, Settings, NodePath, keeps, Made, is_copied, Change, PropertyChange, NewProperty, NewNumber, IsNewChange, IsNewMade, EmptyRule, AreNewChanges, AreNewRevisions, keeps_revision}
 use Rattle.std.proofs.Common.{Bool, false, List, [], ◌∷◌, ◌++◌, Option, Some, None}
 use Rattle.std.specs.List.{All}
@@ -15,7 +15,7 @@ use Rattle.dump_history.specs.CopiesOver.{copies_over_changed, copies_to, is_cha
 use Rattle.dump_history.specs.TrimmedDumps.{changes_behind, revisions_with}
 use Rattle.dump_history.specs.WrittenNodes.{WrittenNode, written_change}
 
--- what is changed after a change is so too if more was changed before
+-- what is changed after a change is changed too if more was changed before it
 still_changed : (o : Option NodePath) (c : Change) (fewer more : Bool) → (fewer ≡ true → more ≡ true)
     → is_changed_after o c fewer ≡ true → is_changed_after o c more ≡ true
 still_changed None c fewer more less is = less is
@@ -44,7 +44,7 @@ copies_at (Some (name ∷ rest)) c is = absurd (let bad : false ≡ true = is in
 
 -- what is written of a change
 
--- something is made where something was
+-- something is made exactly if something was made before
 both_made : (settings : Settings) (IsNumber : NewNumber) (whole : Bool) (old new : Option Made)
     → IsNewMade settings IsNumber whole old new → is_some new ≡ is_some old
 both_made settings IsNumber whole None None is = refl
@@ -54,7 +54,7 @@ both_made settings IsNumber whole (Some Made.NewFile) None is = absurd is
 both_made settings IsNumber whole (Some (Made.Copied number source)) None is = absurd is
 both_made settings IsNumber whole (Some m) (Some n) is = refl
 
--- and a copy only where one was
+-- and a copy is made only if one was made before
 copied_before : (settings : Settings) (IsNumber : NewNumber) (whole : Bool) (old new : Option Made)
     → IsNewMade settings IsNumber whole old new → is_copied new ≡ true → is_copied old ≡ true
 copied_before settings IsNumber whole old None is copied = absurd (let bad : false ≡ true = copied in cc)
@@ -65,7 +65,7 @@ copied_before settings IsNumber whole (Some Made.NewFolder) (Some (Made.Copied n
 copied_before settings IsNumber whole (Some Made.NewFile) (Some (Made.Copied number source)) is copied = absurd is
 copied_before settings IsNumber whole (Some (Made.Copied old from)) (Some (Made.Copied number source)) is copied = refl
 
--- properties are set where they were
+-- properties are set exactly if they were set before
 props_alike : (IsNew : NewProperty) (old new : Option PropertyChange) → AreNewProps IsNew old new
     → sets_props new ≡ sets_props old
 props_alike IsNew None None is = refl
@@ -138,7 +138,7 @@ module _ (settings : Settings) (IsNew : NewProperty) (IsNumber : NewNumber) wher
           (subst (λ l. copies_over_changed path changed l ≡ true) is over))
       cases later false left = later written (MatchBool-at_false _ _ left new) changed over
 
-  -- where prefixes are excluded, what is above a kept path is kept: a change that isn't written did nothing there
+  -- if prefixes are excluded, what is above a kept path is kept, so a change that isn't written did nothing there
   module _ (side : settings.side ≡ Exclude) (path : NodePath) (kept : keeps settings path ≡ true) where
     left_apart : (top : NodePath) → keeps settings top ≡ false → below top path ≡ None
     left_apart top left = cases (below top path) refl
@@ -193,7 +193,7 @@ module _ (settings : Settings) (IsNew : NewProperty) (IsNumber : NewNumber) wher
             (sym (left_apart c.path left))
             (later written (MatchBool-at_false _ _ left new) changed over))
 
-  -- so a revision that is written has such a copy only where the dump has one
+  -- so a revision that is written has such a copy only if the dump has one
   pub written_over : (rule : EmptyRule) → settings.side ≡ Exclude → (path : NodePath)
       (revisions written : List (List Change)) → AreNewRevisions settings IsNew IsNumber rule revisions written
       → some_copies_over path written ≡ true → some_copies_over path revisions ≡ true
@@ -227,31 +227,31 @@ module _ (settings : Settings) (IsNew : NewProperty) (IsNumber : NewNumber) wher
           or_right (copies_over_changed path false changes) (some_copies_over path revisions)
           (later written (MatchBool-at_false _ _ left new) over)
 
--- deletions behind changes
+-- deletions after changes
 
 -- a change that only deletes
 abbrev pub IsDeletion : Change → Type 0
 IsDeletion d = (path : NodePath) × (d ≡ deletion_of path)
 
--- nodes that make such changes
+-- nodes that make such changes only
 abbrev pub Delete : List WrittenNode → Type 0
 Delete nodes = All IsDeletion (map written_change nodes)
 
--- nothing is changed after it that wasn't before
+-- a deletion changes nothing that wasn't changed before
 deleted_before : (top : NodePath) (o : Option NodePath) (changed : Bool)
     → is_changed_after o (deletion_of top) changed ≡ true → changed ≡ true
 deleted_before top None changed is = is
 deleted_before top (Some []) changed is = absurd (let bad : false ≡ true = is in cc)
 deleted_before top (Some (name ∷ rest)) changed is = (and_parts changed false is).0
 
--- and it copies nothing
+-- a deletion copies nothing
 copies_none : (top : NodePath) (o : Option NodePath) → copies_to o (deletion_of top) ≡ true → ⊥
 copies_none top None is = let bad : false ≡ true = is in cc
 copies_none top (Some []) is = let bad : false ≡ true = is in cc
 copies_none top (Some (name ∷ rest)) is = let bad : false ≡ true = is in cc
 
 module _ (path : NodePath) where
-  -- what is copied over behind deletions was changed before them
+  -- what a copy after deletions is over was changed before them
   behind_deletions : (deletions rest : List Change) → All IsDeletion deletions → (changed : Bool)
       → copies_over_changed path changed (deletions ++ rest) ≡ true
       → (still : Bool) × (still ≡ true → changed ≡ true) × (copies_over_changed path still rest ≡ true)
@@ -280,7 +280,7 @@ module _ (path : NodePath) where
           let (still, less, over_still) = later (is_changed_after (below top path) (deletion_of top) changed) there in
           (still, λ is. deleted_before top (below top path) changed (less is), over_still)
 
-  -- so behind each change
+  -- the same after each change
   changes_without : (behind : List (List WrittenNode)) (changes : List Change) → All Delete behind
       → (fewer more : Bool) → (fewer ≡ true → more ≡ true)
       → copies_over_changed path fewer (changes_behind behind changes) ≡ true
@@ -312,7 +312,7 @@ module _ (path : NodePath) where
           (later still (is_changed_after (below c.path path) c more)
           (λ is. still_changed (below c.path path) c fewer more less (before is)) over_still)
 
-  -- so for each revision
+  -- the same for each revision
   pub over_without : (groups : List (List (List WrittenNode))) (written : List (List Change)) → All (All Delete) groups
       → some_copies_over path (revisions_with groups written) ≡ true → some_copies_over path written ≡ true
   over_without [] written deletes over = absurd (let bad : false ≡ true = over in cc)

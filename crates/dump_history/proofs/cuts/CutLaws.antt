@@ -32,7 +32,7 @@ module _ (patched : Patching) (settings : Settings) (dump filtered : List ℕ) (
       f.expands f.clean.whole) in
       (loads, properties)
 
-  -- what is written loads over the root alone, and has the restricted trees
+  -- what is written loads over the root, and has the restricted trees
   pub excluded_loads : settings.side ≡ Exclude → leaves_no_gap settings ≡ true
       → LoadsNew patched settings (TreeRestricts settings again) again trees filtered
   excluded_loads side no_gap =
@@ -58,7 +58,7 @@ module _ (patched : Patching) (settings : Settings) (dump filtered : List ℕ) (
       )
 
   module _ (pad : settings.empty ≡ Pad) (preserve : settings.preserve ≡ true) where
-    -- as many groups as trees
+    -- there are as many groups as trees
     groups_count : length (groups again) ≡ length trees
     groups_count =
         zip_length (MakeChanges patched) (groups again) ([] ∷ made_in_stead records f.steads revisions)
@@ -79,7 +79,7 @@ module _ (patched : Patching) (settings : Settings) (dump filtered : List ℕ) (
         (numbered_from 0 (groups again) expansion_loads.0.makes.numbered) number
         (subst (λ n. number < n) (sym groups_count) (slice_get_within trees number tree at))
 
-    -- where no revision is dropped or padded, each has its own number, and its properties
+    -- if no revision is dropped or padded, each has its own number and its properties
     pub numbered_loads : (Relates : TreeRelation) → LoadsNew patched settings Relates again trees filtered
         → LoadsNumbered patched Relates records trees filtered
     numbered_loads Relates (text, written, others, has, loads, size, images, properties) = (

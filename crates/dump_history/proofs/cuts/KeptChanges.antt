@@ -1,4 +1,4 @@
--- What is written of a dump, where no record is replaced, comes of its kept changes.
+-- What is written of a dump comes from its kept changes, if no record is replaced.
 use Rattle.dump_history.proofs.Prelude.{◌≡◌, true, refl, sym, ap, subst, inl, append-nil, or_left, or_right, drop, slice_get, MatchBool-at_false, Contains, Property, DumpRecord, Settings, KeptRevisions, kept_revisions, IsNewProperty, keeps, NodePath, Tree, root_alone, Made, Change, NewProperty, NewNumber, EmptyRule, AreNewRevisions, keeps_revision, IsWrittenNumber, Patching}
 use Rattle.std.proofs.Common.{ℕ, Bool, false, List, [], ◌∷◌, ◌++◌, Option, Some, None, map, option_and_then}
 use Rattle.std.specs.List.{All}
@@ -30,7 +30,7 @@ deletions_delete top [] = All-nil IsDeletion
 deletions_delete top (rest ∷ rests) =
     All-cons IsDeletion (deletion_of (top ++ rest)) (deletions top rests) (top ++ rest, refl) (deletions_delete top rests)
 
--- the nodes behind changes delete
+-- the nodes after changes delete
 module _ (settings : Settings) where
   trimming_deletes : (history : History) (before after : Tree) (changes : List Change) (behind : List (List WrittenNode))
       → AreTrimming settings history before changes behind → steps history before changes ≡ Some after
@@ -102,7 +102,7 @@ module _ (settings : Settings) where
           (later t rest (further t is) loads))
       sides later (Some t) is loads false left = later t groups (MatchBool-at_false _ _ left trims t is) loads
 
--- a kept change comes of itself
+-- a kept change comes from itself
 module _ (settings : Settings) (revisions : List (List Change)) where
   own_set : (changes : List Change) (c : Change) → Contains revisions changes → Contains changes c
       → keeps settings c.path ≡ true → ComesOfKept settings revisions IsSameProperty IsSameNumber c
@@ -131,7 +131,7 @@ module _ (settings : Settings) (revisions : List (List Change)) where
       (λ changes among. All-weaker (Contains changes) IsKeptSet (λ c there. own_set changes c among there) changes
       (All-contains_itself changes)) revisions (All-contains_itself revisions)
 
-  -- a deletion comes of nothing
+  -- a deletion comes from nothing
   module _ (IsNew : NewProperty) (IsNumber : NewNumber) where
     abbrev Comes : Change → Type 0
     Comes d = ComesOfKept settings revisions IsNew IsNumber d
@@ -146,7 +146,7 @@ module _ (settings : Settings) (revisions : List (List Change)) where
     deletion_is : (d : Change) → IsDeletion d → Comes d
     deletion_is d (path, is) = subst Comes (sym is) (deletion_comes path)
 
-    -- so do changes with deletions behind them
+    -- changes with deletions after them come from kept changes too
     behind_come : (behind : List (List WrittenNode)) (changes : List Change) → All Delete behind → All Comes changes
         → All Comes (changes_behind behind changes)
     behind_come [] changes deletes come = All-nil Comes
@@ -202,7 +202,7 @@ module _ (patched : Patching) (settings : Settings) (dump filtered : List ℕ) (
         λ side path over. written_over settings IsNew _ _ side path revisions left.written left.new over,
       )
 
-  -- with nodes behind its records that delete
+  -- with nodes after its records that delete
   pub trimmed_come : (again : List DumpRecord) (behind : List (List WrittenNode)) (text : List ℕ)
       → HasRecords filtered again Ending.Whole → IsTrimmedText again behind text
       → All (All Delete) (drop 1 (part_groups again behind))

@@ -1,4 +1,4 @@
--- What is filtered names kept paths alone.
+-- What is filtered names kept paths only.
 use Rattle.dump_history.proofs.Prelude.{◌≡◌, Bool, true, not, refl, ap, ◌∙◌, both_true, list_all, MatchBool-at_false, keeps, keeps_revision, Settings, Made, Change, NewProperty, NewNumber, IsNewMade, EmptyRule, AreNewChanges, AreNewRevisions}
 use Rattle.std.proofs.Common.{false, List, [], ◌∷◌, Option, Some, None}
 use Rattle.std.proofs.lemmas.Bool.{MatchBool-at_true}
@@ -19,7 +19,7 @@ module _ (settings : Settings) (IsNew : NewProperty) (IsNumber : NewNumber) wher
   source_kept whole (Some (Made.Copied number source)) (Some (Made.Copied written same)) is =
       ap (λ b. not (not b)) (ap (keeps settings) is.2 ∙ is.0)
 
-  -- of the changes of a revision
+  -- the changes of a revision
   changes_tell : (changes written : List Change) → AreNewChanges settings IsNew IsNumber changes written
       → list_all (tells_kept_paths settings) written ≡ true
   changes_tell [] written none = ap (list_all (tells_kept_paths settings)) none
@@ -39,7 +39,7 @@ module _ (settings : Settings) (IsNew : NewProperty) (IsNumber : NewNumber) wher
           (later rest more)
       sides later false left = later written (MatchBool-at_false _ _ left are)
 
-  -- and of each revision
+  -- the changes of each revision
   revisions_tell : (rule : EmptyRule) (revisions written : List (List Change))
       → AreNewRevisions settings IsNew IsNumber rule revisions written
       → list_all (λ changes. list_all (tells_kept_paths settings) changes) written ≡ true

@@ -1,4 +1,4 @@
--- Where no revision is dropped, each has its own number.
+-- If no revision is dropped, each has its own number.
 use Rattle.dump_history.proofs.Prelude.{◌≡◌, zero, suc, ◌+◌, ◌<◌, ◌==◌, Bool, true, ◌||◌, ◌++◌, length, map, refl, sym, ap, ◌∙◌, subst, arith, append_assoc, cond, slice_get, MatchBool, AllZip, list_all, and_from, lt-ltb, or_left, or_right, Pad, DropEmptied, DropAll, Property, DumpRecord, Settings, KeptRevisions, image, HasPropertyList, property_list_once, Group, groups, group_number, has_kept_node, is_bare, is_padded, keeps_empty, keeps_group, kept_revisions, revision_properties, length_push, AreBelow, AreAbove, below_pushed, KeepsProperties, HasNamingNode, HasNamingNodeBehind, KeepsNamedNumbers, keeps_numbering}
 use Rattle.std.proofs.Common.{ℕ, false, not, ◌&&◌, List, [], ◌∷◌, Some, filter, nat_lt}
 use Rattle.dump_rules.specs.declared.options.Empty.{Empty}
@@ -19,7 +19,7 @@ pad_is DropEmptied is = absurd (let bad : false ≡ true = is in cc)
 pad_is DropAll is = absurd (let bad : false ≡ true = is in cc)
 
 module _ (settings : Settings) (pad : settings.empty ≡ Pad) where
-  -- where empty revisions are padded, each is kept
+  -- if empty revisions are padded, each revision is kept
   all_kept : (g : Group) → keeps_group settings g ≡ true
   all_kept g = ap (λ e. group_number g == 0 || has_kept_node settings g || keeps_empty e (is_bare g)) pad
       ∙ or_ends (group_number g == 0) (has_kept_node settings g)
@@ -69,7 +69,7 @@ above_numbers a n (g ∷ gs) numbered low =
     (ap (nat_lt a) numbered.0 ∙ lt-ltb a n low) (above_numbers a (suc n) gs numbered.1 (omega (arith, low)))
 
 module _ (kept : KeptRevisions) (zero_first : kept.first ≡ 0) where
-  -- where the kept numbers are all numbers, each is its own image
+  -- if the kept numbers are all numbers, each is its own image
   own_from : (n : ℕ) (earlier : List ℕ) (gs : List Group) → kept.numbers ≡ earlier ++ map group_number gs
       → AreBelow n earlier → length earlier ≡ n → AreNumberedFrom n gs → (k : ℕ) → k < length gs
       → image kept (n + k) ≡ Some (n + k)
@@ -103,7 +103,7 @@ own_images settings pad records zero_first numbered k low =
 
 -- lists
 
--- two lists of one length, whose elements at one place are related
+-- two lists of the same length, whose elements at each index are related
 pub zip_from_gets : {A B : Type 0} (R : A → B → Type 0) (xs : List A) (ys : List B) → length xs ≡ length ys
     → ((n : ℕ) (x : A) → slice_get xs n ≡ Some x → (y : B) × (slice_get ys n ≡ Some y) × R x y) → AllZip R xs ys
 zip_from_gets R [] [] size gets = tt
@@ -126,7 +126,7 @@ zip_length R (x ∷ xs) (y ∷ ys) all = ap suc (zip_length R xs ys all.1)
 
 -- properties
 
--- where no revision is padded, each has its properties
+-- if no revision is padded, each has its properties
 pub same_properties : (settings : Settings) → settings.preserve ≡ true → (gs hs : List Group)
     → AllZip (KeepsProperties settings) gs hs → (props : List (List Property))
     → AllZip (λ (g : Group) ps. HasPropertyList g.revision ps) gs props

@@ -24,7 +24,7 @@ at_false : (A B : Type 0) (b : Bool) → b ≡ false → B → MatchBool b A B
 at_false A B b is a = subst (λ c. MatchBool c A B) (sym is) a
 
 module _ (settings : Settings) (IsNew : NewProperty) (IsNumber : NewNumber) where
-  -- of the changes of a revision
+  -- the changes of a revision
   changes_trimmed : (history : History) (changes new : List Change) (behind : List (List WrittenNode)) (before : Tree)
       → AreNewChanges settings IsNew IsNumber changes new → AreTrimming settings history before changes behind
       → AreTrimmedChanges settings IsNew IsNumber history before changes (changes_behind behind new)
@@ -56,7 +56,7 @@ module _ (settings : Settings) (IsNew : NewProperty) (IsNumber : NewNumber) wher
           at_false _ _ (keeps settings c.path) left (λ after at. later new behind after (MatchBool-at_false _ _ left are)
           (MatchBool-at_false _ _ left trims after at))
 
-  -- of revisions
+  -- the revisions
   revisions_trimmed : (revisions written : List (List Change)) (behind : List (List (List WrittenNode)))
       (trees : List Tree) (youngest : Tree)
       → AreNewRevisions settings IsNew IsNumber (stays_empty settings) revisions written

@@ -27,7 +27,7 @@ at_true A B b is a = subst (λ c. MatchBool c A B) (sym is) a
 at_false : (A B : Type 0) (b : Bool) → b ≡ false → B → MatchBool b A B
 at_false A B b is a = subst (λ c. MatchBool c A B) (sym is) a
 
--- what is written of changes, where numbers stay
+-- what is written of changes, if the numbers don't change
 
 module _ (settings : Settings) (kept : KeptRevisions) (stays : settings.renumber ≡ false) where
   own_made : (whole : Bool) (old new : Option Made) → IsNewMade settings (IsWrittenNumber settings kept) whole old new
@@ -59,7 +59,7 @@ module _ (settings : Settings) (kept : KeptRevisions) (stays : settings.renumber
   }
 
   module _ (IsNew : NewProperty) where
-    -- of the changes of a revision
+    -- the changes of a revision
     changes_trimmed : (history : History) (changes new : List Change) (behind : List (List WrittenNode)) (before : Tree)
         → AreNewChanges settings IsNew (IsWrittenNumber settings kept) changes new
         → AreTrimming settings history before changes behind
@@ -93,7 +93,7 @@ module _ (settings : Settings) (kept : KeptRevisions) (stays : settings.renumber
             at_false _ _ (keeps settings c.path) left (λ after at. later new behind after (MatchBool-at_false _ _ left are)
             (MatchBool-at_false _ _ left trims after at))
 
-    -- of revisions, each of which stays
+    -- the revisions, if each stays
     revisions_trimmed : (rule : EmptyRule) → ((changes : List Change) → rule changes ≡ true)
         → (revisions written : List (List Change)) (behind : List (List (List WrittenNode))) (trees : List Tree)
         (youngest : Tree)
@@ -154,7 +154,7 @@ trimmed_dump_loads patched settings dump records revisions trees text f side pad
     no_gap : leaves_no_gap settings ≡ true
     no_gap = or_right settings.renumber (is_pad settings.empty) (ap is_pad pad)
 
--- under options that keep everything
+-- with options that keep everything
 
 pub each_branch_is_cut_alike : EachBranchIsCutAlike
 each_branch_is_cut_alike path source branch = (refl, refl, λ rest node at. refl)

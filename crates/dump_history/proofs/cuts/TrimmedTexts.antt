@@ -1,4 +1,4 @@
--- Records with nodes behind them: their text is a dump, which makes their changes and those of the nodes.
+-- Records with nodes after them: their text is a dump, which makes their changes and those of the nodes.
 use Rattle.dump_history.proofs.Prelude.{◌≡◌, Bool, true, not, ◌||◌, ◌++◌, drop, map, refl, sym, ap, ◌∙◌, subst, arith, take_while, AllZip, if◌then◌else◌, list_all, take_while-cons, or-true, first_true, second_true, both_true, not_so, absurd_bool, Ending, HasRecords, IsCutInto, DumpRecord, is_node, is_revision_record, has_header, alone, Group, group_of, groups, has_ordered_nodes, Change, Patching, MakesChange, MakeChanges, counts_from}
 use Rattle.std.proofs.Common.{ℕ, false, List, [], ◌∷◌}
 use Rattle.dump_records.specs.DumpText.{HaveVersions, line_feeds}
@@ -12,13 +12,13 @@ use Rattle.dump_history.proofs.expanded.StandLemmas.{AllNodes, take_nodes, group
 use Rattle.dump_history.proofs.expanded.TextLemmas.{Joined, put_one, joins_behind, both_fit, AllUnder, nodes_under, some_same}
 use Rattle.dump_history.proofs.expanded.SteadLemmas.{all_same_make, both_make, nodes_make}
 
--- the nodes behind a record
+-- the nodes after a record
 
 can_all : (r : DumpRecord) (nodes : List WrittenNode) → may_stand_behind r nodes ≡ true → list_all can_be_written nodes ≡ true
 can_all r [] may = refl
 can_all r (w ∷ nodes) may = second_true (is_node r) (list_all can_be_written (w ∷ nodes)) may
 
--- behind a record that is no node there are none
+-- after a record that is no node there are none
 none_behind : (r : DumpRecord) (nodes : List WrittenNode) → is_node r ≡ false → may_stand_behind r nodes ≡ true → nodes ≡ []
 none_behind r [] other may = refl
 none_behind r (w ∷ nodes) other may =
@@ -40,7 +40,7 @@ nodes_versions : (place version : ℕ) (nodes : List WrittenNode) → AllUnder v
 nodes_versions place version [] = tt
 nodes_versions place version (w ∷ nodes) = (refl, nodes_versions place version nodes)
 
--- which nodes may stand behind the records
+-- which nodes may follow the records
 abbrev MayStandBehind : List DumpRecord → List (List WrittenNode) → Type 0
 MayStandBehind records behind = AllZip (λ r nodes. may_stand_behind r nodes ≡ true) records behind
 
@@ -104,7 +104,7 @@ trimmed_is_dump dump text front (r ∷ records) (nodes ∷ behind) lfs has may i
 
 -- the same records at other places
 
--- the nodes with which they begin
+-- the nodes at the beginning of the records
 same_take : (xs ys : List DumpRecord) → AllZip IsSameRecord xs ys
     → AllZip IsSameRecord (take_while is_node xs) (take_while is_node ys)
 same_take [] [] same = tt
@@ -176,7 +176,7 @@ same_groups_make patched (x ∷ xs) (y ∷ ys) revisions (one, same) make =
     )
     cases false revisions make later = later revisions make
 
--- the records with the nodes behind them
+-- the records with the nodes after them
 
 -- their revisions are the same
 behind_revisions : (records : List DumpRecord) (behind : List (List WrittenNode)) → AllFit records
@@ -228,7 +228,7 @@ behind_ordered may_node (r ∷ records) (nodes ∷ behind) (one, may) order =
         ∙ more
 
 module _ (patched : Patching) where
-  -- the nodes with which they begin make the changes
+  -- the nodes at the beginning of the records make the changes
   first_make : (records : List DumpRecord) (behind : List (List WrittenNode)) (changes : List Change)
       → MayStandBehind records behind → AllZip (MakesChange patched) (take_while is_node records) changes
       → AllZip (MakesChange patched) (take_while is_node (records_behind records behind))
@@ -266,7 +266,7 @@ module _ (patched : Patching) where
       )
       cases false changes make more = tt
 
-  -- and so do those of each revision
+  -- the nodes of each revision make its changes
   behind_make : (records : List DumpRecord) (behind : List (List WrittenNode)) (revisions : List (List Change))
       → AllFit records → MayStandBehind records behind → AllZip (MakeChanges patched) (groups records) revisions
       → AllZip (MakeChanges patched) (groups (records_behind records behind))
@@ -283,7 +283,7 @@ module _ (patched : Patching) where
       later_groups = groups_behind (map (node_record r.place r.version) nodes) (records_behind records behind)
           (nodes_are r.place r.version nodes)
 
-      -- behind a revision stand no nodes of these
+      -- none of these nodes is after a revision
       no_nodes : is_revision_record r ≡ true → later ≡ records_behind records behind
       no_nodes rev =
           ap (λ (ns : List WrittenNode). map (node_record r.place r.version) ns ++ records_behind records behind)
@@ -310,7 +310,7 @@ module _ (patched : Patching) where
           subst (λ gs. AllZip (MakeChanges patched) gs (revisions_with (part_groups records behind) revisions))
           (sym later_groups) (more revisions make)
 
-  -- behind revision 0, which has no changes
+  -- after revision 0, which has no changes
   later_make : (gs hs : List Group) (behind : List (List (List WrittenNode))) (revisions : List (List Change))
       → HaveSameRevisions gs hs → AllZip (MakeChanges patched) gs ([] ∷ revisions)
       → AllZip (MakeChanges patched) hs (revisions_with behind ([] ∷ revisions))

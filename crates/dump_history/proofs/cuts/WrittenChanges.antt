@@ -1,4 +1,4 @@
--- What the filter writes of changes comes of the kept changes that these come of.
+-- What the filter writes of changes comes from the kept changes from which these come.
 use Rattle.dump_history.proofs.Prelude.{◌≡◌, true, refl, sym, ◌∙◌, subst, MatchBool-at_false, Property, Settings, keeps, NodePath, Made, PropertyChange, Change, NewProperty, NewNumber, AreNewProps, EmptyRule, AreNewChanges, AreNewRevisions, keeps_revision, AllZip}
 use Rattle.std.proofs.Common.{ℕ, Bool, false, List, [], ◌∷◌, Option, Some, None}
 use Rattle.std.specs.List.{All}
@@ -18,7 +18,7 @@ abbrev IsSet : Settings → List (List Change) → Property → Type 0
 IsSet settings revisions p = SomeKeptDoes settings revisions (SetsProperty p)
 
 module _ (settings : Settings) (revisions : List (List Change)) (IsNew : NewProperty) (IsNumber : NewNumber) where
-  -- an entry that is written is one that was set so
+  -- an entry that is written is an entry that was set
   zip_set : (olds news : List Property) → AllZip IsNew olds news
       → All (λ new. (old : Property) × IsSameProperty old new × IsSet settings revisions old) olds
       → All (λ new. (old : Property) × IsNew old new × IsSet settings revisions old) news

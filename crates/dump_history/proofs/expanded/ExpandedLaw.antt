@@ -52,7 +52,7 @@ filtered_expansion_restricts patched settings dump expansion text records steads
     expanded_dump_loads patched settings dump records steads again revisions expanded trees has loads is in
     filtered_dump_restricts patched settings expansion text again expanded trees clean fit keeps loads_again apart
 
--- so it has behind the given folders
+-- the same after the parent directories
 pub filtered_expansion_restricts_behind : FilteredExpansionRestrictsBehindFolders
 filtered_expansion_restricts_behind patched settings dump expansion text records steads again revisions expanded trees
     has loads is clean fit keeps =

@@ -1,4 +1,4 @@
--- What is left of a node, and the nodes that stand before it: they are nodes, break no rule, and make their changes.
+-- What remains of a node, and the nodes before it: they are nodes, break no rule, and make their changes.
 use Rattle.dump_history.proofs.Prelude.{◌≡◌, ◌+◌, ◌==◌, Bool, true, not, ◌&&◌, ◌||◌, ◌++◌, length, refl, sym, ap, ◌∙◌, subst, lit<, if◌then◌else◌, list_all, list_any, bytes_eq, Option, None, is_some, unwrap_or, option_and_then, number_of, header_number, first_true, second_true, both_true, first_false, second_false, not_so, or-true, has_byte, has_header, header_value, has_value, path_name, action_name, property_length_name, text_length_name, content_length_name, prop_delta_name, text_delta_name, node_kind_name, copy_path_name, copy_revision_name, is_block, IsCutInto, property_length, text_length, BeginsWithRecord, DumpRecord, record_text, is_lawful, Property, HasPropertyList, is_node, is_revision_record, is_copy, node_path, copy_path, is_copy_line, gone, put_has, put_own, put_change, alone, is_short, path_of, Made, PropertyChange, TextChange, Change, Patching, MakesChange, change_of, made_of, makes, copied_from, made_by_kind, is_plain_line, has_plain_texts}
 use Rattle.std.proofs.Common.{ℕ, false, List, [], ◌∷◌, Some, codes, is_none}
 use Rattle.std.proofs.Math.Bool.{and-false}
@@ -24,7 +24,7 @@ pub record IsNode (s : DumpRecord) : Type 0 where
   pub no_revision : is_revision_record s ≡ false
   pub no_version : has_header version_name s.headers ≡ false
 
--- a lawful node is one
+-- a lawful node is such a node
 pub lawful_node : (number : ℕ) (r : DumpRecord) → is_lawful number r.headers ≡ true → is_node r ≡ true → IsNode r
 lawful_node number r lawful node = record {
   node = node;
@@ -34,7 +34,7 @@ lawful_node number r lawful node = record {
       (ap (λ b. is_revision_record r || b) node ∙ or-true (is_revision_record r))).0;
 }
 
--- a written node is one
+-- a written node is such a node
 pub written_node : (place version : ℕ) (w : WrittenNode) → IsNode (node_record place version w)
 written_node place version (WrittenNode.Deletion path) =
     record { node = refl; no_revision = refl; no_version = refl }
@@ -53,7 +53,7 @@ written_node place version (WrittenNode.File replaces path entries text (Some md
 
 -- rules
 
--- what a record of a dump says of itself
+-- the rules that each record of a dump keeps
 pub record Fits (r : DumpRecord) : Type 0 where
   pub number : ℕ
   pub block : is_block r.headers ≡ true
@@ -61,7 +61,7 @@ pub record Fits (r : DumpRecord) : Type 0 where
   pub props_fit : length r.props ≡ property_length r.headers
   pub text_fits : length r.text ≡ text_length r.headers
 
--- so do all of them
+-- all of these records keep the rules
 abbrev pub AllFit : List DumpRecord → Type 0
 AllFit [] = Unit {0}
 AllFit (r ∷ records) = Fits r × AllFit records
@@ -75,7 +75,7 @@ fits_at number text after r b = record {
   text_fits = b.text_fits;
 }
 
--- the records that a text is cut into do
+-- the records into which a text is split keep the rules
 pub all_fit : (number place : ℕ) (text rest : List ℕ) (records : List DumpRecord)
     → IsCutInto number place text records rest → AllFit records
 all_fit number place text rest [] cut = tt
@@ -84,13 +84,13 @@ all_fit number place text rest (r ∷ records) (lfs, front, after, is, at, b, mo
   all_fit (number + 1) (r.place + length (record_text r)) after rest records more,
 )
 
--- and so does a written node
+-- a written node keeps the rules
 pub written_fits : (place version : ℕ) (w : WrittenNode) → can_be_written w ≡ true → Fits (node_record place version w)
 written_fits place version w can =
     fits_at 1 (record_text (node_record place version w) ++ []) [] (node_record place version w)
     (written_nodes_are_records w 1 place version [] can (lit< tt))
 
--- lines that change under other names than those that the rules ask for
+-- a test of names that is false for each name that the rules use
 pub record IsApart (touches : List ℕ → Bool) : Type 0 where
   pub version : touches version_name ≡ false
   pub uuid : touches uuid_name ≡ false
@@ -100,7 +100,7 @@ pub record IsApart (touches : List ℕ → Bool) : Type 0 where
   pub text : touches text_length_name ≡ false
   pub content : touches content_length_name ≡ false
 
--- the new lines of a node fit where the old ones did, and the lines of its copy source are there or not, both
+-- the new lines of a node fit if the old ones did; either both lines of its copy source are there, or neither is
 module _ (r s : DumpRecord) (fits : Fits r) (node : is_node r ≡ true) (touches : List ℕ → Bool)
     (change : IsChange touches r.headers s.headers) (apart : IsApart touches)
     (copies : is_one_alone (has_header copy_revision_name s.headers) (has_header copy_path_name s.headers) ≡ false)
@@ -184,7 +184,7 @@ bare_fits r fits node = changed_fits r (without_source r) fits node is_copy_line
     (rw (gone copy_revision_name refl r.headers, gone copy_path_name refl r.headers) refl)
     (rw (gone copy_revision_name refl r.headers) refl) refl refl
 
--- a lawful node has both lines of a copy source or neither, and a number in the one
+-- a lawful node has both lines of a copy source or neither; one of them has a number
 source_lines : (r : DumpRecord) → Fits r → is_node r ≡ true
     → is_one_alone (has_header copy_revision_name r.headers) (has_header copy_path_name r.headers) ≡ false
 source_lines r fits node =
@@ -200,7 +200,7 @@ source_number r fits =
     first_false _ _ (second_false _ _ (not_so (has_bad_number r.headers)
     (unique.keeps fits.number r.headers fits.lawful).number_ok))
 
--- and so does one that replaces
+-- a node that replaces fits
 pub replacing_fits : (r : DumpRecord) → Fits r → is_node r ≡ true → Fits (as_replacement r)
 replacing_fits r fits node = changed_fits r (as_replacement r) fits node (λ name. bytes_eq action_name name)
     (put_change action_name (codes "replace") r.headers refl)
@@ -214,7 +214,7 @@ replacing_fits r fits node = changed_fits r (as_replacement r) fits node (λ nam
       (put_change action_name (codes "replace") r.headers refl).same copy_revision_name refl,
     ) (source_number r fits)) refl refl
 
--- such nodes are nodes
+-- a node without its copy source is a node
 
 pub bare_node : (r : DumpRecord) → IsNode r → IsNode (without_source r)
 bare_node r n = record {
@@ -240,7 +240,7 @@ replacing_node r n = record {
 abbrev tells : Option (List ℕ) → List ℕ → Bool
 tells o text = bytes_eq (unwrap_or o []) text
 
--- whether no zero byte stands in the names of properties
+-- whether the names of properties contain no zero byte
 abbrev plain_names : List Property → Bool
 plain_names ps = list_all (λ (p : Property). not (has_byte 0 p.name)) ps
 
@@ -345,7 +345,7 @@ module _ (patched : Patching) (r : DumpRecord) (adds : has_action (codes "add") 
   has_it : (name : List ℕ) → has_header name new.headers ≡ has_header name r.headers
   has_it name = put_has name action_name (codes "replace") r.headers
 
-  -- an action is told
+  -- the node has an action
   action_there : has_header action_name r.headers ≡ true
   action_there = by_value (header_value action_name r.headers) (has_value action_name r.headers) adds
     where
@@ -405,6 +405,6 @@ module _ (patched : Patching) (r : DumpRecord) (adds : has_action (codes "add") 
             one ∙ ap (λ (d : Change). Some d) (replaced_change ps ∙ ap (replacing true) change)),
       )
 
--- what replaces makes something
+-- a node that replaces makes something
 pub replacing_adds : (r : DumpRecord) → has_action (codes "add") r ≡ true → makes (as_replacement r) ≡ true
 replacing_adds r adds = new_makes (λ delta old. None) r adds

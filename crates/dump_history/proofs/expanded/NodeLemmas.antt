@@ -20,7 +20,7 @@ plain value is = record {
   no_zero = not_true (has_byte 0 value) (second_true (not (has_byte 10 value)) (not (has_byte 0 value)) is);
 }
 
--- a path that is told as it stands
+-- a path that is read as it is
 record IsPlainPath (path : List ℕ) : Type 0 where
   pub value : IsPlain path
   pub short : is_short path ≡ true
@@ -57,7 +57,7 @@ settings_of entries is =
       set = not_true (has_deletes entries) (second_true names (not (has_deletes entries)) is);
     }
 
--- the parts of what is asked of each node
+-- the conditions for each kind of node, one by one
 
 copy_parts : (kind : NodeKind) (number : ℕ) (source path : List ℕ)
     → can_be_written (WrittenNode.Copy kind number source path) ≡ true
@@ -81,7 +81,7 @@ folder_parts replaces path entries is =
           (second_true (is_plain_path path && are_plain_entries entries) size is),
     )
 
--- what is asked of a file
+-- the conditions for a file
 record IsPlainFile (path : List ℕ) (entries : List Property) (text : List ℕ) (md5 sha1 : Option (List ℕ))
     : Type 0 where
   pub path_is : IsPlainPath path
@@ -150,7 +150,7 @@ module _ (number place version : ℕ) (after : List ℕ) (above : 0 < number) wh
     spelled = refl;
   }
 
-  -- a length and no other are its sum
+  -- a length without a second one is the sum
   alone_is : (n : ℕ) → (n == n + 0) ≡ true
   alone_is n = grind arith
 

@@ -47,7 +47,7 @@ module _ (settings : Settings) (history : History) (c : Change) (adds : c.delete
       cases None = refl
       cases (Some t) = refl
 
-  -- it is separated where both are
+  -- it is separated if both are
   both_separate : (before middle after : Tree) → Separates settings history before (deletion_of c.path) middle
       → Separates settings history middle c after → Separates settings history before (replacing true c) after
   both_separate before middle after first second = record {
@@ -71,7 +71,7 @@ module _ (settings : Settings) (history : History) (c : Change) (adds : c.delete
           let (second, more) = later after at in
           (both_separate tree middle after first second, more)
 
-  -- so where changes lead, of which the first two are these, those lead that have it in their place
+  -- so if changes that begin with these two lead to a tree, the changes with it in their place lead there too
   replacing_expands : (before : Tree) (d : Change) (changes : List Change)
       → Expands settings history before d (deletion_of c.path ∷ c ∷ changes)
       → Expands settings history before d (replacing true c ∷ changes)

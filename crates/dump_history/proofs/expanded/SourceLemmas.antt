@@ -1,4 +1,4 @@
--- In an expanded form that loses no source the filter misses none.
+-- If an expanded form loses no source, the filter misses none.
 use Rattle.dump_history.proofs.Prelude.{map, ◌≡◌, Bool, true, not, ◌&&◌, ◌||◌, ◌++◌, refl, sym, ap, ◌∙◌, subst, take_while, AllZip, if◌then◌else◌, list_all, list_all-append, take_while-cons, first_true, second_true, both_true, absurd_bool, not_true, DumpRecord, Settings, keeps_path, is_node, is_kept_node, is_revision_record, is_copy, node_path, has_lost_source, is_whole_file, Group, group_of, groups, has_ordered_nodes, keeps, keeps_text, Change, Patching, MakesChange, MakeChanges, makes, copy_path, copied_from, made_by_kind, None, gone}
 use Rattle.std.proofs.Common.{ℕ, false, List, [], ◌∷◌, Some, codes}
 use Rattle.std.proofs.Math.Bool.{and-false}
@@ -14,7 +14,7 @@ use Rattle.dump_history.proofs.expanded.StandLemmas.{StandFor, AllStandFor, all_
 use Rattle.dump_history.proofs.expanded.ExpandedLaw.{whole_fits, expansion_makes}
 
 module _ (settings : Settings) where
-  -- whether the record isn't a node that makes nothing and tells a source
+  -- whether the record isn't a node that makes nothing but names a source
   abbrev is_free : DumpRecord → Bool
   is_free s = not (has_idle_source settings s)
 
@@ -97,11 +97,11 @@ module _ (settings : Settings) where
     abbrev finds_source : Change → Bool
     finds_source c = not (keeps settings c.path && is_lost settings c.made)
 
-    -- the node makes a change that loses none
+    -- the node makes a change that loses no source
     abbrev FindsSource : DumpRecord → Type 0
     FindsSource s = (c : Change) × MakesChange patched s c × (finds_source c ≡ true)
 
-    -- where a node may stand first, the nodes that do make changes that lose none
+    -- if a node may be at the beginning, the nodes there make changes that lose no source
     abbrev OpenFinds : Bool → List DumpRecord → Type 0
     OpenFinds may rs = may ≡ true → (changes : List Change)
         × AllZip (MakesChange patched) (take_while is_node rs) changes × (loses_none settings changes ≡ true)
@@ -111,7 +111,7 @@ module _ (settings : Settings) where
     nodes_first s after node = take_while-cons is_node s after
         ∙ ap (λ c. if c then s ∷ take_while is_node after else []) node
 
-    -- the first of some nodes makes the first change, and those behind it the others
+    -- the first of some nodes makes the first change, and the nodes after it make the others
     first_change : (s : DumpRecord) (after : List DumpRecord) (changes : List Change) → is_node s ≡ true
         → AllZip (MakesChange patched) (take_while is_node (s ∷ after)) changes → loses_none settings changes ≡ true
         → FindsSource s × ((rest : List Change) × AllZip (MakesChange patched) (take_while is_node after) rest
@@ -129,7 +129,7 @@ module _ (settings : Settings) where
           (rest, make, second_true (finds_source c) (loses_none settings rest) none),
         )
 
-    -- each node that stands in a revision of changes that lose none, makes one that loses none
+    -- each node in a revision of changes that lose no source makes a change that loses none
     each_finds : (may : Bool) (before after : List DumpRecord) (s : DumpRecord) (revisions : List (List Change))
         → has_ordered_nodes may (before ++ s ∷ after) ≡ true
         → AllZip (MakeChanges patched) (groups (before ++ s ∷ after)) revisions
@@ -184,7 +184,7 @@ module _ (settings : Settings) where
                 let (changes, first, loses) = opens (sym (ap (λ b. not b || may) is) ∙ follows) in
                 (first_change r behind changes is first loses).1
 
-    -- a kept node that makes a change that loses no source, and tells none where it makes nothing, has its source
+    -- a kept node has its source, if its change loses no source, and if it names none when it makes nothing
     source_there : (s : DumpRecord) → FindsSource s → is_free s ≡ true → is_kept_node settings s ≡ true
         → has_lost_source settings s ≡ true → ⊥
     source_there s (c, (ps, list, plain, is), finds) free keep lost = by_making (makes s) refl
@@ -213,7 +213,7 @@ module _ (settings : Settings) where
             (both_true (keeps settings c.path) (is_lost settings c.made) here there)
             (not_true (keeps settings c.path && is_lost settings c.made) finds)
 
--- where the changes lose no source, no record in an expanded form misses its own
+-- if the changes lose no source, no record in an expanded form misses its source
 none_is_missed : (patched : Patching) (settings : Settings) (records : List DumpRecord) (steads : List Stead)
     (again : List DumpRecord) (revisions : List (List Change)) → has_ordered_nodes false again ≡ true
     → AllZip (MakeChanges patched) (groups again) revisions → AllStandFor records steads again

@@ -1,4 +1,4 @@
--- What records have in common with those that stand in place of them.
+-- What records have in common with the records that replace them.
 use Rattle.dump_history.proofs.Prelude.{◌≡◌, ◌==◌, Bool, true, not, ◌&&◌, ◌||◌, ◌++◌, map, refl, sym, ap, ◌∙◌, subst, unwrap_or, take_while, AllZip, if◌then◌else◌, list_all, take_while-cons, or-true, first_true, second_true, both_true, absurd_bool, has_header, path_name, header_number, DumpRecord, Property, HasPropertyList, is_node, is_revision_record, Group, group_number, groups, makes, has_ordered_nodes}
 use Rattle.std.proofs.Common.{ℕ, false, List, [], ◌∷◌, codes}
 use Rattle.dump_text.specs.Names.{revision_name, version_name}
@@ -8,19 +8,19 @@ use Rattle.dump_history.specs.WrittenNodes.{WrittenNode, node_record, can_be_wri
 use Rattle.dump_history.specs.ExpandedDumps.{OwnForm, Stead, own_records, stead_records, expanded_records, may_be_left, may_precede, may_stand, IsSameRecord}
 use Rattle.dump_history.proofs.expanded.FormLemmas.{IsNode, lawful_node, written_node, bare_node, replacing_node, Fits, AllFit}
 
--- these records are those that stand in place of the one, which may
+-- these records replace this one, and they may
 pub record StandFor (r : DumpRecord) (stead : Stead) (again : List DumpRecord) : Type 0 where
   pub may : may_stand r stead ≡ true
   pub same : AllZip IsSameRecord (stead_records r stead) again
 
--- those in place of each, in order
+-- the records that replace each record, in order
 abbrev pub AllStandFor : List DumpRecord → List Stead → List DumpRecord → Type 0
 AllStandFor [] [] again = again ≡ []
 AllStandFor (r ∷ records) (stead ∷ steads) again = (first : List DumpRecord) × (rest : List DumpRecord)
     × (again ≡ first ++ rest) × StandFor r stead first × AllStandFor records steads rest
 AllStandFor _ _ again = ⊥
 
--- records that are the same as two lists are those that are the same as each
+-- if records are the same as two lists joined, they have two parts, each of which is the same as one of the lists
 same_parts : (xs ys again : List DumpRecord) → AllZip IsSameRecord (xs ++ ys) again
     → (first : List DumpRecord) × (rest : List DumpRecord) × (again ≡ first ++ rest)
     × AllZip IsSameRecord xs first × AllZip IsSameRecord ys rest
@@ -41,7 +41,7 @@ all_stand (r ∷ records) (stead ∷ steads) again (one, may) same =
     let (first, rest, is, here, more) = same_parts (stead_records r stead) (expanded_records records steads) again same in
     (first, rest, is, record { may = one; same = here }, all_stand records steads rest may more)
 
--- the parts of what may stand
+-- the parts of what may replace a record
 
 pub precedes : (r : DumpRecord) (stead : Stead) → may_stand r stead ≡ true → may_precede r stead.nodes ≡ true
 precedes r stead may = first_true (may_precede r stead.nodes) (may_be_left r stead.own) may
@@ -49,7 +49,7 @@ precedes r stead may = first_true (may_precede r stead.nodes) (may_be_left r ste
 pub is_left : (r : DumpRecord) (stead : Stead) → may_stand r stead ≡ true → may_be_left r stead.own ≡ true
 is_left r stead may = second_true (may_precede r stead.nodes) (may_be_left r stead.own) may
 
--- what stands in place of a record that is no node
+-- what replaces a record that is no node
 
 pub other_records : (r : DumpRecord) (stead : Stead) → is_node r ≡ false → may_stand r stead ≡ true
     → stead_records r stead ≡ r ∷ []
@@ -80,7 +80,7 @@ other_stands r stead first other stand =
     alone (s ∷ []) (one, same) = (s, refl, one)
     alone (s ∷ t ∷ more) (one, same) = absurd same
 
--- what stands in place of a node are nodes
+-- what replaces a node consists of nodes
 
 -- each of the records is a node
 abbrev pub AllNodes : List DumpRecord → Type 0
@@ -142,7 +142,7 @@ pub nodes_order : (first rest : List DumpRecord) → AllNodes first → has_orde
 nodes_order [] rest all order = order
 nodes_order (s ∷ first) rest (one, all) order = rw (one.node, one.no_revision) (nodes_order first rest all order)
 
--- each of the records is a node or none, and fits
+-- a record that fits and is a node is such a node
 pub node_of : (r : DumpRecord) → Fits r → is_node r ≡ true → IsNode r
 node_of r fits node = lawful_node fits.number r fits.lawful node
 
@@ -152,7 +152,7 @@ node_of r fits node = lawful_node fits.number r fits.lawful node
 abbrev pub HaveSameRevisions : List Group → List Group → Type 0
 HaveSameRevisions gs hs = AllZip (λ (g : Group) (h : Group). IsSameRecord g.revision h.revision) gs hs
 
--- where records stand in place of others, the same revisions do
+-- if records replace others, the revisions are the same
 pub same_revisions : (records : List DumpRecord) (steads : List Stead) (again : List DumpRecord) → AllFit records
     → AllStandFor records steads again → HaveSameRevisions (groups records) (groups again)
 same_revisions [] [] again fit none = subst (λ (l : List DumpRecord). HaveSameRevisions [] (groups l)) (sym none) tt
@@ -205,7 +205,7 @@ same_properties (g ∷ gs) (h ∷ hs) (ps ∷ props) (one, more) (here, have) =
 
 -- order
 
--- where a node may follow, or not, records that stand in place of ordered ones are ordered
+-- if records replace records in order, they are in order too, whether or not a node may follow
 pub same_order : (may : Bool) (records : List DumpRecord) (steads : List Stead) (again : List DumpRecord)
     → AllFit records → AllStandFor records steads again → has_ordered_nodes may records ≡ true
     → has_ordered_nodes may again ≡ true

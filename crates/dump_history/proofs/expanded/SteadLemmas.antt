@@ -1,4 +1,4 @@
--- The changes that are made in place of a dump's are those of the records that stand in place of its records.
+-- The changes that replace a dump's changes are those of the records that replace its records.
 use Rattle.dump_history.proofs.Prelude.{◌≡◌, Bool, true, not, ◌++◌, drop, map, refl, sym, ap, ◌∙◌, subst, take_while, AllZip, if◌then◌else◌, list_all, take_while-cons, first_true, second_true, absurd_bool, not_so, not_true, has_header, path_name, change_of, has_plain_texts, DumpRecord, is_node, is_revision_record, alone, Group, group_of, groups, Change, Patching, MakesChange, MakeChanges, MakeRevisions, makes, Ending, HasRecords, Settings, root_alone}
 use Rattle.std.proofs.Common.{ℕ, false, List, [], ◌∷◌, codes}
 use Rattle.dump_text.specs.Names.{revision_name}
@@ -42,7 +42,7 @@ module _ (patched : Patching) where
   all_same_make (x ∷ xs) (s ∷ again) (c ∷ changes) (one, same) (here, make) =
       (same_makes x s c one here, all_same_make xs again changes same make)
 
-  -- two lists one behind the other
+  -- two lists one after the other
   pub both_make : (first again : List DumpRecord) (changes more : List Change) → AllZip (MakesChange patched) first changes
       → AllZip (MakesChange patched) again more → AllZip (MakesChange patched) (first ++ again) (changes ++ more)
   both_make [] again [] more make later = later
@@ -60,7 +60,7 @@ module _ (patched : Patching) where
     nodes_make place version nodes (second_true (can_be_written w) (list_all can_be_written nodes) can),
   )
 
-  -- and what is left of a node makes what is left of its change
+  -- what remains of a node makes what remains of its change
   own_make : (r : DumpRecord) (own : OwnForm) (c : Change) → may_be_left r own ≡ true → MakesChange patched r c
       → AllZip (MakesChange patched) (own_records r own) (own_changes own c)
   own_make r OwnForm.AsItIs c may make = (make, tt)
@@ -70,7 +70,7 @@ module _ (patched : Patching) where
       (replacing_makes patched r (second_true (is_node r) (has_action (codes "add") r) may) c make, tt)
   own_make r OwnForm.LeftOut c may make = tt
 
-  -- what stands in place of a node makes the changes that are made in place of its change
+  -- what replaces a node makes the changes that replace the node's change
   stand_makes : (r : DumpRecord) (stead : Stead) (again : List DumpRecord) (c : Change) → StandFor r stead again
       → MakesChange patched r c → AllZip (MakesChange patched) again (changes_for stead c)
   stand_makes r stead again c stand make = all_same_make (stead_records r stead) again (changes_for stead c) stand.same
@@ -89,7 +89,7 @@ take_none s rest other = take_while-cons is_node s rest
     ∙ ap (λ b. if b then s ∷ take_while is_node rest else []) other
 
 module _ (patched : Patching) where
-  -- the nodes with which the records begin, and those that stand in place of them
+  -- the nodes at the beginning of the records, and the nodes that replace them
   first_nodes_make : (records : List DumpRecord) (steads : List Stead) (again : List DumpRecord) (changes : List Change)
       → AllFit records → AllStandFor records steads again
       → AllZip (MakesChange patched) (take_while is_node records) changes
@@ -134,7 +134,7 @@ module _ (patched : Patching) where
           ∙ take_none s rest (ap (has_header path_name) same.headers ∙ other) in
           rw (other, none) tt
 
-  -- the groups, and those that stand in place of them
+  -- the groups, and the groups that replace them
   groups_make : (records : List DumpRecord) (steads : List Stead) (again : List DumpRecord)
       (revisions : List (List Change)) → AllFit records → AllStandFor records steads again
       → AllZip (MakeChanges patched) (groups records) revisions
@@ -192,7 +192,7 @@ module _ (patched : Patching) where
               ∙ ap (λ b. if b then group_of s rest ∷ groups rest else groups rest)
               (ap (has_header revision_name) same.headers ∙ plain)
 
-  -- behind revision 0, which has no changes
+  -- after revision 0, which has no changes
   later_groups_make : (gs hs : List Group) (steads : List (List Stead)) (revisions : List (List Change))
       → HaveSameRevisions gs hs → AllZip (MakeChanges patched) gs ([] ∷ revisions)
       → AllZip (MakeChanges patched) hs (expanded_revisions steads ([] ∷ revisions))
@@ -203,7 +203,7 @@ module _ (patched : Patching) where
   later_groups_make (g ∷ gs) (h ∷ hs) ([] ∷ steads) revisions same make made = made
   later_groups_make (g ∷ gs) (h ∷ hs) ((stead ∷ more) ∷ steads) revisions same make made = made
 
--- where expansions of the changes are made, the text is a dump of records that are an expanded form
+-- if the nodes make expansions of the changes, the text is a dump, whose records are an expanded form
 pub expansions_are_dumps : ExpansionsAreDumps
 expansions_are_dumps patched settings dump text records steads revisions has makes is expands =
     let (again, whole, stand) = expansion_is_dump dump text is.front records steads is.lfs has is.may is.spelled is.texts
@@ -222,7 +222,7 @@ expansions_are_dumps patched settings dump text records steads revisions has mak
       },
     )
 
--- the records of the text are one list, so what holds of an expanded form holds of them
+-- a text has only one list of records, so what is true of an expanded form is true of its records
 pub with_records : (patched : Patching) (settings : Settings) (dump text : List ℕ) (records again : List DumpRecord)
     (steads : List Stead) (revisions : List (List Change)) → HasRecords dump records Ending.Whole
     → MakeRevisions patched records revisions → IsExpandedText records steads text
@@ -235,7 +235,7 @@ with_records patched settings dump text records again steads revisions has makes
     subst (λ l. IsExpandedDump patched settings records steads l revisions (made_in_stead records steads revisions))
     (whole_records_once text found again has_found whole) expansion
 
--- from bytes to bytes
+-- the same for bytes
 pub filtered_texts_restrict : FilteredTextsRestrict
 filtered_texts_restrict patched settings dump text filtered records again steads revisions trees has loads is expands
     clean fit keeps =

@@ -1,4 +1,4 @@
--- The text that stands in place of a dump's records is a dump of records that stand in place of them.
+-- The text that replaces a dump's records is a dump of the records that replace them.
 use Rattle.dump_history.proofs.Prelude.{◌≡◌, ◌+◌, ◌<◌, Bool, true, not, ◌++◌, length, map, refl, sym, ap, ◌∙◌, subst, arith, append_assoc, AllZip, list_all, first_true, second_true, absurd_bool, Ending, HasRecords, IsCutInto, BeginsWithRecord, DumpRecord, record_text, is_lawful, is_node, has_header, makes}
 use Rattle.std.proofs.Common.{ℕ, false, List, [], ◌∷◌, codes}
 use Rattle.dump_records.specs.DumpText.{HaveVersions, line_feeds}
@@ -23,18 +23,18 @@ moved_same place r = record { version = refl; headers = refl; props = refl; text
 
 -- the records of a text
 
--- the text at this place is cut into the records, the first one with this number
+-- the text at this place is split into the records, and the first one has this number
 abbrev pub Joined : List DumpRecord → ℕ → ℕ → ℕ → List ℕ → Type 0
 Joined records version number place text = (again : List DumpRecord) × IsCutInto number place text again []
     × HaveVersions version again × AllZip IsSameRecord records again
 
--- lines that break no rule break none behind the first record
+-- lines that break no rule break none after the first record
 later_lawful : (r : DumpRecord) → Fits r → (number : ℕ) → 0 < number → is_lawful number r.headers ≡ true
 later_lawful r f number above =
     any_number f.number number r.headers f.lawful (λ zero. absurd (let bad : 0 < 0 = subst (λ n. 0 < n) zero above in
     omega (arith, bad)))
 
--- one record with line feeds behind it, and those behind that one
+-- one record with line feeds after it, and the records after that one
 pub put_one : (r : DumpRecord) (version lfs : ℕ) (text rest : List ℕ) (records : List DumpRecord) → Fits r
     → r.version ≡ version_from version r.headers → text ≡ record_text r ++ (line_feeds lfs ++ rest)
     → ((number place pending : ℕ) → 0 < number → Joined records r.version number place (line_feeds pending ++ rest))
@@ -63,7 +63,7 @@ put_one r version lfs text rest records f in_force is behind number place pendin
       (moved_same (place + pending) r, same),
     )
 
--- behind the first record they stand wherever they come to stand, however many line feeds stand before them
+-- after the first record they are correct at any place, after any number of line feeds
 pub joins_behind : (version : ℕ) (records : List DumpRecord) (text : List ℕ) → AllFit records
     → HaveVersions version records → AreRecordTexts records text → (number place pending : ℕ) → 0 < number
     → Joined records version number place (line_feeds pending ++ text)
@@ -73,7 +73,7 @@ joins_behind version (r ∷ records) text (fits, fit) (in_force, have) (lfs, res
     put_one r version lfs text rest records fits in_force is (joins_behind r.version records rest fit have texts)
     number place pending (later_lawful r fits number above)
 
--- the texts of records, and of others behind them
+-- the texts of records, and of other records after them
 pub texts_grow : (xs ys : List DumpRecord) (text own : List ℕ) → AreRecordTexts xs text → AreRecordTexts ys own
     → AreRecordTexts (xs ++ ys) (text ++ own)
 texts_grow [] ys text own none more = subst (λ t. AreRecordTexts ys (t ++ own)) (sym none) more
@@ -85,7 +85,7 @@ texts_grow (x ∷ xs) ys text own (lfs, rest, is, texts) more = (
   texts_grow xs ys rest own texts more,
 )
 
--- what stands in place of records fits, and has the versions in force
+-- what replaces records fits, and has the versions in force
 
 pub both_fit : (first rest : List DumpRecord) → AllFit first → AllFit rest → AllFit (first ++ rest)
 both_fit [] rest all more = more
@@ -124,12 +124,12 @@ expanded_fit (r ∷ records) (stead ∷ steads) (fits, fit) (one, may) =
     both_fit (stead_records r stead) (expanded_records records steads) (stead_fits r stead fits one)
     (expanded_fit records steads fit may)
 
--- a record of no version record's lines has the version in force
+-- a record whose lines aren't those of a version record has the version in force
 same_force : (version : ℕ) (headers : List Header) → has_header version_name headers ≡ false
     → version ≡ version_from version headers
 same_force version headers none = rw none refl
 
--- each of them is told under this version
+-- each of them is read under this version
 abbrev pub AllUnder : ℕ → List DumpRecord → Type 0
 AllUnder version [] = Unit {0}
 AllUnder version (s ∷ again) = (s.version ≡ version) × AllUnder version again
@@ -192,7 +192,7 @@ pub some_same : (r : DumpRecord) (records again : List DumpRecord) → AllZip Is
 some_same r records [] same = absurd same
 some_same r records (s ∷ again) same = omega arith
 
--- the text that stands in place of the records of a whole dump is a whole dump
+-- the text that replaces the records of a whole dump is a whole dump
 pub expansion_is_dump : (dump text front : List ℕ) (records : List DumpRecord) (steads : List Stead) (lfs : ℕ)
     → HasRecords dump records Ending.Whole → AllZip (λ r stead. may_stand r stead ≡ true) records steads
     → text ≡ line_feeds lfs ++ front → AreRecordTexts (expanded_records records steads) front

@@ -29,7 +29,7 @@ module _ (patched : Patching) (settings : Settings) (dump text : List ℕ) (reco
   pub same_kept : kept_revisions settings records ≡ kept_of settings (empty_rule settings) revisions
   same_kept = kept_revisions_are patched settings records revisions numbered makes.changes
 
-  -- without renumbering no change names a revision behind the first dropped one
+  -- without renumbering, no change names a revision after the first dropped one
   none_behind_dropped : settings.renumber ≡ false
       → names_none_behind settings (empty_rule settings) names_revision revisions ≡ true
   none_behind_dropped stays = none_named patched settings (groups records) revisions (groups_are records).1 numbered
@@ -51,7 +51,7 @@ module _ (patched : Patching) (settings : Settings) (dump text : List ℕ) (reco
       renumbered_again settings kept renumber 0 (ap (λ (k : KeptRevisions). k.first) same_kept)
       0 [] (groups records) again refl refl (groups_are records).0 numbered reads
 
-  -- where the numbering is kept there is no gap
+  -- if the numbering is kept, there is no gap
   numbers_again : keeps_numbering settings records ≡ true → (again : List Group)
       → AreGroupsAgain settings kept (groups records) again → AreNumberedFrom 0 again
   numbers_again all again reads = cases settings.renumber refl
@@ -62,7 +62,7 @@ module _ (patched : Patching) (settings : Settings) (dump text : List ℕ) (reco
           (sym (ap (λ b. b || list_all (keeps_group settings) (groups records)) stays) ∙ all)
           (groups_are records).0 numbered reads
 
-  -- else there may be one
+  -- otherwise there may be a gap
   gaps_again : (again : List Group) (written : List (List Change))
       → AreGroupsAgain settings kept (groups records) again → GroupsMake patched again ([] ∷ written)
       → AreNewRevisions settings (IsNewProperty settings kept) (IsWrittenCopyNumber settings kept)
@@ -137,13 +137,13 @@ filtered_dump_restricts patched settings dump text records revisions trees clean
       left.properties,
     )
 
--- the same of a dump of quiet changes
+-- the same for a dump of quiet changes
 pub quiet_dump_restricts : QuietDumpRestricts
 quiet_dump_restricts patched settings dump text records revisions trees clean fit keeps loads quiet over =
     filtered_dump_restricts patched settings dump text records revisions trees clean fit keeps loads
     (all_quiet settings (root_alone ∷ []) root_alone revisions quiet over)
 
--- the first revisions of a dump have the law of a whole one
+-- the law of a whole dump is true of its first revisions
 pub filtered_front_restricts : FilteredDumpFrontRestricts
 filtered_front_restricts patched settings dump text records front rest trees clean fit keeps makes loads apart =
     let left = is_left patched settings dump text records (front ++ rest) clean fit keeps makes in
@@ -184,7 +184,7 @@ filtered_front_restricts patched settings dump text records front rest trees cle
         cases false all =
             front_names_none settings (empty_rule settings) (λ (c : Change). is_copied c.made) front rest all
 
--- and so have first revisions of quiet changes
+-- the same for first revisions of quiet changes
 pub quiet_front_restricts : QuietDumpFrontRestricts
 quiet_front_restricts patched settings dump text records front rest trees clean fit keeps makes loads quiet over =
     filtered_front_restricts patched settings dump text records front rest trees clean fit keeps makes loads

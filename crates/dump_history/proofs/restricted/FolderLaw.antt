@@ -1,10 +1,10 @@
--- The law of filtered dumps that are loaded behind the given folders.
+-- The law of filtered dumps that are loaded after the parent directories.
 use Rattle.dump_history.proofs.Prelude.{◌∙◌, drop, AllZip, kept_revisions, IsNewProperty, root_alone, given, given_folders, loads_alike, given_alike, both_restrict, IsRaised, all_quiet, FilteredDumpRestrictsBehindFolders, QuietDumpRestrictsBehindFolders}
 use Rattle.std.proofs.Common.{List, [], ◌∷◌}
 use Rattle.dump_history.proofs.restricted.FilteredLaw.{filtered_dump_restricts}
 use Rattle.dump_history.proofs.restricted.RaisedLemmas.{raised_entries}
 
--- what holds of two lists entry by entry holds behind their first entries
+-- what is true of two lists entry by entry is true after their first entries
 drop_first : {A B : Type 0} (R : A → B → Type 0) (xs : List A) (ys : List B) → AllZip R xs ys
     → AllZip R (drop 1 xs) (drop 1 ys)
 drop_first R [] [] all = all
@@ -12,7 +12,7 @@ drop_first R [] (y ∷ ys) all = absurd all
 drop_first R (x ∷ xs) [] all = absurd all
 drop_first R (x ∷ xs) (y ∷ ys) (first, all) = all
 
--- a dump of separated changes, loaded behind the given folders, has the restricted trees, with raised mergeinfo
+-- a dump of separated changes, loaded after the parent directories, has the restricted trees, with raised mergeinfo
 pub filtered_dump_restricts_behind : FilteredDumpRestrictsBehindFolders
 filtered_dump_restricts_behind patched settings dump text records revisions trees clean fit keeps loads apart =
     let (again, written, others, has, loads_again, no_gap, size, images, properties) =
@@ -43,7 +43,7 @@ filtered_dump_restricts_behind patched settings dump text records revisions tree
       drop_first _ _ _ properties,
     )
 
--- and so has one of quiet changes
+-- the same for a dump of quiet changes
 pub quiet_dump_restricts_behind : QuietDumpRestrictsBehindFolders
 quiet_dump_restricts_behind patched settings dump text records revisions trees clean fit keeps loads quiet over =
     filtered_dump_restricts_behind patched settings dump text records revisions trees clean fit keeps loads

@@ -5,7 +5,7 @@ use Rattle.std.specs.Prelude.{filter}
 use Rattle.dump_history.proofs.again.GroupChanges.{GroupsMake, empty_rule, AllHaveNodes, AreNumberedFrom, later_number, kept_group}
 use Rattle.dump_history.proofs.again.DumpAgain.{first_kept}
 
--- as many numbers are kept of the first revisions as groups are kept of the first groups
+-- the number of kept first revisions is the number of kept first groups
 pub front_count : (patched : Patching) (settings : Settings) (n : ℕ) (gs : List Group) (front rest : List (List Change))
     → AllHaveNodes gs → AreNumberedFrom (suc n) gs → GroupsMake patched gs (front ++ rest)
     → length (kept_from settings (empty_rule settings) (suc n) front)
@@ -25,7 +25,7 @@ front_count patched settings n (g ∷ gs) (changes ∷ front) rest are numbered 
     cases true xs ys more = ap suc more
     cases false xs ys more = more
 
--- so of the dump's first revisions, of which the first one has no node
+-- the same for the dump's first revisions, of which the first one has no node
 pub kept_count : (patched : Patching) (settings : Settings) (gs : List Group) (front rest : List (List Change))
     → AllHaveNodes gs → AreNumberedFrom 0 gs → GroupsMake patched gs ([] ∷ front ++ rest)
     → length (kept_of settings (empty_rule settings) front).numbers

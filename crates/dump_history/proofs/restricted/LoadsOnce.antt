@@ -1,4 +1,4 @@
--- A dump's records, changes, properties and trees are one list each.
+-- There is only one list of a dump's records, of its changes, of its properties and of its trees.
 use Rattle.dump_history.proofs.Prelude.{◌≡◌, suc, ◌++◌, option_map, refl, sym, ap, ◌∙◌, subst, AllZip, Property, Ending, HasRecords, DumpRecord, records_once, HasPropertyList, property_list_once, Group, groups, revision_numbers, Tree, Change, loaded_over, revisions_behind, loads_behind, Patching, MakesChange, HaveRevisionProperties, LoadsWithGapsAs, NoGapIsNeeded, DumpLoadsOnce, DumpLoadsTheSameBehindOthers, NoGapIsNeededInPart}
 use Rattle.std.proofs.Common.{ℕ, List, [], ◌∷◌, Some}
 use Rattle.dump_history.proofs.again.NodeChanges.{change_once}
@@ -6,7 +6,7 @@ use Rattle.dump_history.proofs.again.GapNumbers.{no_gap}
 use Rattle.dump_history.proofs.again.DumpAgain.{numbered_from, counts_without}
 use Rattle.dump_history.proofs.restricted.PartNumbers.{raised_counts}
 
--- where each item has one partner, a list has one list of partners
+-- if each item has only one partner, a list has only one list of partners
 pub partners_once : {A B : Type 0} (R : A → B → Type 0) → ((x : A) (y z : B) → R x y → R x z → y ≡ z)
     → (xs : List A) (ys zs : List B) → AllZip R xs ys → AllZip R xs zs → ys ≡ zs
 partners_once R once [] [] [] all more = refl
@@ -17,14 +17,14 @@ partners_once R once (x ∷ xs) (y ∷ ys) [] all more = absurd more
 partners_once R once (x ∷ xs) (y ∷ ys) (z ∷ zs) all more =
     λ i. once x y z all.0 more.0 i ∷ partners_once R once xs ys zs all.1 more.1 i
 
--- the nodes of a group make one list of changes
+-- the nodes of a group make only one list of changes
 pub changes_once : (patched : Patching) (g : Group) (changes others : List Change)
     → AllZip (MakesChange patched) g.nodes changes
     → AllZip (MakesChange patched) g.nodes others → changes ≡ others
 changes_once patched g changes others all more =
     partners_once (MakesChange patched) (change_once patched) g.nodes changes others all more
 
--- the groups make one list of revisions
+-- the groups make only one list of revisions
 pub revisions_once : (patched : Patching) (gs : List Group) (revisions others : List (List Change))
     → AllZip (λ (g : Group) changes. AllZip (MakesChange patched) g.nodes changes) gs revisions
     → AllZip (λ (g : Group) changes. AllZip (MakesChange patched) g.nodes changes) gs others → revisions ≡ others
@@ -32,7 +32,7 @@ revisions_once patched gs revisions others all more =
     partners_once (λ (g : Group) changes. AllZip (MakesChange patched) g.nodes changes) (changes_once patched)
     gs revisions others all more
 
--- and so of their changes behind one first list
+-- the same for their changes after one first list
 pub later_once : (patched : Patching) (gs : List Group) (first : List Change) (revisions others : List (List Change))
     → AllZip (λ (g : Group) changes. AllZip (MakesChange patched) g.nodes changes) gs (first ∷ revisions)
     → AllZip (λ (g : Group) changes. AllZip (MakesChange patched) g.nodes changes) gs (first ∷ others)
@@ -47,7 +47,7 @@ later_once patched gs first revisions others all more =
     tail_once : first ∷ revisions ≡ first ∷ others → revisions ≡ others
     tail_once same = ap tail_of same
 
--- the revisions of the groups have one list of properties each
+-- each revision of the groups has only one list of properties
 pub revision_properties_once : (gs : List Group) (props others : List (List Property))
     → AllZip (λ (g : Group) ps. HasPropertyList g.revision ps) gs props
     → AllZip (λ (g : Group) ps. HasPropertyList g.revision ps) gs others → props ≡ others
@@ -55,13 +55,13 @@ revision_properties_once gs props others all more =
     partners_once (λ (g : Group) ps. HasPropertyList g.revision ps)
     (λ g ps qs. property_list_once g.revision ps qs) gs props others all more
 
--- a text is one list of records to its end
+-- a text has only one list of records to its end
 pub whole_records_once : (dump : List ℕ) (records others : List DumpRecord) → HasRecords dump records Ending.Whole
     → HasRecords dump others Ending.Whole → records ≡ others
 whole_records_once dump records others has more =
     (records_once dump records others Ending.Whole Ending.Whole has more).0
 
--- revisions that load leave one list of trees
+-- revisions that load leave only one list of trees
 pub trees_once : (first : Tree) (revisions others : List (List Change)) (trees more : List Tree) → revisions ≡ others
     → loaded_over first revisions ≡ Some trees → loaded_over first others ≡ Some more → trees ≡ more
 trees_once first revisions others trees more same loads loads_too =
@@ -70,14 +70,14 @@ trees_once first revisions others trees more same loads loads_too =
     some_once : {x y : List Tree} → Some x ≡ Some y → x ≡ y
     some_once e = cc
 
--- a dump without gaps in its numbers is one of those that may have some
+-- a dump without gaps in its numbers is a dump that may have gaps
 pub no_gap_is_needed : NoGapIsNeeded
 no_gap_is_needed patched records revisions makes =
     let (later, begins, counts) = counts_without patched (groups records) revisions
     (numbered_from 0 (groups records) makes.numbered) makes.changes in
     record { later = later; begins = begins; numbered = counts; ordered = makes.ordered; changes = makes.changes }
 
--- so is a part
+-- so is a partial dump
 pub no_gap_is_needed_in_part : NoGapIsNeededInPart
 no_gap_is_needed_in_part patched before records revisions makes = record {
   numbered = sym (raised_counts before (suc before) (revision_numbers records) revisions)
@@ -87,7 +87,7 @@ no_gap_is_needed_in_part patched before records revisions makes = record {
   changes = makes.changes;
 }
 
--- a dump has one list of records, revisions, properties and trees
+-- a dump has only one list of records, of revisions, of properties and of trees
 pub dump_loads_once : DumpLoadsOnce
 dump_loads_once patched first dump records others revisions more trees others_trees props others_props has has_too loads
     loads_too have have_too =
@@ -101,7 +101,7 @@ dump_loads_once patched first dump records others revisions more trees others_tr
           (subst (λ (l : List DumpRecord). HaveRevisionProperties l others_props) same have_too) have,
     )
 
--- a dump makes the same trees behind older revisions
+-- a dump makes the same trees after older revisions
 pub dump_loads_behind_others : DumpLoadsTheSameBehindOthers
 dump_loads_behind_others patched older first records revisions trees loads plain =
     loads_behind older first revisions ∙ ap (option_map (λ ts. older ++ ts)) loads.loads

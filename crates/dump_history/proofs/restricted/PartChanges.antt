@@ -1,4 +1,4 @@
--- What the filter writes of the changes of a part of a history, with the numbers that a load gives.
+-- What the filter writes of the changes of a partial dump, with the numbers that a load gives.
 use Rattle.dump_history.proofs.Prelude.{◌≡◌, ◌+◌, Bool, true, map, Option, None, MatchBool, refl, ap, ap₂, ◌∙◌, subst, Settings, keeps, Made, Change, NewProperty, NewNumber, IsNewMade, IsNewChange, sets_whole, made_behind, change_behind, revisions_behind, AreNewChanges, EmptyRule, keeps_revision, AreNewRevisions}
 use Rattle.std.proofs.Common.{ℕ, false, List, [], ◌∷◌, Some}
 

@@ -1,4 +1,4 @@
--- The law of a part of a history.
+-- The law of partial dumps.
 use Rattle.dump_history.proofs.Prelude.{◌≡◌, suc, ◌+◌, Bool, true, not, ◌&&◌, ◌||◌, ◌==◌, ◌⊎◌, None, IsSome, is_some, length, map, bytes_eq, MatchBool, refl, sym, ap, ◌∙◌, subst, inl, inr, arith, list_all, MatchBool-at_false, or_left, or_right, or_parts, length-map, Ending, HasRecords, IsCutInto, DumpRecord, Settings, KeptRevisions, image, is_mergeinfo, mergeinfo_name, LengthsFit, Group, groups, group_number, keeps_group, first_number, kept_revisions, IsNewProperty, IsWrittenCopyNumber, IsCleanText, AllLawful, all_lawful, reads_again, Tree, root_alone, is_copied, Change, given, NewProperty, KeepsEntries, ImagesRestrict, revisions_behind, loaded_over, names_none_behind, stays_numbered, AreNewRevisions, kept_from, kept_of, IsWrittenNumber, given_folders, loads_alike, given_alike, both_restrict, history, AreAbove, kept_above, fewer_names_none, all_quiet, Patching, IsRaised, sets_mergeinfo, names_revision, count_to_gap, KeepsNamedNumbers, keeps_numbering, HasNoGapIfKept, RevisionsKeepProperties, MakePartRevisions, MakePartRevisionsWithGaps, IsLoadedProperty, IsLoadedBehindOne, kept_as_loaded, PartLoadsBehind, FilteredPartRestricts, QuietPartRestricts, absurd_bool, first_true, second_true}
 use Rattle.std.proofs.Common.{ℕ, false, List, [], ◌∷◌, Some, filter}
 use Rattle.dump_history.proofs.again.NodeChanges.{entries_kept}
@@ -13,12 +13,12 @@ use Rattle.dump_history.proofs.restricted.RaisedLemmas.{raised_entries}
 use Rattle.dump_history.proofs.restricted.PartNumbers.{raised_image, kept_raised, kept_from_raised, raised_none_behind, raised_counts, kept_loaded}
 use Rattle.dump_history.proofs.restricted.PartChanges.{revisions_lowered}
 
--- the first number of groups that are numbered on from a number, if there are some
+-- the first number of groups that are numbered one by one from a number, if there are groups
 first_is : (n : ℕ) (gs : List Group) → AreNumberedFrom n gs → (first_number (map group_number gs) ≡ n) ⊎ (gs ≡ [])
 first_is n [] numbered = inr refl
 first_is n (g ∷ gs) numbered = inl numbered.0
 
--- the clean text that the filter writes of a part that makes these revisions
+-- the clean text that the filter writes of a partial dump that makes these revisions
 module _ (patched : Patching) (before : ℕ) (settings : Settings) (dump text : List ℕ) (records : List DumpRecord)
     (revisions : List (List Change))
     (clean : IsCleanText settings dump records text) (fit : LengthsFit settings records)
@@ -51,7 +51,7 @@ module _ (patched : Patching) (before : ℕ) (settings : Settings) (dump text : 
   above : AreAbove 0 loaded_numbers
   above = kept_above settings (empty_rule settings) 0 1 revisions (omega arith)
 
-  -- without renumbering no change names a revision behind the first dropped one
+  -- without renumbering, no change names a revision after the first dropped one
   none_behind_dropped : settings.renumber ≡ false
       → names_none_behind settings (empty_rule settings) names_revision (revisions_behind before revisions) ≡ true
   none_behind_dropped stays = none_named_behind patched settings before (groups records)
@@ -103,7 +103,7 @@ module _ (patched : Patching) (before : ℕ) (settings : Settings) (dump text : 
             (sym (subst (λ gs. AreGroupsAgain settings kept gs again) none reads)) tt
       ]
 
-  -- where the numbering is kept there is no gap
+  -- if the numbering is kept, there is no gap
   numbers_again : keeps_numbering settings records ≡ true → (again : List Group)
       → AreGroupsAgain settings kept (groups records) again → AreNumberedFrom (suc before) again
   numbers_again all again reads = cases settings.renumber refl
@@ -114,7 +114,7 @@ module _ (patched : Patching) (before : ℕ) (settings : Settings) (dump text : 
           (sym (ap (λ b. b || list_all (keeps_group settings) (groups records)) stays) ∙ all)
           (groups_are records).0 numbered reads
 
-  -- else there may be one
+  -- otherwise there may be a gap
   gaps_again : (again : List Group) (written : List (List Change))
       → AreGroupsAgain settings kept (groups records) again → GroupsMake patched again written
       → AreNewRevisions settings (IsNewProperty settings kept) (IsWrittenCopyNumber settings kept)
@@ -129,7 +129,7 @@ module _ (patched : Patching) (before : ℕ) (settings : Settings) (dump text : 
           (revisions_behind before revisions) written (groups_are records).0 (groups_are records).1 numbered
           makes.changes reads make new (none_behind_dropped stays)
 
-  -- the text is a part that makes what the filter leaves of the revisions
+  -- the text is a partial dump that makes what the filter leaves of the revisions
   pub record IsPartLeft : Type 0 where
     pub again : List DumpRecord
     pub has : HasRecords text again Ending.Whole
@@ -169,7 +169,7 @@ module _ (patched : Patching) (before : ℕ) (settings : Settings) (dump text : 
         properties = properties_again settings kept (groups records) (groups again) (groups_are records).0 read_groups;
       }
 
--- properties that are loaded keep their names, and have a value where they had one
+-- loaded properties keep their names, and have a value if they had one
 
 loaded_entries : (before : ℕ) → KeepsEntries (IsLoadedProperty before)
 loaded_entries before old new (name, value) = (name, cases (is_mergeinfo old && not (before == 0)) refl value)
@@ -189,7 +189,8 @@ loaded_behind_one before old new = cases (before == 0)
     cases true raised = raised_entries 1 old new raised
     cases false loaded = loaded_entries before old new loaded
 
--- what has the restricted trees in a new repository has them with the properties that a load makes, and behind others
+-- if something has the restricted trees in a new repository, it has them after others too, with the properties that a
+-- load makes
 part_behind : (IsLoaded : NewProperty) → KeepsEntries IsLoaded → (older : List Tree) (before : ℕ) (settings : Settings)
     (records : List DumpRecord) (trees others : List Tree) (written : List (List Change))
     → loaded_over (given settings) written ≡ Some others
@@ -215,7 +216,7 @@ part_behind IsLoaded entries older before settings records trees others written 
           ),
     )
 
--- a part that loads, and whose changes are separated: what is written of it loads, and has the restricted trees
+-- a partial dump loads, and its changes are separated: what is written of it loads, and has the restricted trees
 pub filtered_part_restricts : FilteredPartRestricts
 filtered_part_restricts patched before settings dump text records revisions trees clean fit keeps loads apart =
     let left = part_left patched before settings dump text records revisions clean fit keeps loads.makes in
@@ -243,7 +244,7 @@ filtered_part_restricts patched before settings dump text records revisions tree
       left.properties,
     )
 
--- the same of a part of quiet changes
+-- the same for a partial dump of quiet changes
 pub quiet_part_restricts : QuietPartRestricts
 quiet_part_restricts patched before settings dump text records revisions trees clean fit keeps loads quiet over =
     filtered_part_restricts patched before settings dump text records revisions trees clean fit keeps loads

@@ -1,4 +1,4 @@
--- The kept numbers of a part of a history, and those that a load gives them.
+-- The kept numbers of a partial dump, and the numbers that a load gives them.
 use Rattle.dump_history.proofs.Prelude.{◌≡◌, suc, ◌+◌, ◌-◌, Bool, true, not, ◌&&◌, ◌||◌, ◌==◌, Option, None, option_map, cond, map, count_by, refl, sym, ap, ap₂, ◌∙◌, subst, arith, list_all, list_any, last_or, and_parts, length-map, sum_by-cons, Settings, keeps_empty, KeptRevisions, new_number, last_kept, image, keeps, Made, is_copied, Change, made_behind, change_behind, revisions_behind, keeps_revision, names_kept, names_none, names_none_behind, kept_from, AreAbove, sets_mergeinfo, names_revision, name_no_revision, go_up, count_to_gap, kept_as_loaded}
 use Rattle.std.proofs.Common.{ℕ, false, List, [], ◌∷◌, Some, filter, nat_lt, nat_le}
 use Rattle.dump_history.proofs.again.GroupChanges.{empty_rule}
@@ -15,7 +15,7 @@ module _ (before : ℕ) where
   abbrev raise : ℕ → ℕ
   raise number = before + number
 
-  -- the last one that is at most a raised number is raised
+  -- the last number that is at most a raised number is the raised last number
   raised_last : (n : ℕ) (o : Option ℕ) (xs : List ℕ)
       → last_or (option_map raise o) (filter (λ k. nat_le k (before + n)) (map raise xs))
       ≡ option_map raise (last_or o (filter (λ k. nat_le k n) xs))
@@ -34,7 +34,7 @@ module _ (before : ℕ) where
       cases more true = more (Some x)
       cases more false = more o
 
-  -- as many are below a raised number
+  -- as many raised numbers are below a raised number
   raised_count : (n : ℕ) (xs : List ℕ)
       → count_by (λ k. nat_lt k (before + n)) (map raise xs) ≡ count_by (λ k. nat_lt k n) xs
   raised_count n [] = refl
@@ -48,7 +48,7 @@ module _ (before : ℕ) where
   lowered [] = refl
   lowered (x ∷ xs) = ap₂ (λ y ys. y ∷ ys) (let back : before + x - before ≡ x = omega arith in back) (lowered xs)
 
--- the last of some numbers that are above one and begin with one that is above it is above it
+-- the last of some numbers is above a number, if all are and the first one is
 last_above : (p : ℕ → Bool) (a y : ℕ) (ys : List ℕ) (k : ℕ) → nat_lt a y ≡ true → AreAbove a ys
     → last_or (Some y) (filter p ys) ≡ Some k → nat_lt a k ≡ true
 last_above p a y [] k high are last = subst (λ z. nat_lt a z ≡ true) (let same : y ≡ k = cc in same) high
@@ -62,7 +62,7 @@ last_above p a y (z ∷ ys) k high are last =
     cases above more true last = more z above last
     cases above more false last = more y high last
 
--- the last of some numbers is the last of them behind any other, and above what all are above
+-- the last of some numbers is also their last after another number, and it is above what all are above
 last_of : (p : ℕ → Bool) (a : ℕ) (o : Option ℕ) (xs : List ℕ) (k : ℕ) → AreAbove a xs
     → last_or None (filter p xs) ≡ Some k → (last_or o (filter p xs) ≡ Some k) × (nat_lt a k ≡ true)
 last_of p a o [] k are is = absurd (let bad : None ≡ Some k = is in cc)
@@ -123,7 +123,7 @@ raised_image before n new kept xs above first_is numbers_are is =
 
 -- revisions that are raised
 
--- a raised revision is kept where it was
+-- a raised revision is kept exactly if the revision was
 pub kept_raised : (settings : Settings) (before : ℕ) (changes : List Change)
     → keeps_revision settings (empty_rule settings) (map (change_behind before) changes)
     ≡ keeps_revision settings (empty_rule settings) changes
@@ -137,7 +137,7 @@ kept_raised settings before changes =
     same_paths [] = refl
     same_paths (c ∷ changes) = ap (λ b. keeps settings c.path || b) (same_paths changes)
 
--- so are all of them, under raised numbers
+-- so are all revisions, with raised numbers
 pub kept_from_raised : (settings : Settings) (before n : ℕ) (revisions : List (List Change))
     → kept_from settings (empty_rule settings) (before + n) (revisions_behind before revisions)
     ≡ map (λ k. before + k) (kept_from settings (empty_rule settings) n revisions)
@@ -164,14 +164,14 @@ kept_from_raised settings before n (changes ∷ revisions) =
     cases same true = ap (λ ks. (before + n) ∷ ks) same
     cases same false = same
 
--- what is raised is copied where it was
+-- what is raised is copied exactly if it was copied before
 pub raised_copied : (before : ℕ) (made : Option Made) → is_copied (made_behind before made) ≡ is_copied made
 raised_copied before None = refl
 raised_copied before (Some Made.NewFolder) = refl
 raised_copied before (Some Made.NewFile) = refl
 raised_copied before (Some (Made.Copied number source)) = refl
 
--- and names a revision where it did
+-- and it names a revision exactly if it did before
 raised_names : (before : ℕ) (c : Change) → names_revision (change_behind before c) ≡ names_revision c
 raised_names before c = ap (λ b. b || sets_mergeinfo c) (raised_copied before c.made)
 
@@ -189,7 +189,7 @@ module _ (settings : Settings) (before : ℕ) where
   raised_names_none (changes ∷ revisions) =
       ap₂ (λ b d. not b && d) (raised_names_kept changes) (raised_names_none revisions)
 
-  -- so do revisions behind the first dropped one
+  -- the same for revisions after the first dropped one
   pub raised_none_behind : (revisions : List (List Change))
       → names_none_behind settings (empty_rule settings) names_revision (revisions_behind before revisions)
       ≡ names_none_behind settings (empty_rule settings) names_revision revisions
@@ -213,7 +213,7 @@ module _ (before : ℕ) where
   raised_plain (changes ∷ revisions) =
       ap₂ (λ b d. not b && d) (raised_names_some changes) (raised_plain revisions)
 
-  -- raised revisions have the gap that they had
+  -- raised revisions have the same gap
   pub raised_counts : (n : ℕ) (numbers : List ℕ) (revisions : List (List Change))
       → count_to_gap n numbers (revisions_behind before revisions) ≡ count_to_gap n numbers revisions
   raised_counts n [] revisions = refl
@@ -223,7 +223,7 @@ module _ (before : ℕ) where
       let plain = raised_plain (changes ∷ revisions) in
       λ i. ((m == n) && more i) || (go_up n (m ∷ numbers) && plain i)
 
--- the kept revisions as they are loaded are those of the lowered revisions
+-- the kept revisions, as they are loaded, are those of the lowered revisions
 pub kept_loaded : (before : ℕ) (kept : KeptRevisions) (xs : List ℕ) → kept.numbers ≡ map (λ k. before + k) xs
     → kept_as_loaded before kept ≡ record { first = 0; numbers = 0 ∷ xs }
 kept_loaded before kept xs are =

@@ -1,14 +1,14 @@
--- Properties behind other revisions: what raised mergeinfo keeps, and what isn't raised.
+-- Properties after other revisions: what raised mergeinfo keeps, and what isn't raised.
 use Rattle.dump_history.proofs.Prelude.{◌≡◌, Bool, true, not, map, Option, None, is_some, MatchBool, refl, sym, ap, ◌∙◌, subst, AllZip, list_any, and_parts, or_parts, not-true, Property, is_mergeinfo, PropertyChange, Change, KeepsEntries, AreNewProps, change_behind, IsChangeBehind, IsRaisedValue, IsRaised, entries_of, sets_mergeinfo, sets_no_mergeinfo, PlainRevisionsStay}
 use Rattle.std.proofs.Common.{ℕ, false, List, [], ◌∷◌, Some}
 
--- what is said of a property's value, by whether it is mergeinfo
+-- what is true of a property's value: this depends on whether it is mergeinfo
 abbrev SaysOfValue : ℕ → Property → Property → Bool → Type 0
 SaysOfValue count old new b = MatchBool b
     ((value raised : List ℕ) × (old.value ≡ Some value) × (new.value ≡ Some raised) × IsRaisedValue count value raised)
     (new.value ≡ old.value)
 
--- a raised property has its name, and a value where there was one
+-- a raised property has its name, and a value if it had one
 pub raised_entries : (count : ℕ) → KeepsEntries (IsRaised count)
 raised_entries count old new r = (r.name, cases (is_mergeinfo old) r.value)
   where
@@ -41,7 +41,7 @@ changes_stay count (c ∷ changes) none =
       changes_stay count changes parts.1,
     )
 
--- revisions that set no mergeinfo are what a load makes of them, but for the numbers of copies
+-- a load makes the same of revisions that set no mergeinfo, except the numbers of copies
 pub plain_revisions_stay : PlainRevisionsStay
 plain_revisions_stay count [] none = tt
 plain_revisions_stay count (changes ∷ revisions) none =

@@ -5,7 +5,7 @@ use Rattle.std.proofs.Common.{ℕ, false, List, [], ◌∷◌, filter, Some}
 use Rattle.std.specs.Prelude.{nat_lt, nat_le}
 use Rattle.dump_history.proofs.again.NodeChanges.{makes_change, node_change, change_is}
 
--- some element of those that pass one test passes another where some element passes both
+-- some element that passes one test passes another one exactly if some element passes both
 pub any_filtered : {X : Type 0} (test p : X → Bool) (xs : List X)
     → list_any test (filter p xs) ≡ list_any (λ x. test x && p x) xs
 any_filtered test p [] = refl
@@ -25,7 +25,7 @@ any_filtered test p (x ∷ xs) =
     cases rest false true = rest
     cases rest false false = rest
 
--- a test that is decided by the same facts is the same
+-- two tests that are true under the same conditions are equal
 pub same_truth : {A : Type 0} (a b : Bool) → IsTrue a ↔ A → IsTrue b ↔ A → a ≡ b
 same_truth true true left right = refl
 same_truth true false left right = let bad : false ≡ true = right.1 (left.0 refl) in cc
@@ -36,7 +36,7 @@ abbrev faults_with : Bool → Bool → Bool → Bool → NodeFaults
 faults_with copy unread missing outside =
     record { copy_revision = copy; unread = unread; missing = missing; outside = outside }
 
--- the faults of a node are told once
+-- there is only one list of faults of a node
 pub node_faults_once : (settings : Settings) (before : List DumpRecord) (r : DumpRecord) (m n : NodeFaults)
     → AreNodeFaultsOf settings before r m → AreNodeFaultsOf settings before r n → m ≡ n
 node_faults_once settings before r m n one other =
@@ -58,7 +58,7 @@ none_last : (xs : List ℕ) → last_or None xs ≡ None → xs ≡ []
 none_last [] none = refl
 none_last (x ∷ xs) none = absurd (last_some x xs none)
 
--- where no element is left by a test, none passes it
+-- if no element remains after a test, none passes it
 pub none_passes : {X : Type 0} (p : X → Bool) (xs : List X) → filter p xs ≡ [] → list_any p xs ≡ false
 none_passes p [] none = refl
 none_passes p (x ∷ xs) none = by (none_passes p xs) (p x) none
@@ -68,7 +68,7 @@ none_passes p (x ∷ xs) none = by (none_passes p xs) (p x) none
     by rest true bad = absurd (let worse : x ∷ filter p xs ≡ [] = bad in cc)
     by rest false fine = rest fine
 
--- there is no image where no kept number is at most the number
+-- there is no image if no kept number is at most the number
 none_up_to : (kept : KeptRevisions) (number : ℕ) → image kept number ≡ None
     → has_up_to number kept.numbers ≡ false
 none_up_to kept number none = none_passes (λ k. nat_le k number) kept.numbers
@@ -183,7 +183,7 @@ module _ (settings : Settings) (before : List DumpRecord) (r : DumpRecord) (keep
       (both_true (is_mergeinfo p) _ is (both_true (value_reads (value_of p)) _
       ((reads_exactly (value_of p)).1 (here.1, here.2)) (missing_back settings (value_of p) here)))
 
-  -- where the dump begins, and how far it has come
+  -- the number with which the dump begins, and the number of the present revision
   abbrev first : ℕ
   first = begins_at (before ++ r ∷ [])
 
@@ -219,7 +219,7 @@ module _ (settings : Settings) (before : List DumpRecord) (r : DumpRecord) (keep
     outside = (outside_found, outside_known);
   }
 
--- a node that isn't kept has none
+-- a node that isn't kept has no faults
 pub faults_of_left : (settings : Settings) (before : List DumpRecord) (r : DumpRecord)
     → is_kept_node settings r ≡ false → AreNodeFaultsOf settings before r no_node_faults
 faults_of_left settings before r left = record {
@@ -233,7 +233,7 @@ faults_of_left settings before r left = record {
   outside = (λ bad. cc, λ has. let bad : true ≡ false = sym has.1.0 ∙ left in cc);
 }
 
--- one whose properties can't be read has no mergeinfo
+-- a node whose properties can't be read has no faults of mergeinfo
 pub faults_of_unread : (settings : Settings) (before : List DumpRecord) (r : DumpRecord) → ¬ HasPropertyBlock r
     → AreNodeFaultsOf settings before r (copy_faults (copy_refused settings before r))
 faults_of_unread settings before r unread = record {
@@ -243,7 +243,7 @@ faults_of_unread settings before r unread = record {
   outside = (λ bad. cc, λ has. absurd (unread (has.1.1, has.1.2)));
 }
 
--- so there are some
+-- so each node has a list of faults
 pub node_faults_of : (settings : Settings) (before : List DumpRecord) (r : DumpRecord)
     → (m : NodeFaults) × AreNodeFaultsOf settings before r m
 node_faults_of settings before r = elim (block_or_not r) [
@@ -259,7 +259,7 @@ node_faults_of settings before r = elim (block_or_not r) [
     )
     by_kept ps list false left = (no_node_faults, faults_of_left settings before r left)
 
--- each node has one list of findings
+-- each node has only one list of findings
 pub findings_once : FindingsAreOnce
 findings_once settings before r = elim (block_or_not r) [
   | inl (ps, list) ↦ (
@@ -359,8 +359,8 @@ module _ (patched : Patching) (settings : Settings) (r : DumpRecord) (ps : List 
   abbrev sets_props : Bool
   sets_props = has_header property_length_name r.headers
 
-  -- whether an alarm is found, by what is asked of the node: whether its path is kept, it makes something, it is
-  -- copied, its source is kept, and it deletes
+  -- whether an alarm is found. This depends on whether the node's path is kept, it makes something, it is a copy, its
+  -- source is kept, and it deletes.
   abbrev alarmed : Bool → Bool → Bool → Bool → Bool → Bool
   alarmed kept m c s d =
       (kept && (m && c) && not s && not sets_props)
@@ -428,7 +428,7 @@ module _ (patched : Patching) (settings : Settings) (r : DumpRecord) (ps : List 
   dropped_quiet = ap (λ b. not ((deletes r || b) && is_above_prefix settings r)) (copied_is (makes r) (is_copy r))
       ∙ dropped_bools (deletes r) (makes r && is_copy r) (is_above_prefix settings r)
 
-  -- the change of the node is quiet exactly where no alarm is found
+  -- the node's change is quiet exactly if no alarm is found
   node_quiet : is_quiet settings (node_change patched r ps) ≡ not (list_any is_alarm (findings_of settings r (Some ps) merge))
   node_quiet =
       ap (λ b. if b then is_quiet_kept settings (path_of (node_path r)) (property_change_of r ps) (made_of r)
@@ -442,7 +442,7 @@ module _ (patched : Patching) (settings : Settings) (r : DumpRecord) (ps : List 
       sides true = kept_quiet (makes r) (is_copy r)
       sides false = dropped_quiet
 
--- a node's change is quiet exactly where no alarm is found in the node
+-- a node's change is quiet exactly if no alarm is found in the node
 pub alarms_exact : AlarmsAreExact
 alarms_exact patched settings r None merge c unread makes = absurd (unread (makes.0, makes.1))
 alarms_exact patched settings r (Some ps) merge c list (qs, other, plain, is) =

@@ -1,4 +1,4 @@
--- Whether a kept node names a revision can be told, node by node, and so whether one behind a dropped revision does.
+-- A test of nodes says whether a kept node names a revision, and so whether one after a dropped revision does.
 use Rattle.dump_history.proofs.Prelude.{◌≡◌, ◌↔◌, Bool, true, ◌&&◌, ◌||◌, if◌then◌else◌, IsTrue, MatchBool, refl, ap, ap₂, ◌∙◌, inl, inr, list_any, or_cases, or_left, or_right, and_parts, and_from, DumpRecord, Settings, found, finds, is_copy, is_kept_node, is_mergeinfo, property_list_once, block_or_not, Group, groups, keeps_group, makes, SetsMergeinfo, NamesRevision, HasNamingNode, HasNamingNodeBehind, DumpFacts, dump_findings, TellsNaming, nodes_name, groups_name, groups_name_behind, DumpFindingsAreOnce}
 use Rattle.std.proofs.Common.{false, List, [], ◌∷◌}
 use Rattle.dump_history.proofs.survey.FindingLemmas.{same_truth}
@@ -17,7 +17,7 @@ merge_told r = elim (block_or_not r) [
   | inr unread ↦ (false, (λ bad. cc, λ (ps, list, set). absurd (unread (ps, list))))
 ]
 
--- whether it names a revision
+-- whether the node names a revision
 naming_told : (r : DumpRecord) → (b : Bool) × (IsTrue b ↔ NamesRevision r)
 naming_told r = let (merges, told) = merge_told r in (
   (makes r && is_copy r) || merges,
@@ -33,7 +33,7 @@ naming_told r = let (merges, told) = merge_told r in (
   ),
 )
 
--- so as a test of nodes
+-- the same as a test of nodes
 pub names_test : DumpRecord → Bool
 names_test r = (naming_told r).0
 
@@ -55,7 +55,7 @@ module _ (settings : Settings) (names : DumpRecord → Bool) (tells : TellsNamin
       (finds (λ s. is_kept_node settings s && names s) g.nodes r within
       (and_from (is_kept_node settings r) (names r) kept ((tells r).1 naming)))
 
-  -- the test of nodes tells it of groups
+  -- the test of nodes says it for groups
   pub behind_told : (gs : List Group) → IsTrue (groups_name_behind settings names gs) ↔ HasNamingNodeBehind settings gs
   behind_told [] = (λ bad. let worse : false ≡ true = bad in cc, λ none. absurd none)
   behind_told (g ∷ gs) = by_kept (behind_told gs) (keeps_group settings g)
@@ -66,7 +66,7 @@ module _ (settings : Settings) (names : DumpRecord → Bool) (tells : TellsNamin
       by_kept later true = later
       by_kept later false = (names_in gs, names_back gs)
 
--- a dump has one list of findings as a whole
+-- there is only one list of findings in a dump as a whole
 pub dump_findings_once : DumpFindingsAreOnce
 dump_findings_once settings records =
     let named = groups_name_behind settings names_test (groups records) in

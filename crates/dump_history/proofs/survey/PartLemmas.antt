@@ -1,10 +1,10 @@
--- The changes of a part of a history, with the numbers that a load gives: none of its copies is from before it.
+-- The changes of a partial dump, with the numbers that a load gives: none of its copies is from a revision before it.
 use Rattle.dump_history.proofs.Prelude.{◌≡◌, suc, ◌+◌, ◌-◌, ◌≤◌, Bool, true, not, ◌&&◌, ◌||◌, map, Option, None, if◌then◌else◌, refl, ap, ap₂, subst, arith, AllZip, list_all, list_any, or_parts, node_kind_name, DumpRecord, Settings, is_copy, Group, NodePath, keeps, Made, PropertyChange, Change, is_above_some, made_behind, change_behind, revisions_behind, is_quiet_kept, is_quiet_dropped, is_quiet, are_quiet, Patching, says, makes, copy_revision, copied_from, made_by_kind, made_of, MakesChange, MakeChanges, copies_from_before, has_source_before}
 use Rattle.std.proofs.Common.{ℕ, false, List, [], ◌∷◌, nat_lt, Some, codes}
 use Rattle.dump_history.proofs.again.NodeChanges.{change_is}
 use Rattle.dump_history.proofs.restricted.PartNumbers.{raised_copied}
 
--- what is copied comes from a revision of at least this number
+-- a copy is from a revision with at least this number
 abbrev IsFrom : ℕ → Option Made → Type 0
 IsFrom before made = (n : ℕ) (source : NodePath) → made ≡ Some (Made.Copied n source) → before ≤ n
 
@@ -71,7 +71,7 @@ groups_lowered patched before (g ∷ gs) (changes ∷ revisions) none make =
     let (low, low_is) = groups_lowered patched before gs revisions parts.1 make.1 in
     (first ∷ low, ap₂ (λ x xs. x ∷ xs) first_is low_is)
 
--- an alarm doesn't go by the number of a copy
+-- an alarm doesn't depend on the number of a copy
 
 module _ (settings : Settings) (before : ℕ) where
   same_kept : (path : NodePath) (props : Option PropertyChange) (made : Option Made)

@@ -1,4 +1,4 @@
--- Where a survey finds nothing, the law of filtered dumps has its premise.
+-- If a survey finds nothing, the premise of the law of filtered dumps is true.
 use Rattle.dump_history.proofs.Prelude.{◌≡◌, zero, suc, Bool, true, not, ◌&&◌, ◌||◌, ◌==◌, ◌++◌, length, take_while, if◌then◌else◌, MatchBool, Option, None, refl, sym, ap, ◌∙◌, subst, inl, append_assoc, AllZip, list_all, list_any, last_or, eqb-true, both_ways, nil_from_length, Order, first_true, second_true, first_false, second_false, both_true, not_true, not_so, DumpRecord, Settings, is_revision_record, is_node, Group, group_of, groups, revision_numbers, is_bare, ends_in_group, AreFaultFree, Change, is_quiet, are_quiet, Patching, MakesChange, counts_from, has_ordered_nodes, MakeChanges, MakeRevisions, NamesRevisionBehind, KeepsNamedNumbers, MakePartRevisions, Finding, begins_at, has_source_before, AreFindingsOf, is_obstacle, is_alarm, every_dump_finding, rise, first_has_node, is_found_in_dump, HasUnreadRevision, AreDumpFindingsOf, AreFindingsBehind, HaveFindingsBehind, none_is, RestrictsFrom, SurveyedDumpRestricts, SurveyedDumpFrontRestricts}
 use Rattle.std.proofs.Common.{ℕ, false, List, [], ◌∷◌, Some}
 use Rattle.dump_history.proofs.survey.FindingLemmas.{none_passes, obstacles_exact, alarms_exact}
@@ -9,7 +9,7 @@ use Rattle.dump_history.proofs.restricted.PartLaw.{quiet_part_restricts}
 
 -- what is found in the nodes
 
--- this is found in the node, whatever stands before it
+-- this is found in the node, whatever comes before it
 abbrev IsFoundBehind : Settings → DumpRecord → List Finding → Type 0
 IsFoundBehind settings r found = (before : List DumpRecord) × AreFindingsOf settings before r found
 
@@ -77,7 +77,7 @@ module _ (patched : Patching) (settings : Settings) where
             (more.2 (second_true (not (list_any is_alarm f)) _ quiet)),
       )
 
-  -- and the groups of a dump
+  -- so do the groups of a dump
   groups_change : (gs : List Group) (found : List (List (List Finding)))
       → AreFoundIn settings gs found
       → none_is is_obstacle found ≡ true
@@ -99,7 +99,7 @@ module _ (patched : Patching) (settings : Settings) where
             (more.2 (second_true (list_all (λ node. not (list_any is_alarm node)) f) (none_is is_alarm found) quiet)),
       )
 
-  -- and the first groups, where only behind them alarms are found
+  -- and the first groups, if alarms are found only after them
   front_change : (gs : List Group) (found behind : List (List (List Finding)))
       → AreFoundIn settings gs (found ++ behind)
       → none_is is_obstacle (found ++ behind) ≡ true
@@ -138,7 +138,7 @@ may_stand true true none = refl
 may_stand true false none = cc
 may_stand false follows none = refl
 
--- the nodes of a dump without a fault stand in revisions
+-- the nodes of a dump without a fault are in revisions
 module _ (settings : Settings) (all : List DumpRecord) (free : AreFaultFree settings all) where
   order_behind : (before rest : List DumpRecord) → all ≡ before ++ rest
       → has_ordered_nodes (ends_in_group (last_or None before)) rest ≡ true
@@ -223,7 +223,7 @@ module _ (settings : Settings) (records : List DumpRecord) (nothing : AreDumpFin
       cases true none = tt
       cases false none = λ names. both_ways nothing.0.named none (nothing.1.named.1 names)
 
--- the changes of a group without nodes are none
+-- a group without nodes makes no changes
 no_changes : (patched : Patching) (g : Group) (changes : List Change) → not (is_bare g) ≡ false
     → MakeChanges patched g changes → changes ≡ []
 no_changes patched g changes bare make =
@@ -248,7 +248,7 @@ first_is_bare patched (g ∷ gs) [] some bare make = absurd make
 first_is_bare patched (g ∷ gs) (changes ∷ revisions) some bare make =
     (revisions, ap (λ cs. cs ∷ revisions) (no_changes patched g changes bare make.0))
 
--- the first group makes no change, and the groups behind it these revisions, of which the first ones are quiet
+-- the first group makes no change, and the groups after it make these revisions, of which the first ones are quiet
 front_behind : (patched : Patching) (settings : Settings) (gs : List Group) (first : List (List Finding))
     (found behind : List (List (List Finding)))
     → (length gs == 0) ≡ false → first_has_node gs ≡ false
@@ -270,7 +270,7 @@ front_behind patched settings (g ∷ gs) first found behind some bare all none =
         is_so true is = refl
         is_so false is = cc
 
--- where nothing is found the law of filtered dumps holds
+-- if nothing is found, the law of filtered dumps is true
 pub surveyed_dump : SurveyedDumpRestricts
 surveyed_dump patched settings dump text records found clean fit nothing have no_obstacle no_alarm =
     by_first (begins_at records) refl
@@ -326,7 +326,7 @@ surveyed_dump patched settings dump text records found clean fit nothing have no
     by_first (suc before) is =
         from_later (groups_change patched settings (groups records) found (groups_found settings [] records found have) no_obstacle) before is
 
--- so it does of the first revisions where alarms are found behind them alone
+-- and it is true of the first revisions if alarms are found only after them
 pub surveyed_front : SurveyedDumpFrontRestricts
 surveyed_front patched settings dump text records first found behind clean fit first_is nothing have no_obstacle
     no_alarm =

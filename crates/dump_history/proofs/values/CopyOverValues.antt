@@ -1,5 +1,6 @@
--- Worked values of copies over what their own revision changed, as svnadmin load decides of them (tried with Subversion
--- 1.14.2): before the revision there are the directories a and b, the files a/c and b/c, and the file x.
+-- Examples of copies over what their own revision changed. svnadmin load decides about them as here (tried with
+-- Subversion 1.14.2). Before the revision there are the directories `a` and `b`, the files `a/c` and `b/c`, and the
+-- file `x`.
 use Rattle.dump_history.proofs.Prelude.{◌≡◌, Bool, None, refl, path_of, Change, TextChange}
 use Rattle.std.proofs.Common.{ℕ, true, false, List, [], ◌∷◌, Some, codes}
 use Rattle.dump_trees.specs.ExpansionCases.{deletion_of}
@@ -34,7 +35,7 @@ delete path = deletion_of (path_of path)
 abbrev is_over : List ℕ → List Change → Bool
 is_over path changes = copies_over_changed (path_of path) false changes
 
--- refused
+-- rejected
 
 over_changed : is_over (codes "a/c") (change (codes "a/c") ∷ copy (codes "x") (codes "a/c") ∷ []) ≡ true
 over_changed = refl
@@ -50,12 +51,12 @@ over_made_again : is_over (codes "a/c")
     (delete (codes "a/c") ∷ file (codes "a/c") ∷ copy (codes "x") (codes "a/c") ∷ []) ≡ true
 over_made_again = refl
 
--- a deletion below what was copied doesn't undo that
+-- a deletion below what was copied doesn't undo the copy
 over_copied_folder : is_over (codes "t")
     (copy (codes "b") (codes "t") ∷ delete (codes "t/c") ∷ copy (codes "b") (codes "t") ∷ []) ≡ true
 over_copied_folder = refl
 
--- taken
+-- accepted
 
 over_unchanged : is_over (codes "a/c") (copy (codes "x") (codes "a/c") ∷ []) ≡ false
 over_unchanged = refl
@@ -85,7 +86,7 @@ over_made_above : is_over (codes "a/c")
     (change (codes "a/c") ∷ delete (codes "a") ∷ copy (codes "b") (codes "a") ∷ copy (codes "x") (codes "a/c") ∷ []) ≡ false
 over_made_above = refl
 
--- nothing stands below what is made new, whatever was said of it before
+-- nothing is below a node that is newly made, whatever was there before
 over_named_before : is_over (codes "t/c")
     (record (change (codes "t/c")) { text = None } ∷ folder (codes "t") ∷ copy (codes "x") (codes "t/c") ∷ []) ≡ false
 over_named_before = refl

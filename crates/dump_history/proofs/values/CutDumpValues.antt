@@ -1,4 +1,4 @@
--- Worked values of what is said of dumps of which a part is taken, which wrong definitions don't meet.
+-- Examples for the definitions of cuts, which wrong definitions don't satisfy.
 use Rattle.dump_history.proofs.Prelude.{◌≡◌, ◌++◌, Bool, None, refl, sym, ap, ◌∙◌, inr, suc, zero, AllZip, DropEmptied, DropAll, path_of, Tree, root_alone, Patching, slice_get}
 use Rattle.std.proofs.Common.{ℕ, true, false, List, [], ◌∷◌, Some, is_some, is_none, codes}
 use Rattle.std.specs.Fmt.{digits}
@@ -34,7 +34,7 @@ leaves_gaps = refl
 leaves_all_gaps : leaves_no_gap (record settings { empty = DropAll }) ≡ false
 leaves_all_gaps = refl
 
--- what stands in place of a record: the nodes, and behind them what is left of it
+-- what replaces a record: first the nodes, and then what remains of it
 
 nodes_first : stead_records app (record { nodes = WrittenNode.Deletion (codes "trunk/app") ∷ []; own = OwnForm.AsItIs })
     ≡ node_record 243 2 (WrittenNode.Deletion (codes "trunk/app")) ∷ app ∷ []
@@ -53,7 +53,7 @@ abbrev has_some : List ℕ → Bool
 has_some [] = false
 has_some (b ∷ text) = true
 
--- and it is written
+-- the record is written
 not_unwritten : IsExpandedText (three ∷ []) (stays ∷ []) [] → ⊥
 not_unwritten e =
     let (lfs, rest, is, more) = e.texts in
@@ -64,13 +64,13 @@ not_unwritten e =
     nothing zero front is = is
     nothing (suc lfs) front is = absurd (let bad : false ≡ true = ap has_some is in cc)
 
--- nor does more stand behind the last one than line feeds
+-- after the last record there are only line feeds
 nothing_more : AreRecordTexts [] (codes "x") → ⊥
 nothing_more is = absurd (let bad : true ≡ false = ap has_some is in cc)
 
 -- expansions
 
--- each change of a revision counts, behind those before it: the second one needs the first
+-- each change of a revision counts after those before it: the second one needs the first
 second_counts : AllExpand settings (slice_get (root_alone ∷ [])) root_alone (adds_trunk ∷ adds_old ∷ []) (adds_trunk ∷ [])
     → ⊥
 second_counts all =
@@ -82,7 +82,7 @@ second_counts all =
 
 -- what is written
 
--- a directory's entries take the place of old ones
+-- a directory's entries replace the old ones
 whole_properties : (folder_of (path_of (codes "a")) []).props ≡ Some (PropertyChange.Replaced [])
 whole_properties = refl
 
@@ -116,7 +116,7 @@ both_digests = refl
 
 -- nodes that replace
 
--- the copied file, made over the one that stands by then: one node, which replaces, is written
+-- the copied file, made over the file that exists by then: one node, which replaces, is written
 replaces_file : Expands settings (slice_get (root_alone ∷ first_tree ∷ [])) second_tree (replacing true copies_old)
     (written_change (WrittenNode.File true (codes "trunk/app") [] (codes "text") None None) ∷ [])
 replaces_file = kept_copy_replaces settings (slice_get (root_alone ∷ first_tree ∷ [])) second_tree first_tree
@@ -124,18 +124,18 @@ replaces_file = kept_copy_replaces settings (slice_get (root_alone ∷ first_tre
     (Branch.File [] (codes "text")) adds_app [] (loaded_folders revisions trees 2 second_tree refl refl) refl refl refl
     refl source_branch refl refl (inr ([], refl, refl))
 
--- where nothing stands a node that replaces is refused
+-- if nothing exists, a node that replaces is rejected
 replaces_nothing : is_none (steps (slice_get (root_alone ∷ first_tree ∷ [])) first_tree (replacing true adds_app ∷ []))
     ≡ true
 replaces_nothing = refl
 
 -- what is filtered
 
--- every delta is refused
+-- every delta is rejected
 abbrev refused : Patching
 refused delta text = None
 
--- of the expanded form more is written than nothing
+-- something is written of the expanded form
 not_nothing : FiltersExpansion refused settings dump records revisions trees again [] → ⊥
 not_nothing f = let (front, rest, is, written, more) = f.clean.written in
     let none : front ≡ [] = first_nothing front rest (sym is) in
@@ -147,11 +147,11 @@ not_nothing f = let (front, rest, is, written, more) = f.clean.written in
 
 -- trees at images
 
--- any tree may stand for any other
+-- any tree may be in place of any other
 abbrev AnyTree : TreeRelation
 AnyTree old new = Rattle.std.specs.Prelude.⊤
 
--- none may
+-- no tree may be in place of another
 abbrev NoTree : TreeRelation
 NoTree old new = ⊥
 
@@ -168,7 +168,7 @@ no_tree_there images =
 not_related : ImagesRelate NoTree (λ number. Some number) (root_alone ∷ []) (root_alone ∷ []) → ⊥
 not_related images = let (new, other, image_is, stands, related) = images 0 root_alone refl in related
 
--- where no tree may stand for another, no text loads so
+-- if no tree may be in place of another, no text loads so
 
 none_new : (text : List ℕ) → LoadsNew refused settings NoTree again (root_alone ∷ []) text → ⊥
 none_new text (parts, written, others, has, loads, size, images, properties) =

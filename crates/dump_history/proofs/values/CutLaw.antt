@@ -1,4 +1,5 @@
--- The laws of what is filtered by excluded prefixes, applied to the worked dump: its part loads into a new repository.
+-- The laws of what is filtered by excluded prefixes, applied to the example dump: its part loads into a new
+-- repository.
 use Rattle.dump_history.proofs.Prelude.{◌≡◌, ◌+◌, ◌<◌, ◌^◌, true, ◌++◌, length, refl, ap, ◌∙◌, inr, None, arith, lit<, NoFault, copy_revision_name, with_header_value, property_block_text, Property, DumpRecord, HasPropertyList, LengthsFit, kept_revisions, HoldsOfRecord, AreFaultFree, IsWrittenBlock, IsWrittenText, IsCleanText, AreNewProperties, IsNewProperty, property_list_once, Ending, HasRecords, path_of, Node, Tree, root_alone, Change, loaded_over, Patching, MakeRevisions, RevisionsKeepProperties, HaveRevisionProperties, AllZip, slice_get, IsNewNode}
 use Rattle.std.proofs.Common.{ℕ, List, [], ◌∷◌, Some, codes}
 use Rattle.std.specs.Fmt.{digits}
@@ -60,7 +61,7 @@ free before after r at = at_place (λ b x a. NoFault (HoldsOfRecord settings b x
   ),
 )
 
--- what is written of it: each revision, and each node but the sibling
+-- what is written of it: each revision, and each node except the sibling
 
 abbrev trunk_part : List ℕ
 trunk_part = codes "Node-path: trunk\nNode-kind: dir\nNode-action: add\n\n\n\n"
@@ -150,7 +151,7 @@ written = (
 clean : IsCleanText settings expansion again filtered
 clean = record { whole = whole_again; fault_free = free; written = written }
 
--- the written file's block is that of no property
+-- the written file's block has no property
 file_block : (part : List ℕ) → IsWrittenBlock settings (kept_revisions settings again) file_there
     (three_there ∷ branch_there ∷ []) part → length part + length file_there.text < 10 ^ 18
 file_block part (olds, news, list, how, is) =
@@ -219,7 +220,7 @@ excluded_numbered : (patched : Patching) → LoadsNumbered patched (TreeRestrict
 excluded_numbered patched = excluded_dump_loads_numbered patched settings dump filtered records again revisions trees
     (filters patched) refl refl refl
 
--- in revision 3 of the dump both files stand in both directories
+-- in revision 3 of the dump both files are in both directories
 
 app_stands : third_tree (path_of (codes "trunk/app")) ≡ Some (Node.File [] (codes "text"))
 app_stands = refl
@@ -233,12 +234,13 @@ old_stands = refl
 copied_old_stands : third_tree (path_of (codes "branch/old")) ≡ Some (Node.File [] (codes "text"))
 copied_old_stands = refl
 
--- every delta is refused
+-- every delta is rejected
 abbrev refused : Patching
 refused delta base = None
 
--- what is written is a dump, which makes four revisions that load into a new repository, with the properties of those
--- that are kept. In revision 3 of this the included files stand, with the directories above them, and the others don't
+-- What is written is a dump. It makes four revisions that load into a new repository, with the properties of those
+-- that are kept. In revision 3 of this repository the included files exist, with the directories above them, and the
+-- others don't.
 in_revision_3 : (parts : List DumpRecord) × (changes : List (List Change)) × (others : List Tree) × (tree : Tree)
     × HasRecords filtered parts Ending.Whole
     × MakeRevisions refused parts changes
@@ -275,7 +277,7 @@ in_revision_3 =
       restricted.left (path_of (codes "branch/old")) refl,
     )
 
--- so it is under its own numbers: as many trees, and the same properties
+-- the same under its own numbers: there are as many trees, and the properties are the same
 in_each_revision : (parts : List DumpRecord) × (changes : List (List Change)) × (others : List Tree)
     × HasRecords filtered parts Ending.Whole
     × MakeRevisions refused parts changes

@@ -1,9 +1,9 @@
--- Worked values of the changes that deltas make, and of what a survey finds in them.
+-- Examples of the changes that deltas make, and of what a survey finds in them.
 use Rattle.dump_history.proofs.Prelude.{◌≡◌, true, ◌++◌, None, refl, inr, Header, Property, DumpRecord, HasPropertyList, path_of, PropertyChange, TextChange, Change, Patching, change_of, MakesChange, Finding, is_found, no_node_faults}
 use Rattle.std.proofs.Common.{ℕ, false, List, [], ◌∷◌, Some, codes}
 use Rattle.dump_history.proofs.values.WorkedDump.{line, settings}
 
--- a reading of text deltas: the delta comes behind the old text
+-- a reading of text deltas: the delta is appended to the old text
 abbrev pub behind : Patching
 behind delta old = Some (old ++ delta)
 
@@ -20,7 +20,7 @@ node version more props text = record {
 abbrev nothing : Change
 nothing = record { path = path_of (codes "a/b"); deletes = false; made = None; props = None; text = None }
 
--- an entry that takes the property p away
+-- an entry that removes the property p
 abbrev pub removal : Property
 removal = record { name = codes "p"; value = None }
 
@@ -63,7 +63,7 @@ patches = refl
 patches_under_2 : change_of behind (node 2 text_lines [] (codes "x")) [] ≡ None
 patches_under_2 = refl
 
--- the block can be read under version 3 alone
+-- the block can be read only under version 3
 
 reads : HasPropertyList (node 3 edit_lines block []) (removal ∷ [])
 reads = (inr (codes "D 1\np\n", codes "PROPS-END\n", refl, inr (refl, (codes "1", refl, refl)), refl), λ deletes. refl)

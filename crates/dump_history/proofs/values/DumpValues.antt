@@ -1,5 +1,5 @@
--- Worked values of what a dump makes, and of what is said of the filtered one: each tells a definition from a weaker or
--- another one.
+-- Examples of what a dump makes, and of what is true of the filtered one. Each of them shows that a definition differs
+-- from a weaker one or from another one.
 use Rattle.dump_history.proofs.Prelude.{◌≡◌, true, ◌++◌, length, Option, None, refl, ap, ◌∙◌, inl, inr, slice_get, Header, Property, first_true, second_true, DumpRecord, Pad, DropAll, Settings, HasPropertyList, HasPropertyBlock, Group, padding_log, path_of, is_short, Node, Tree, root_alone, put, PropertyChange, TextChange, Change, given, loaded_over, Patching, copy_path, change_of, MakesChange, counts_from, has_ordered_nodes, MakeRevisions, HaveRevisionProperties, LoadsAs, keeps_numbering, TreesRestrict, KeepsProperties, RevisionsKeepProperties, LoadsRestricted, FrontLoadsRestricted, sets_no_mergeinfo, Finding, AreFindingsOf, no_node_faults}
 use Rattle.std.proofs.Common.{ℕ, false, List, [], ◌∷◌, Some, codes}
 use Rattle.dump_history.proofs.survey.FindingLemmas.{faults_of_unread}
@@ -29,7 +29,7 @@ counts_gap = refl
 counts_again : counts_from 0 (0 ∷ 0 ∷ []) ≡ false
 counts_again = refl
 
--- nodes stand in revisions
+-- nodes are in revisions
 
 ordered : has_ordered_nodes false (version ∷ zero ∷ one ∷ trunk ∷ other ∷ []) ≡ true
 ordered = refl
@@ -43,9 +43,9 @@ first_a_node = refl
 behind_version : has_ordered_nodes false (zero ∷ version ∷ trunk ∷ []) ≡ false
 behind_version = refl
 
--- dumps that make no revisions, whatever they are
+-- dumps that make no revisions
 
--- every delta is refused
+-- every delta is rejected
 abbrev refused : Patching
 refused delta old = None
 
@@ -67,7 +67,7 @@ node_in_first rs makes = makes.changes.0
 no_revision : (rs : List (List Change)) → ¬ MakeRevisions refused (version ∷ []) rs
 no_revision rs makes = makes.changes
 
--- and revisions that a dump doesn't make: one more, one less
+-- revisions that a dump doesn't make: one more, or one fewer
 
 one_more : ¬ MakeRevisions refused (version ∷ zero ∷ []) ([] ∷ [])
 one_more makes = makes.changes.1
@@ -75,18 +75,18 @@ one_more makes = makes.changes.1
 one_less : ¬ MakeRevisions refused (version ∷ zero ∷ one ∷ []) []
 one_less makes = makes.changes.1
 
--- a bare revision makes one without changes
+-- a bare revision makes a revision without changes
 bare : MakeRevisions refused (version ∷ zero ∷ one ∷ []) ([] ∷ [])
 bare = record { numbered = refl; ordered = refl; changes = (tt, (tt, tt)) }
 
--- the first tree is that of the repository which the dump is loaded into
+-- the first tree is that of the repository into which the dump is loaded
 abbrev begun : Tree
 begun = put (path_of (codes "a")) (Node.Folder []) root_alone
 
 over_begun : LoadsAs refused begun (version ∷ zero ∷ one ∷ []) ([] ∷ []) (begun ∷ begun ∷ [])
 over_begun = record { makes = bare; loads = refl }
 
--- nodes that make no change, whatever it is
+-- nodes that make no change
 
 -- a record of these property bytes
 abbrev pub with_props : DumpRecord → List ℕ → DumpRecord
@@ -114,7 +114,7 @@ unread_found = (
   refl,
 )
 
--- a folder whose path isn't in its short form
+-- a directory whose path isn't in its short form
 abbrev long : DumpRecord
 long = record_at 0 (line (codes "Node-path") (codes "trunk//a") ∷ line (codes "Node-action") (codes "change") ∷ [])
 
@@ -188,7 +188,7 @@ only_none (inr (entry, rest, split, inr (none, (digits, n, text)), more), delete
 have_other : ¬ HaveRevisionProperties (version ∷ zero ∷ []) ((date ∷ []) ∷ [])
 have_other (list, rest) = only_none list
 
--- what is written of a revision has its properties; those of an empty one where it is padded: its date and a log
+-- what is written of a revision has its properties; a padded empty revision has its date and a log message
 
 abbrev padding : Settings
 padding = record settings { empty = Pad; renumber = false }
@@ -228,7 +228,7 @@ keeps_bare = (date ∷ [], reads_date one, reads_date one)
 preserves : KeepsProperties (record padding { preserve = true }) (group (dated two) (other ∷ [])) (group (dated two) [])
 preserves = (date ∷ [], reads_date two, reads_date two)
 
--- the properties of the worked dump's kept revisions, without those of the dropped one
+-- the properties of the example dump's kept revisions, without those of the dropped one
 kept_keep : RevisionsKeepProperties settings records (version ∷ zero ∷ one ∷ trunk ∷ three ∷ copy ∷ [])
 kept_keep = (
   ([], none_of zero refl, none_of zero refl),
@@ -258,7 +258,7 @@ first_unnumbered = refl
 
 -- what is said of a filtered dump
 
--- the tree at the image of revision 3 stands in revision 2, where revision 2 is dropped
+-- the tree at the image of revision 3 is in revision 2, if revision 2 is dropped
 at_image : (others : List Tree)
     → TreesRestrict settings records (root_alone ∷ root_alone ∷ root_alone ∷ third_tree ∷ []) others
     → (tree : Tree) × (slice_get others 2 ≡ Some tree)
@@ -267,7 +267,7 @@ at_image others images =
     let at : 2 ≡ new = (let both : Some 2 ≡ Some new = image_is in cc) in
     (tree, ap (slice_get others) at ∙ stands)
 
--- it is loaded over the given folders, and has as many revisions as are kept
+-- it is loaded over the parent directories, and has as many revisions as are kept
 loads_given : (trees : List Tree) (text : List ℕ) → LoadsRestricted refused settings records trees text
     → (written : List (List Change)) × (others : List Tree) × (loaded_over (given settings) written ≡ Some others)
     × (length others ≡ 3)
@@ -277,7 +277,7 @@ front_given : (trees : List Tree) (text : List ℕ) → FrontLoadsRestricted ref
     → (first : List (List Change)) × (others : List Tree) × (loaded_over (given settings) first ≡ Some others)
 front_given trees text (again, first, more, others, has, makes, no_gap, loads, size, images, keep) = (first, others, loads)
 
--- mergeinfo that a change sets, be it with other properties or by an edit; one that is taken away isn't set
+-- a change sets mergeinfo, with other properties or by an edit; removing mergeinfo doesn't set it
 
 abbrev sets : Option PropertyChange → Change
 sets props = record (folder (codes "trunk") None) { props = props }

@@ -1,4 +1,4 @@
--- The law of expanded dumps, applied to the worked one: the filter takes its expanded form.
+-- The law of expanded dumps, applied to the example dump: the filter takes its expanded form.
 use Rattle.dump_history.proofs.Prelude.{◌≡◌, ◌+◌, ◌<◌, ◌^◌, true, ◌++◌, length, refl, ap, ◌∙◌, inr, None, arith, lit<, NoFault, image, property_block_text, Property, DumpRecord, HasPropertyList, LengthsFit, kept_revisions, HoldsOfRecord, AreFaultFree, IsWrittenBlock, IsWrittenText, IsCleanText, AreNewProperties, property_list_once, path_of, Node, Patching, LoadsRestricted}
 use Rattle.std.proofs.Common.{ℕ, List, [], ◌∷◌, Some, codes}
 use Rattle.std.specs.Fmt.{digits}
@@ -10,7 +10,7 @@ use Rattle.dump_history.proofs.values.WorkedDump.{version, zero, one, settings, 
 use Rattle.dump_history.proofs.values.WorkedFilter.{at_place, free_of, follows, rises, begins, no_copy, no_block, revision_part}
 use Rattle.dump_history.proofs.values.WorkedExpansion.{other, two, records, dump, whole, revisions, expanded, trees, second_tree, loads, steads, expansion, folder_there, again, whole_again, makes, is_expanded, expands, is_expansion}
 
--- the folder has an empty property block
+-- the directory has an empty property block
 no_entries : HasPropertyList folder_there []
 no_entries = (inr refl, λ deletes. cc)
 
@@ -88,7 +88,7 @@ written = (
 clean : IsCleanText settings expansion again text
 clean = record { whole = whole_again; fault_free = free; written = written }
 
--- the folder's block is that of no property
+-- the directory's block has no property
 folder_block : (part : List ℕ) → IsWrittenBlock settings (kept_revisions settings again) folder_there [] part
     → length part + length folder_there.text < 10 ^ 18
 folder_block part (old, new, list, how, is) =
@@ -131,12 +131,12 @@ restricts : (patched : Patching) → LoadsRestricted patched settings again tree
 restricts patched = filtered_expansion_restricts patched settings dump expansion text records steads again revisions
     expanded trees whole (loads patched) (is_expansion patched) clean lengths tt
 
--- and behind the root
+-- and after the root
 restricts_behind : (patched : Patching) → LoadsBehindFolders patched settings again trees text
 restricts_behind patched = filtered_expansion_restricts_behind patched settings dump expansion text records steads again
     revisions expanded trees whole (loads patched) (is_expansion patched) clean lengths tt
 
--- the same from bytes to bytes
+-- the same for bytes
 from_bytes : (patched : Patching)
     → LoadsRestricted patched settings again trees text × LoadsBehindFolders patched settings again trees text
 from_bytes patched = filtered_texts_restrict patched settings dump expansion text records again steads revisions trees
@@ -148,7 +148,7 @@ misses_none : (before after : List DumpRecord) (s : DumpRecord) → again ≡ be
 misses_none = no_source_is_missed_in_text (λ delta old. None) settings dump expansion records again steads revisions whole
     (makes (λ delta old. None)) is_expanded expands refl (refl, (refl, (refl, (refl, (refl, (refl, tt)))))) whole_again
 
--- revision 2 of the dump, in which the folder stands, is revision 1
+-- revision 2 of the dump, which has the directory, is revision 1
 image_of_copy : image (kept_revisions settings again) 2 ≡ Some 1
 image_of_copy = refl
 

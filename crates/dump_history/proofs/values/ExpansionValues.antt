@@ -1,4 +1,4 @@
--- The definitions of expanded dumps, tried on worked values.
+-- Examples for the definitions of expanded dumps.
 use Rattle.dump_history.proofs.Prelude.{◌≡◌, arith, None, refl, sym, ap, absurd_bool, DumpRecord, record_text, is_some, path_of, Tree, root_alone, Change, Patching, MakesChange, slice_get}
 use Rattle.std.proofs.Common.{true, false, List, [], ◌∷◌, Some, codes}
 use Rattle.std.specs.Fmt.{digits}
@@ -11,16 +11,16 @@ use Rattle.dump_history.specs.ExpandedText.{AreRecordTexts, changes_for, node_st
 use Rattle.dump_history.proofs.values.WorkedDump.{line, record_at, version, one, settings, none_of}
 use Rattle.dump_history.proofs.values.WorkedExpansion.{other, copy, records, steads, stays, trunk, adds_other, copies_other, first_tree, second_tree, revisions}
 
--- what may stand in place of a record
+-- what may replace a record
 
--- these nodes, and then so much of the record
+-- these nodes, and then this part of the record
 abbrev stead : List WrittenNode → OwnForm → Stead
 stead nodes own = record { nodes = nodes; own = own }
 
 abbrev deletes_trunk : WrittenNode
 deletes_trunk = WrittenNode.Deletion (codes "trunk")
 
--- a node that only changes, and yet tells a copy source
+-- a node that only changes, but names a copy source
 abbrev idle : DumpRecord
 idle = record_at 0 (line (codes "Node-path") (codes "trunk")
     ∷ line (codes "Node-action") (codes "change")
@@ -35,7 +35,7 @@ nodes_alone : may_stand copy (stead (deletes_trunk ∷ trunk ∷ []) OwnForm.Lef
 unfolding digits
 nodes_alone = refl
 
--- deletions, and the node behind them
+-- deletions, and the node after them
 nodes_before : may_stand copy (stead (deletes_trunk ∷ []) OwnForm.AsItIs) ≡ true
 nodes_before = refl
 
@@ -61,7 +61,7 @@ copy_replaces = refl
 no_change_replaces : may_stand idle (stead [] OwnForm.Replacing) ≡ false
 no_change_replaces = refl
 
--- what is left of a record
+-- what remains of a record
 
 lines_without : (without_source idle).headers
     ≡ line (codes "Node-path") (codes "trunk") ∷ line (codes "Node-action") (codes "change") ∷ []
@@ -86,7 +86,7 @@ lines_replacing = refl
 replaces_copy : (patched : Patching) → MakesChange patched (as_replacement copy) (replacing true copies_other)
 replaces_copy patched = ([], none_of (as_replacement copy) refl, refl, refl)
 
--- the same record stands anywhere, but under another version it is another one
+-- the same record may be at another place, but under another version it is another record
 
 elsewhere : IsSameRecord copy (record copy { place = 7 })
 elsewhere = record { version = refl; headers = refl; props = refl; text = refl }
@@ -115,7 +115,7 @@ replaced = refl
 none_left : changes_for (stead [] OwnForm.LeftOut) copies_other ≡ []
 none_left = refl
 
--- what stands in place of the nodes of the worked dump's revisions
+-- what replaces the nodes of the example dump's revisions
 its_groups : stead_groups records steads
     ≡ [] ∷ (stays ∷ []) ∷ (stead (trunk ∷ []) OwnForm.LeftOut ∷ []) ∷ []
 its_groups = refl
@@ -127,7 +127,7 @@ its_changes : made_in_stead records steads revisions
     ≡ (adds_other ∷ []) ∷ (folder_of (path_of (codes "trunk")) [] ∷ []) ∷ []
 its_changes = refl
 
--- nothing in place of the copy is no expansion of it: what it makes would lack
+-- nothing in place of the copy is no expansion of it, since what it makes would be missing
 lacks_copy : Expands settings (slice_get (root_alone ∷ first_tree ∷ [])) first_tree copies_other [] → ⊥
 lacks_copy expands =
     let leads = expands second_tree refl in

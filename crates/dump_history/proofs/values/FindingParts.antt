@@ -1,4 +1,4 @@
--- Parts of the worked values of findings: options, nodes and their lines.
+-- Parts of the examples of findings: options, nodes and their lines.
 use Rattle.dump_history.proofs.Prelude.{Bool, Header, DumpRecord, Side, Include, Exclude, Pad, Settings, Finding, DumpFacts, findings_of, no_node_faults}
 use Rattle.std.specs.Prelude.{ℕ, false, List, [], ◌∷◌, Some, codes}
 use Rattle.dump_history.proofs.values.WorkedDump.{line, record_at}
@@ -8,11 +8,11 @@ abbrev pub cut_by : Side → List (List ℕ) → Settings
 cut_by side prefixes =
     record { side = side; prefixes = prefixes; empty = Pad; renumber = false; preserve = false; skip_missing = false }
 
--- the folder p/a is included
+-- the directory p/a is included
 abbrev pub include_a : Settings
 include_a = cut_by Include (codes "p/a" ∷ [])
 
--- the folder p/a is excluded
+-- the directory p/a is excluded
 abbrev pub exclude_a : Settings
 exclude_a = cut_by Exclude (codes "p/a" ∷ [])
 

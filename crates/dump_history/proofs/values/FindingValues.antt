@@ -1,4 +1,4 @@
--- Worked values of what a survey finds in a node and in a dump, computed and proved by the kernel.
+-- Examples of what a survey finds in a node and in a dump; the checker computes and proves them.
 use Rattle.dump_history.proofs.Prelude.{true, ◌≡◌, ◌++◌, None, refl, Header, DumpRecord, Include, Exclude, Pad, Settings, has_ordered_nodes, Finding, findings_of, DumpFinding, dump_findings, no_node_faults}
 use Rattle.std.proofs.Common.{false, [], ◌∷◌, Some, codes}
 use Rattle.dump_history.proofs.values.WorkedDump.{line, record_at, records, version, zero, one, two, three, trunk}
@@ -9,7 +9,7 @@ use Rattle.dump_history.proofs.values.FindingParts.{cut_by, include_a, exclude_a
 abbrev block : Header
 block = line (codes "Prop-content-length") (codes "10")
 
--- nothing is found in a node that only adds, changes or deletes, kept or left out
+-- nothing is found in a node that only adds, changes or deletes, whether or not it is kept
 
 added_kept : in_node include_a (node (codes "p/a/f") (codes "add") []) ≡ []
 added_kept = refl
@@ -20,7 +20,7 @@ added_left_out = refl
 deleted_kept : in_node include_a (node (codes "p/a") (codes "delete") []) ≡ []
 deleted_kept = refl
 
--- what makes no change that is told
+-- nodes that make no change that the definitions describe
 
 unread : findings_of include_a (node (codes "p/a") (codes "change") []) None no_node_faults ≡ Finding.UnreadBlock ∷ []
 unread = refl
@@ -57,7 +57,7 @@ odd_action = refl
 no_action : in_node include_a (record_at 0 (line (codes "Node-path") (codes "p/a") ∷ [])) ≡ Finding.UnknownAction ∷ []
 no_action = refl
 
--- a copy's revision and mergeinfo at which the filter stops
+-- the filter stops because of a copy's revision or of mergeinfo
 
 missing_copy_revision : findings_of include_a (node (codes "p/a/g") (codes "add") (from (codes "p/a/f"))) (Some [])
     (record no_node_faults { copy_revision = true }) ≡ Finding.MissingCopyRevision ∷ []
@@ -75,7 +75,7 @@ missing_merge_revision : findings_of include_a (node (codes "p/a") (codes "chang
     (record no_node_faults { outside = true }) ≡ Finding.MissingMergeRevision ∷ []
 missing_merge_revision = refl
 
--- texts that the load reads otherwise
+-- texts that the load reads differently
 
 dot_in_path : in_node include_a (node (codes "p/a/./f") (codes "add") []) ≡ Finding.TextReadDifferently ∷ []
 dot_in_path = refl
@@ -106,7 +106,7 @@ left_out_from_left_out = refl
 copy_inside : in_node include_a (node (codes "p/a/g") (codes "add") (from (codes "p/a/f"))) ≡ []
 copy_inside = refl
 
--- a whole file keeps its properties where it sets them, be it to none
+-- a whole file keeps its properties if it sets them, even if it sets none
 file_with_block : in_node include_a (node (codes "p/a/g") (codes "add") (block ∷ whole_from (codes "q/g"))) ≡ []
 file_with_block = refl
 
@@ -114,7 +114,7 @@ file_without_block : in_node include_a (node (codes "p/a/g") (codes "add") (whol
     ≡ Finding.PropertiesLost ∷ []
 file_without_block = refl
 
--- under exclude its text is one that is to be left out
+-- under exclude its text is an excluded one
 text_comes_in : in_node exclude_a (node (codes "q/g") (codes "add") (block ∷ whole_from (codes "p/a/g")))
     ≡ Finding.TextComesIn ∷ []
 text_comes_in = refl
@@ -123,11 +123,11 @@ both_come : in_node exclude_a (node (codes "q/g") (codes "add") (whole_from (cod
     ≡ Finding.PropertiesLost ∷ Finding.TextComesIn ∷ []
 both_come = refl
 
--- under a change the text is the file's own
+-- in a change the text is the file's own
 own_text : in_node exclude_a (node (codes "q/g") (codes "change") (whole_from (codes "p/a/g"))) ≡ []
 own_text = refl
 
--- of a node that is left out nothing comes in
+-- nothing is found in an excluded node about its text
 text_stays_out : in_node exclude_a (node (codes "p/a/h") (codes "add") (whole_from (codes "p/a/g"))) ≡ []
 text_stays_out = refl
 
@@ -139,7 +139,7 @@ copy_loses = refl
 copy_lets_in : in_node exclude_a (node (codes "p") (codes "replace") (from (codes "q"))) ≡ Finding.CopyLetsIn ∷ []
 copy_lets_in = refl
 
--- both sides are cut alike where the same rest is excluded below each
+-- both sides are cut in the same way if the same rest is excluded below each
 copy_cut_alike : in_node (cut_by Exclude (codes "p/a" ∷ codes "q/a" ∷ []))
     (node (codes "q") (codes "add") (from (codes "p"))) ≡ []
 copy_cut_alike = refl
@@ -153,11 +153,11 @@ copy_included : in_node (cut_by Include (codes "p" ∷ codes "q/a" ∷ codes "q"
     (node (codes "q") (codes "add") (from (codes "p"))) ≡ []
 copy_included = refl
 
--- under a change a copy source makes nothing
+-- in a change a copy source makes nothing
 change_with_source : in_node exclude_a (node (codes "q") (codes "change") (from (codes "p"))) ≡ []
 change_with_source = refl
 
--- a folder above an included prefix
+-- a directory above an included prefix
 
 folder_takes : in_node include_a (node (codes "p") (codes "delete") []) ≡ Finding.FolderTakes ∷ []
 folder_takes = refl
@@ -175,7 +175,7 @@ folder_stays = refl
 folder_beside : in_node include_a (node (codes "pp") (codes "delete") []) ≡ []
 folder_beside = refl
 
--- an excluded folder that is deleted takes nothing that is kept
+-- if an excluded directory is deleted, nothing kept is deleted with it
 folder_excluded : in_node exclude_a (node (codes "p/a") (codes "delete") []) ≡ []
 folder_excluded = refl
 
@@ -184,7 +184,7 @@ folder_excluded = refl
 abbrev padded : Settings
 padded = record worked_settings { empty = Pad; renumber = false }
 
--- nothing is found in the worked dump, be it renumbered or padded
+-- nothing is found in the example dump, whether it is renumbered or padded
 
 nothing_renumbered : dump_findings worked_settings records (facts true false) ≡ []
 nothing_renumbered = refl
@@ -192,23 +192,23 @@ nothing_renumbered = refl
 nothing_padded : dump_findings padded records (facts false false) ≡ []
 nothing_padded = refl
 
--- a revision is dropped, and a kept node names one behind it
+-- a revision is dropped, and a kept node after it names one
 dropped_not_renumbered : dump_findings (record worked_settings { renumber = false }) records (facts true false)
     ≡ DumpFinding.NumbersLeft ∷ []
 dropped_not_renumbered = refl
 
--- where none is named, no number matters
+-- if none is named, no number matters
 none_named : dump_findings (record worked_settings { renumber = false }) records (facts false false) ≡ []
 none_named = refl
 
--- where none is dropped, none needs a new number
+-- if none is dropped, none needs a new number
 none_dropped : dump_findings (record worked_settings { renumber = false }) (version ∷ zero ∷ one ∷ trunk ∷ []) (facts false false) ≡ []
 none_dropped = refl
 
 no_revision : dump_findings padded (version ∷ []) (facts false false) ≡ DumpFinding.NoRevision ∷ []
 no_revision = refl
 
--- a part of a history begins at a higher number, and has a node in its first revision; but revision 0 has none
+-- a partial dump begins at a higher number, and has a node in its first revision; but revision 0 has none
 numbers_from_two : dump_findings padded (version ∷ two ∷ trunk ∷ three ∷ []) (facts false false) ≡ []
 numbers_from_two = refl
 
@@ -218,14 +218,14 @@ number_left_out = refl
 node_in_first : dump_findings padded (version ∷ zero ∷ trunk ∷ []) (facts false false) ≡ DumpFinding.NodeInFirst ∷ []
 node_in_first = refl
 
--- a node before any revision, and one behind a record that is none
+-- a node before any revision, and one after a record that is no revision
 node_outside : dump_findings padded (version ∷ trunk ∷ zero ∷ []) (facts false false) ≡ DumpFinding.NodeOutside ∷ []
 node_outside = refl
 
 node_behind_another : dump_findings padded (zero ∷ one ∷ version ∷ trunk ∷ []) (facts false false) ≡ DumpFinding.NodeOutside ∷ []
 node_behind_another = refl
 
--- where nodes may stand
+-- where nodes may be
 
 node_first : has_ordered_nodes false (trunk ∷ []) ≡ false
 node_first = refl

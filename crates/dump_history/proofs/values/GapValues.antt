@@ -1,4 +1,4 @@
--- Worked values of gaps in a dump's numbers, and of nodes that name a revision behind a dropped one.
+-- Examples of gaps in a dump's numbers, and of nodes that name a revision after a dropped one.
 use Rattle.dump_history.proofs.Prelude.{◌≡◌, zero, suc, Bool, true, ◌||◌, None, refl, ap, inl, inr, arith, Property, DumpRecord, Settings, HasPropertyList, property_list_once, groups, first_number, path_of, root_alone, Made, PropertyChange, Change, Patching, names_revision, name_no_revision, go_up, count_to_gap, MakeRevisionsWithGaps, LoadsWithGapsAs, NamesRevision, NamesRevisionBehind, KeepsNamedNumbers, MakePartRevisionsWithGaps, DumpFinding, AreDumpFindingsOf}
 use Rattle.std.proofs.Common.{ℕ, false, List, [], ◌∷◌, Some, codes}
 use Rattle.dump_history.proofs.survey.NamingTest.{names_test, test_tells, behind_told}
@@ -72,7 +72,7 @@ one_number_more = refl
 
 -- dumps with gaps
 
--- every delta is refused
+-- every delta is rejected
 abbrev refused : Patching
 refused delta old = None
 
@@ -95,13 +95,13 @@ loads_with_gap = (_, record { makes = with_gap; loads = refl })
 from_one : (rs : List (List Change)) → ¬ MakeRevisionsWithGaps refused (version ∷ one ∷ []) rs
 from_one rs makes = let bad : suc zero ≡ zero = ap first_number makes.begins in omega (arith, bad)
 
--- a part may lack its first revisions too
+-- a partial dump may lack its first revisions too
 part_with_gap : MakePartRevisionsWithGaps refused 0 (version ∷ two ∷ trunk ∷ []) ((plain ∷ []) ∷ [])
 part_with_gap = record { numbered = refl; ordered = refl; changes = ((makes_trunk refused, tt), tt) }
 
--- nodes that name a revision behind a dropped one
+-- nodes that name a revision after a dropped one
 
--- the options of the worked dump, without renumbering: revision 2 is dropped
+-- the options of the example dump, without renumbering: revision 2 is dropped
 abbrev left_numbers : Settings
 left_numbers = record settings { renumber = false }
 
@@ -181,7 +181,7 @@ folder_behind names = folder_names_no_revision ((test_tells trunk).0 (left (name
     (left (names_test trunk || false)
     ((behind_told left_numbers names_test test_tells (groups (behind trunk))).1 names))))
 
--- a copy that is left out
+-- an excluded copy
 abbrev left_out : DumpRecord
 left_out = record_at 0 (line (codes "Node-path") (codes "b") ∷ line (codes "Node-action") (codes "add")
     ∷ line (codes "Node-copyfrom-rev") (codes "2") ∷ line (codes "Node-copyfrom-path") (codes "trunk") ∷ [])

@@ -1,4 +1,4 @@
--- The law of kept changes, applied to the worked dump; and a text that comes of none.
+-- The law of kept changes, applied to the example dump; and a text that comes of none.
 use Rattle.dump_history.proofs.Prelude.{◌≡◌, true, refl, ap, ◌∙◌, inl, inr, bytes_eq, zero, suc, arith, path_of, Patching, TextChange, Change}
 use Rattle.std.proofs.Common.{false, [], Some, codes}
 use Rattle.dump_trees.specs.WritingOut.{file_of}
@@ -10,7 +10,7 @@ use Rattle.dump_history.proofs.cuts.KeptChanges.{filtered_changes_are_kept}
 use Rattle.dump_history.proofs.values.WorkedDump.{records, dump, settings, revisions, loads}
 use Rattle.dump_history.proofs.values.WorkedFilter.{text, clean, lengths}
 
--- what the filter writes of the worked dump comes of its kept changes
+-- what the filter writes of the example dump comes of its kept changes
 worked_kept : (patched : Patching) → ChangesComeOfKept patched settings records revisions text
 worked_kept patched =
     filtered_changes_are_kept patched settings dump text records revisions clean lengths (loads patched).makes refl

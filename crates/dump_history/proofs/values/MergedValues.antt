@@ -1,4 +1,4 @@
--- Worked values of mergeinfo in restricted trees: its numbers change by the kept revisions of the dump itself.
+-- Examples of mergeinfo in restricted trees: its numbers change by the kept revisions of the dump itself.
 use Rattle.dump_history.proofs.Prelude.{◌≡◌, not, ◌&&◌, cond, keeps, IsNewNode, refl, sym, ap, ◌∙◌, inl, inr, None, arith, lit<, lit≤, bytes_eq, kept_revisions, new_number, IsNewProperty, NodePath, Node, Tree, root_alone, put}
 use Rattle.std.proofs.Common.{ℕ, true, false, List, [], ◌∷◌, Some, codes}
 use Rattle.std.specs.Prelude.{IsTrue, IsFalse}
@@ -42,7 +42,7 @@ new_value = (
   refl,
 )
 
--- the root has this mergeinfo, and nothing else stands
+-- the root has this mergeinfo, and nothing else exists
 abbrev merged : List ℕ → Tree
 merged value = put [] (Node.Folder (merge value ∷ [])) root_alone
 

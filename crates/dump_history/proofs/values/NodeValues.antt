@@ -1,9 +1,9 @@
--- Worked values of the changes that nodes make, computed and proved by the kernel.
+-- Examples of the changes that nodes make; the checker computes and proves them.
 use Rattle.dump_history.proofs.Prelude.{◌≡◌, true, ◌++◌, Option, None, refl, inl, inr, Header, Property, DumpRecord, HasPropertyList, path_of, Made, PropertyChange, TextChange, Change, Patching, change_of, has_plain_texts, MakesChange}
 use Rattle.std.proofs.Common.{ℕ, false, List, [], ◌∷◌, Some, codes}
 use Rattle.dump_history.proofs.values.WorkedDump.{line}
 
--- every delta is refused
+-- every delta is rejected
 abbrev refused : Patching
 refused delta old = None
 
@@ -172,7 +172,7 @@ with_delta version name value = node_under version (line (codes "Node-path") (co
 property_delta_under_2 : change_of refused (with_delta 2 (codes "Prop-delta") (codes "true")) [] ≡ None
 property_delta_under_2 = refl
 
--- under version 3 a delta counts where there is a length
+-- under version 3 a delta counts if there is a length
 property_delta_alone : change_of refused (with_delta 3 (codes "Prop-delta") (codes "true")) [] ≡ Some nothing
 property_delta_alone = refl
 
@@ -190,7 +190,7 @@ deleted_property : HasPropertyList (with_block (codes "14") (codes "D 1\np\nPROP
     (record { name = codes "p"; value = None } ∷ []) → ⊥
 deleted_property list = absurd (let bad : false ≡ true = list.1 refl in cc)
 
--- texts that the load reads as they stand, and others
+-- texts that the load reads as they are, and others
 
 plain : has_plain_texts (node (codes "a/b") (codes "add") copied_from) (property ∷ []) ≡ true
 plain = refl
@@ -233,7 +233,7 @@ zero_in_line = refl
 zero_in_name : has_plain_texts (with_block (codes "24") []) (record { name = 0 ∷ []; value = Some [] } ∷ []) ≡ false
 zero_in_name = refl
 
--- a zero byte in a property's value is read as it stands
+-- a zero byte in a property's value is read as it is
 zero_in_value : has_plain_texts (with_block (codes "24") [])
     (record { name = codes "p"; value = Some (0 ∷ []) } ∷ []) ≡ true
 zero_in_value = refl

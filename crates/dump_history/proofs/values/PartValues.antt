@@ -1,4 +1,4 @@
--- The worked dump as a part of a history: its revisions behind revision 0, which have the numbers 7, 8 and 9 here.
+-- The example dump as a partial dump: the revisions after revision 0 have the numbers 7, 8 and 9 here.
 use Rattle.dump_history.proofs.Prelude.{◌≡◌, ◌+◌, true, map, Option, None, refl, ap, arith, Property, DumpRecord, image, kept_revisions, path_of, root_alone, Made, Change, made_behind, change_behind, Patching, MakesChange, keeps_numbering, MakePartRevisions, PartLoadsAs, IsLoadedProperty, kept_as_loaded}
 use Rattle.std.proofs.Common.{ℕ, false, List, [], ◌∷◌, Some, codes}
 use Rattle.dump_history.proofs.again.GroupChanges.{AllMake}
@@ -9,7 +9,7 @@ use Rattle.dump_history.proofs.values.WorkedDump.{line, record_at, trunk, other,
 abbrev revision : List ℕ → DumpRecord
 revision number = record_at 0 (line (codes "Revision-number") number ∷ [])
 
--- a copy of the kept folder from the dropped revision
+-- a copy of the kept directory from the dropped revision
 abbrev copy : DumpRecord
 copy = record_at 0 (line (codes "Node-path") (codes "trunk/b")
     ∷ line (codes "Node-kind") (codes "dir")
@@ -41,7 +41,7 @@ loads patched = record { makes = makes patched; loads = refl }
 numbered_otherwise : (patched : Patching) (changes : List (List Change)) → ¬ MakePartRevisions patched 5 records changes
 numbered_otherwise patched changes other = let bad : false ≡ true = other.numbered in cc
 
--- a node that stands before its first revision makes no part
+-- if a node is before its first revision, it is no partial dump
 node_outside : (patched : Patching) (changes : List (List Change))
     → ¬ MakePartRevisions patched 6 (trunk ∷ revision (codes "7") ∷ []) changes
 node_outside patched changes other = let bad : false ≡ true = other.ordered in cc
@@ -69,11 +69,11 @@ copies_before patched (first ∷ changes) other = early first other.changes.0
         (Some (Made.Copied 8 (path_of (codes "trunk"))))) make (makes_copy patched) in
         by_made c.made (ap (λ (c : Change). c.made) same)
 
--- its numbers are kept where they are renumbered, from its first one on, and where none is dropped
+-- its numbers are kept if they are renumbered, from its first one on, and none is dropped
 numbers_stay : keeps_numbering settings records ≡ true
 numbers_stay = refl
 
--- as loaded, revision 9 stands at 3 before and at 2 behind the filter, and dropped revision 8 at 1
+-- as loaded, revision 9 is revision 3 before the filter and revision 2 after it, and dropped revision 8 is at 1
 image_of_copy : image (kept_as_loaded 6 (kept_revisions settings records)) 3 ≡ Some 2
 image_of_copy = refl
 

@@ -1,4 +1,4 @@
--- Worked values of mergeinfo behind other revisions: what is raised, and what isn't.
+-- Examples of mergeinfo after other revisions: what is raised, and what isn't.
 use Rattle.dump_history.proofs.Prelude.{◌≡◌, ◌<◌, ◌≤◌, true, Bool, ◌++◌, length, None, unwrap_or, bytes_eq, refl, sym, ap, subst, ◌∙◌, inl, inr, arith, lit<, lit≤, both_ways, Contains-push, Contains-push_cases, has_byte, number_of, Property, bare_path, HasNumber, star, MergeLine, IsMergeinfo, one_reading, HasMergedNumber, AreRaisedLines, IsRaised}
 use Rattle.std.proofs.Common.{ℕ, false, List, [], ◌∷◌, Some, codes}
 

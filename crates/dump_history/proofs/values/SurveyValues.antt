@@ -1,10 +1,10 @@
--- More worked values of what a survey finds: each tells a definition from one that lacks a part of it.
+-- More examples of what a survey finds. Each shows that a definition differs from one that lacks a part of it.
 use Rattle.dump_history.proofs.Prelude.{◌≡◌, true, None, refl, DumpRecord, Include, Exclude, DropAll, Settings, Finding, every_finding, findings_of, is_obstacle, is_alarm, DumpFinding, every_dump_finding, rise, dump_findings, none_is, no_node_faults}
 use Rattle.std.proofs.Common.{false, [], ◌∷◌, filter, codes}
 use Rattle.dump_history.proofs.values.WorkedDump.{line, record_at, version, zero, one, two, trunk, three, copy}
 use Rattle.dump_history.proofs.values.FindingParts.{cut_by, include_a, exclude_a, node, from, whole_from, in_node, facts}
 
--- a folder and what lies below it, both included
+-- a directory and what is below it, both included
 abbrev include_both : Settings
 include_both = cut_by Include (codes "p" ∷ codes "p/a" ∷ [])
 
@@ -35,7 +35,7 @@ alarms : filter is_alarm every_finding ≡ Finding.PropertiesLost ∷ Finding.Co
     ∷ Finding.FolderTakes ∷ Finding.FolderBrings ∷ []
 alarms = refl
 
--- more than one finding stands in this order
+-- several findings are in this order
 
 three_found : in_node include_a (node (codes "p/a//g") (codes "add") (from (codes "q/g")))
     ≡ Finding.TextReadDifferently ∷ Finding.NoWholeFile ∷ Finding.PropertiesLost ∷ []
@@ -45,7 +45,7 @@ unread_and_odd : findings_of include_a (node (codes "p/a/./g") (codes "rename") 
     ≡ Finding.UnreadBlock ∷ Finding.UnknownAction ∷ Finding.TextReadDifferently ∷ []
 unread_and_odd = refl
 
--- the filter stops under exclude too, and under each action: a copy source counts for it wherever it stands
+-- the filter stops under exclude too, and under each action: a copy source counts wherever it is
 
 excluded_folder : in_node exclude_a (node (codes "q/g") (codes "add") (from (codes "p/a/g")))
     ≡ Finding.NoWholeFile ∷ Finding.PropertiesLost ∷ []
@@ -59,7 +59,7 @@ changed_from_left_out = refl
 text_of_kept : in_node exclude_a (node (codes "q/g") (codes "add") (whole_from (codes "q/f"))) ≡ []
 text_of_kept = refl
 
--- a replaced file that becomes a plain one has the text of what is to be left out
+-- a replaced file that becomes a plain one has an excluded text
 replaced_text : in_node exclude_a (node (codes "q/g") (codes "replace") (whole_from (codes "p/a/g")))
     ≡ Finding.PropertiesLost ∷ Finding.TextComesIn ∷ []
 replaced_text = refl
@@ -78,7 +78,7 @@ nothing_to_lose = refl
 changed_with_source : in_node exclude_a (node (codes "p") (codes "change") (from (codes "q"))) ≡ []
 changed_with_source = refl
 
--- a kept folder takes and brings what lies below it with it
+-- if a kept directory is deleted or copied, what is below it is deleted or copied with it
 
 kept_folder_goes : in_node include_both (node (codes "p") (codes "delete") []) ≡ []
 kept_folder_goes = refl
@@ -86,7 +86,7 @@ kept_folder_goes = refl
 kept_folder_comes : in_node include_both (node (codes "p") (codes "add") (from (codes "p/x"))) ≡ []
 kept_folder_comes = refl
 
--- a new folder above an included prefix brings nothing, and neither does a change with a copy source
+-- a new directory above an included prefix brings nothing, and neither does a change with a copy source
 
 folder_added : in_node include_a (node (codes "p") (codes "add") (line (codes "Node-kind") (codes "dir") ∷ [])) ≡ []
 folder_added = refl
@@ -94,11 +94,11 @@ folder_added = refl
 folder_changed : in_node include_a (node (codes "p") (codes "change") (from (codes "q"))) ≡ []
 folder_changed = refl
 
--- a folder that is replaced by a new one takes what is below it
+-- a directory that is replaced by a new one takes what is below it
 folder_replaced : in_node include_a (node (codes "p") (codes "replace") []) ≡ Finding.FolderTakes ∷ []
 folder_replaced = refl
 
--- a folder far above the prefix counts too
+-- a directory far above the prefix counts too
 root_of_prefix : in_node (cut_by Include (codes "p/a/b" ∷ [])) (node (codes "p") (codes "delete") [])
     ≡ Finding.FolderTakes ∷ []
 root_of_prefix = refl
@@ -115,7 +115,7 @@ number_again : dump_findings include_a (version ∷ zero ∷ one ∷ one ∷ [])
     ≡ DumpFinding.OtherNumbers ∷ DumpFinding.NumberFalls ∷ []
 number_again = refl
 
--- one below that of the revision before it, behind a node, and one below the first number
+-- a number below that of the revision before it, after a node, and one below the first number
 number_falls : dump_findings include_a (version ∷ one ∷ two ∷ trunk ∷ one ∷ []) (facts false false)
     ≡ DumpFinding.OtherNumbers ∷ DumpFinding.NumberFalls ∷ []
 number_falls = refl
@@ -140,7 +140,7 @@ last_stays = refl
 node_in_second : dump_findings include_a (version ∷ zero ∷ one ∷ trunk ∷ two ∷ []) (facts false false) ≡ []
 node_in_second = refl
 
--- three of them in one dump: a node in revision 0, and behind it revision 2, which is dropped, and a kept copy
+-- three findings in one dump: a node in revision 0, and after it revision 2, which is dropped, and a kept copy
 three_in_dump : dump_findings (record (cut_by Include (codes "trunk" ∷ [])) { empty = DropAll })
     (version ∷ zero ∷ trunk ∷ two ∷ three ∷ copy ∷ []) (facts true false)
     ≡ DumpFinding.OtherNumbers ∷ DumpFinding.NodeInFirst ∷ DumpFinding.NumbersLeft ∷ []
@@ -154,7 +154,8 @@ copied_from_before = refl
 copied_from_first : dump_findings include_trunk (version ∷ two ∷ three ∷ copy ∷ []) (facts false false) ≡ []
 copied_from_first = refl
 
--- a copy that isn't kept is told too, and one behind the first revision; under a change a copy source doesn't count
+-- a copy that isn't kept is reported too, and so is one after the first revision; in a change a copy source doesn't
+-- count
 
 dropped_from_before : dump_findings include_a (version ∷ three ∷ copy ∷ []) (facts false false) ≡ DumpFinding.SourceBefore ∷ []
 dropped_from_before = refl
@@ -166,7 +167,7 @@ later_from_before = refl
 changed_from_before : dump_findings include_trunk (version ∷ three ∷ changed ∷ []) (facts false false) ≡ []
 changed_from_before = refl
 
--- a copy behind another node of its revision is told too
+-- a copy after another node of its revision is reported too
 second_from_before : dump_findings include_trunk (version ∷ three ∷ trunk ∷ copy ∷ []) (facts false false) ≡ DumpFinding.SourceBefore ∷ []
 second_from_before = refl
 

@@ -1,4 +1,4 @@
--- Worked values of revisions whose properties can't be read.
+-- Examples of revisions whose properties can't be read.
 use Rattle.dump_history.proofs.Prelude.{◌↔◌, Bool, true, ◌≡◌, ◌&&◌, IsTrue, refl, ap, arith, list_any, and_from, both_ways, DumpRecord, finds, is_revision_record, groups, NamesRevisionBehind, DumpFinding, HasUnreadRevision, AreDumpFindingsOf, groups_name_behind}
 use Rattle.std.proofs.Common.{ℕ, false, List, [], ◌∷◌, codes}
 use Rattle.dump_history.proofs.survey.NamingTest.{names_test, test_tells, behind_told}
@@ -13,7 +13,7 @@ has_bytes (b ∷ bytes) = true
 abbrev pub may_be_unread : DumpRecord → Bool
 may_be_unread r = is_revision_record r && has_bytes r.props
 
--- where no revision has property bytes the properties of each can be read
+-- if no revision has property bytes, the properties of each can be read
 pub none_unread : (rs : List DumpRecord) → list_any may_be_unread rs ≡ false → ¬ HasUnreadRevision rs
 none_unread rs none (r, there, (is, unread)) = by r.props refl
   where
@@ -22,21 +22,21 @@ none_unread rs none (r, there, (is, unread)) = by r.props refl
     by (b ∷ bytes) some = both_ways (list_any may_be_unread rs) none
         (finds may_be_unread rs r there (and_from (is_revision_record r) (has_bytes r.props) is (ap has_bytes some)))
 
--- and so it is told
+-- and this is found
 pub told_read : (rs : List DumpRecord) → list_any may_be_unread rs ≡ false → IsTrue false ↔ HasUnreadRevision rs
 told_read rs none = (λ bad. cc, λ has. absurd (none_unread rs none has))
 
 abbrev unread_one : DumpRecord
 unread_one = with_props one (codes "x")
 
--- whether a kept node names a revision, which doesn't matter where revisions are renumbered
+-- whether a kept node names a revision, which doesn't matter if revisions are renumbered
 abbrev named : List DumpRecord → Bool
 named rs = groups_name_behind settings names_test (groups rs)
 
 named_told : (rs : List DumpRecord) → IsTrue (named rs) ↔ NamesRevisionBehind settings rs
 named_told rs = behind_told settings names_test test_tells (groups rs)
 
--- a revision whose properties can't be read, before another one and behind one
+-- a revision whose properties can't be read, before another one and after one
 abbrev with_unread : List DumpRecord
 with_unread = version ∷ zero ∷ unread_one ∷ two ∷ []
 

@@ -1,6 +1,6 @@
--- A worked dump of which a part is taken. An included file is copied from one that isn't, which stands beside it, and
--- its directory is copied to a branch, in which the file is included too. In place of the first copy the file is
--- written; the second one stays, since what stands beside the file is excluded in both directories.
+-- An example dump of which a part is taken. An included file is a copy of an excluded file next to it, and its
+-- directory is copied to a branch, in which the file is included too. The first copy is replaced by the file. The
+-- second copy stays, since the file next to it is excluded in both directories.
 use Rattle.dump_history.proofs.Prelude.{◌≡◌, true, ◌++◌, length, None, refl, sym, ◌∙◌, subst, inr, ◌+◌, arith, lit<, Pad, Exclude, Settings, Ending, HasRecords, IsCutInto, property_length, text_length, DumpRecord, record_text, is_lawful, BeginsWithRecord, is_block, HoldsOfRecord, path_of, Node, Tree, root_alone, put, grafted, Made, TextChange, Change, Patching, MakesChange, MakeRevisions, LoadsAs, slice_get}
 use Rattle.std.proofs.Common.{ℕ, false, List, [], ◌∷◌, Some, codes}
 use Rattle.std.specs.Fmt.{digits}
@@ -20,7 +20,7 @@ use Rattle.dump_history.proofs.values.WorkedExpansion.{stays}
 use Rattle.dump_history.proofs.values.WorkedDump.{line, record_at, version, zero as revision_0, one, trunk, joined, folder, none_of, makes_trunk}
 use Rattle.dump_text.specs.declared.fault.FaultKind.TheVariants as faults
 
--- the dump; its first records are those of the other worked dump: a version, revision 0, and the directory in revision 1
+-- the dump; its first records are those of the other example dump: a version, revision 0, and the directory in revision 1
 
 -- a file that isn't included
 abbrev pub old : DumpRecord
@@ -36,7 +36,7 @@ old = record {
   text = codes "text";
 }
 
--- revision 2, behind two line feeds
+-- revision 2, after two line feeds
 abbrev pub two : DumpRecord
 two = record_at 223 (line (codes "Revision-number") (codes "2") ∷ [])
 
@@ -64,7 +64,7 @@ branch = record_at 369 (line (codes "Node-path") (codes "branch")
 abbrev pub records : List DumpRecord
 records = version ∷ revision_0 ∷ one ∷ trunk ∷ old ∷ two ∷ app ∷ three ∷ branch ∷ []
 
--- its records up to revision 2, and what stands behind them
+-- its records up to revision 2, and what follows them
 abbrev pub begun : List ℕ → List ℕ
 begun rest = record_text version ++ (record_text revision_0 ++ (record_text one ++ (record_text trunk
     ++ (record_text old ++ (codes "\n\n" ++ (record_text two ++ rest))))))
@@ -82,14 +82,14 @@ its_text : dump ≡ codes "SVN-fs-dump-format-version: 2\n\nRevision-number: 0\n
     ++ codes "Node-copyfrom-path: trunk\n\n"
 its_text = refl
 
--- a record stands before a rest
+-- a record before a rest
 pub begins_there : (number : ℕ) (r : DumpRecord) (rest : List ℕ) → is_block r.headers ≡ true
     → is_lawful number r.headers ≡ true → length r.props ≡ property_length r.headers
     → length r.text ≡ text_length r.headers → BeginsWithRecord number (record_text r ++ rest) r rest
 begins_there number r rest block lawful props text =
     record { block = block; lawful = lawful; props_fit = props; text_fits = text; spelled = refl }
 
--- the first records stand before each rest
+-- the first records before each rest
 begun_cut : (rest : List ℕ) (behind : List DumpRecord) → IsCutInto 6 243 rest behind []
     → IsCutInto 0 0 (begun rest) (version ∷ revision_0 ∷ one ∷ trunk ∷ old ∷ two ∷ behind) []
 begun_cut rest behind cut = (
@@ -146,7 +146,7 @@ begun_cut rest behind cut = (
     behind_version : List ℕ
     behind_version = record_text revision_0 ++ behind_zero
 
--- the last two records stand behind some line feeds
+-- the last two records after some line feeds
 ended_cut : (place lfs : ℕ) → IsCutInto 7 place (line_feeds lfs ++ joined (three ∷ branch ∷ []))
     (record three { place = place + lfs } ∷ record branch { place = place + lfs + 20 } ∷ []) []
 ended_cut place lfs = (
@@ -184,8 +184,8 @@ whole = (
   (refl, lit< tt),
 )
 
--- both files beside the included ones are excluded; each revision stays, with its number and its properties, and missing
--- merge sources are left out
+-- Both files next to the included ones are excluded. Each revision stays, with its number and its properties, and
+-- missing merge sources are omitted.
 abbrev pub settings : Settings
 settings = record {
   side = Exclude;
@@ -196,7 +196,7 @@ settings = record {
   skip_missing = true;
 }
 
--- the filter refuses the dump itself
+-- the filter rejects the dump itself
 refused : HoldsOfRecord settings (version ∷ revision_0 ∷ one ∷ trunk ∷ old ∷ two ∷ []) app faults.CopySource
 refused = refl
 
@@ -253,7 +253,7 @@ makes patched = record {
 pub loads : (patched : Patching) → LoadsAs patched root_alone records revisions trees
 loads patched = record { makes = makes patched; loads = refl }
 
--- its expanded form: in place of the copied file one with its text stands
+-- its expanded form: a node with the text is in place of the copied file
 
 abbrev pub file : WrittenNode
 file = WrittenNode.File false (codes "trunk/app") [] (codes "text") None None
@@ -280,7 +280,7 @@ pub can : can_be_written file ≡ true
 unfolding digits
 can = refl
 
--- the texts of the first records stand before each rest
+-- the texts of the first records before each rest
 begun_texts : (rest : List ℕ) (behind : List DumpRecord) → AreRecordTexts behind rest
     → AreRecordTexts (version ∷ revision_0 ∷ one ∷ trunk ∷ old ∷ two ∷ behind) (begun rest)
 begun_texts rest behind texts = (
@@ -312,7 +312,7 @@ begun_texts rest behind texts = (
     behind_version : List ℕ
     behind_version = record_text revision_0 ++ behind_zero
 
--- the text has in place of each record what may stand there
+-- the text has, in place of each record, what may replace it
 pub is_expanded : IsExpandedText records steads expansion
 unfolding digits
 is_expanded = record {
@@ -341,7 +341,7 @@ pub source_branch : HasBranch first_tree (path_of (codes "trunk/old")) (Branch.F
 source_branch [] = refl
 source_branch (name ∷ rest) = refl
 
--- one change of a revision is expanded, and those behind it
+-- one change of a revision is expanded, and so are those after it
 expand_first : (options : Settings) (history : History) (before after : Tree) (c : Change) (changes front rest : List Change)
     → step history before c ≡ Some after → Expands options history before c front
     → AllExpand options history after changes rest → AllExpand options history before (c ∷ changes) (front ++ rest)
@@ -355,7 +355,7 @@ expand_first options history before after c changes front rest at expands more =
       subst (λ t. AllExpand options history t changes rest) same more,
 )
 
--- one revision is, and those behind it
+-- one revision is expanded, and so are those after it
 expand_revision : (options : Settings) (older : List Tree) (youngest tree : Tree) (changes front : List Change)
     (more rest : List (List Change)) → steps (slice_get older) youngest changes ≡ Some tree
     → AllExpand options (slice_get older) youngest changes front

@@ -1,4 +1,4 @@
--- A worked dump of version 3, as records: a file that is patched and whose properties are edited.
+-- An example dump of version 3, as records: a file that is patched and whose properties are edited.
 use Rattle.dump_history.proofs.Prelude.{◌≡◌, ◌++◌, Option, None, refl, inl, inr, Header, Property, DumpRecord, HasPropertyList, path_of, Node, Tree, root_alone, put, Made, PropertyChange, TextChange, Change, MakesChange, MakeRevisions, LoadsAs}
 use Rattle.std.proofs.Common.{ℕ, false, List, [], ◌∷◌, Some, codes}
 use Rattle.dump_history.proofs.values.DeltaValues.{behind, removal}

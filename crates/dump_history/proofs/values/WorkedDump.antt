@@ -1,4 +1,4 @@
--- A worked dump with a dropped revision and a copy whose number changes: its records, its changes and its trees.
+-- An example dump with a dropped revision and a copy whose number changes: its records, its changes and its trees.
 use Rattle.dump_history.proofs.Prelude.{◌≡◌, true, ◌++◌, length, Option, None, refl, sym, ap, ◌∙◌, inl, lit<, Header, is_block, Ending, HasRecords, IsCutInto, property_length, text_length, DumpRecord, record_text, is_lawful, BeginsWithRecord, Include, DropEmptied, Settings, HasPropertyList, path_of, Node, Tree, root_alone, put, grafted, Made, Change, Patching, MakesChange, MakeRevisions, LoadsAs}
 use Rattle.std.proofs.Common.{ℕ, false, List, [], ◌∷◌, Some, codes}
 
@@ -10,7 +10,7 @@ line name value = record { name = name; value = value }
 abbrev pub record_at : ℕ → List Header → DumpRecord
 record_at place headers = record { place = place; version = 2; headers = headers; props = []; text = [] }
 
--- the records, each where it stands in the dump
+-- the records, each at its place in the dump
 
 -- the version
 abbrev pub version : DumpRecord
@@ -24,7 +24,7 @@ zero = record_at 31 (line (codes "Revision-number") (codes "0") ∷ [])
 abbrev pub one : DumpRecord
 one = record_at 51 (line (codes "Revision-number") (codes "1") ∷ [])
 
--- a folder that is kept
+-- a directory that is kept
 abbrev pub trunk : DumpRecord
 trunk = record_at 71 (line (codes "Node-path") (codes "trunk")
     ∷ line (codes "Node-kind") (codes "dir")
@@ -34,7 +34,7 @@ trunk = record_at 71 (line (codes "Node-path") (codes "trunk")
 abbrev pub two : DumpRecord
 two = record_at 121 (line (codes "Revision-number") (codes "2") ∷ [])
 
--- a folder that is dropped
+-- a directory that is dropped
 abbrev pub other : DumpRecord
 other = record_at 141 (line (codes "Node-path") (codes "other")
     ∷ line (codes "Node-kind") (codes "dir")
@@ -44,7 +44,7 @@ other = record_at 141 (line (codes "Node-path") (codes "other")
 abbrev pub three : DumpRecord
 three = record_at 191 (line (codes "Revision-number") (codes "3") ∷ [])
 
--- a copy of the kept folder from the dropped revision
+-- a copy of the kept directory from the dropped revision
 abbrev pub copy : DumpRecord
 copy = record_at 211 (line (codes "Node-path") (codes "trunk/b")
     ∷ line (codes "Node-kind") (codes "dir")

@@ -1,4 +1,4 @@
--- A worked dump that the filter refuses, since a kept folder is copied from one that isn't, and its expanded form.
+-- An example dump that the filter rejects, since a kept directory is a copy of an excluded one, and its expanded form.
 use Rattle.dump_history.proofs.Prelude.{◌≡◌, true, ◌++◌, None, refl, subst, inr, lit<, Ending, HasRecords, DumpRecord, record_text, BeginsWithRecord, HoldsOfRecord, path_of, Node, Tree, root_alone, put, grafted, Made, Change, Patching, MakeRevisions, LoadsAs, slice_get}
 use Rattle.std.proofs.Common.{ℕ, false, List, [], ◌∷◌, Some, codes}
 use Rattle.std.specs.Fmt.{digits}
@@ -20,7 +20,7 @@ use Rattle.dump_history.proofs.values.WorkedDump.{line, record_at, version, zero
 
 -- the dump
 
--- a folder that is left out
+-- an excluded directory
 abbrev pub other : DumpRecord
 other = record_at 71 (line (codes "Node-path") (codes "other")
     ∷ line (codes "Node-kind") (codes "dir")
@@ -45,7 +45,7 @@ records = version ∷ zero ∷ one ∷ other ∷ two ∷ copy ∷ []
 abbrev pub dump : List ℕ
 dump = joined records
 
--- the filter refuses the copy
+-- the filter rejects the copy
 refused : HoldsOfRecord settings (version ∷ zero ∷ one ∷ other ∷ two ∷ []) copy faults.CopySource
 refused = refl
 
@@ -136,7 +136,7 @@ makes patched = record {
 pub loads : (patched : Patching) → LoadsAs patched root_alone records revisions trees
 loads patched = record { makes = makes patched; loads = refl }
 
--- its expanded form: in place of the copy a folder stands
+-- its expanded form: a directory is in place of the copy
 
 abbrev pub trunk : WrittenNode
 trunk = WrittenNode.Folder false (codes "trunk") []
@@ -151,7 +151,7 @@ steads = stays ∷ stays ∷ stays ∷ stays ∷ stays ∷ record { nodes = trun
 abbrev pub expansion : List ℕ
 expansion = joined (version ∷ zero ∷ one ∷ other ∷ two ∷ []) ++ node_bytes trunk ++ codes "\n\n"
 
--- what stands behind some of its records
+-- what follows some of its records
 abbrev behind : List DumpRecord → List ℕ
 behind rest = joined rest ++ node_bytes trunk ++ codes "\n\n"
 
@@ -166,7 +166,7 @@ can : can_be_written trunk ≡ true
 unfolding digits
 can = refl
 
--- the text has in place of each record what may stand there
+-- the text has, in place of each record, what may replace it
 pub is_expanded : IsExpandedText records steads expansion
 unfolding digits
 is_expanded = record {
@@ -210,12 +210,12 @@ expanded = (adds_other ∷ []) ∷ (folder_of (path_of (codes "trunk")) [] ∷ [
 makes_these : made_in_stead records steads revisions ≡ expanded
 makes_these = refl
 
--- the branch at the copy's source is a folder alone
+-- the branch at the copy's source has only a directory
 source_branch : HasBranch first_tree (path_of (codes "other")) (Branch.Folder [] Branches.NoMore)
 source_branch [] = refl
 source_branch (name ∷ rest) = refl
 
--- its tree has folders alone above its nodes
+-- its tree has only directories above its nodes
 first_folders : HasFolders first_tree
 first_folders = step_keeps (λ number. None) (λ number tree bad. absurd (let none : None ≡ Some tree = bad in cc))
     root_alone adds_other root_folders

@@ -1,4 +1,4 @@
--- The worked dump has no fault, and what the filter writes of it.
+-- The example dump has no fault, and what the filter writes of it.
 use Rattle.dump_history.proofs.Prelude.{◌≡◌, ◌+◌, ◌<◌, ◌^◌, true, ◌&&◌, ◌||◌, if◌then◌else◌, not, ◌++◌, length, None, refl, sym, ap, ◌∙◌, subst, inl, inr, arith, lit<, append-nil, append_assoc, Contains, last_or, NoFault, copy_revision_name, property_length_name, md5_name, sha1_name, has_header, with_header_value, Property, property_block_text, DumpRecord, image, is_revision_record, is_node, is_kept_node, has_lost_source, Settings, HasPropertyList, LengthsFit, group_of, is_padded, revision_number, present_revision, kept_revisions, is_whole_file, stays_copy, ends_in_group, IsOutOfOrder, HasBadCopyRevision, HoldsOfRecord, AreFaultFree, IsWrittenBlock, IsWrittenText, IsCleanText, property_list_once, AtEach, first_true, absurd_bool}
 use Rattle.std.proofs.Common.{ℕ, false, List, [], ◌∷◌, Some, codes}
 use Rattle.std.specs.Fmt.{digits}
@@ -7,7 +7,7 @@ use Rattle.dump_history.proofs.values.WorkedDump.{version, zero, one, trunk, two
 
 -- none of the records has a fault
 
--- what is so of each record where it stands is so of the one at each place
+-- what is true of each record at its place is true of the record at an index
 pub at_place : (P : List DumpRecord → DumpRecord → List DumpRecord → Type 0) (done rest before after : List DumpRecord)
     (r : DumpRecord) → rest ≡ before ++ r ∷ after → AtEach P done rest → P (done ++ before) r after
 at_place P done [] [] after r at each = absurd (let bad : [] ≡ r ∷ after = at in cc)
@@ -138,7 +138,7 @@ text = codes "SVN-fs-dump-format-version: 2\n\nRevision-number: 0\n\n\n"
     ++ codes "Node-kind: dir\nNode-action: add\nNode-copyfrom-rev: 1\n"
     ++ codes "Node-copyfrom-path: trunk\n\n\n\n"
 
--- the part that is written of each record, and those behind it
+-- the part that is written of each record, and of those after it
 
 abbrev pub revision_part : List ℕ → List ℕ
 revision_part number = codes "Revision-number: " ++ number ++ codes "\n\n\n"

@@ -1,4 +1,4 @@
--- The law of surveyed fronts, applied to the first two of the three revisions of the worked dump.
+-- The law of surveyed fronts, applied to the first two of the three revisions of the example dump.
 use Rattle.dump_history.proofs.Prelude.{◌≡◌, ◌++◌, length, refl, ap, arith, groups, Tree, root_alone, Change, nowhere_is_over, loaded_over, Patching, FrontLoadsRestricted, Finding, HaveFindings}
 use Rattle.std.proofs.Common.{List, [], ◌∷◌}
 use Rattle.dump_history.proofs.restricted.LoadsOnce.{later_once}
@@ -18,7 +18,7 @@ two_of_three (x ∷ y ∷ []) rest a b c same two =
 two_of_three (x ∷ y ∷ z ∷ more) rest a b c same two =
     absurd (let bad : length (x ∷ y ∷ z ∷ more) ≡ 2 = two in omega (arith, bad))
 
--- what is found in the first two revisions behind revision 0, and in the third one
+-- what is found in the first two revisions after revision 0, and in the third one
 abbrev before : List (List (List Finding))
 before = ([] ∷ []) ∷ ([] ∷ []) ∷ []
 

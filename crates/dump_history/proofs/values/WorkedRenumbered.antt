@@ -1,5 +1,5 @@
--- The worked dump of which a part is taken, filtered and trimmed without an expansion: one revision is dropped, so the
--- one behind it is renumbered, and with it the source of its copy, behind which an excluded file is deleted.
+-- The example dump of which a part is taken, filtered and trimmed without an expansion. One revision is dropped, so
+-- the one after it is renumbered, and with it the source of its copy. After the copy an excluded file is deleted.
 use Rattle.dump_history.proofs.Prelude.{◌≡◌, ◌+◌, ◌<◌, ◌^◌, ◌++◌, length, refl, ap, ◌∙◌, subst, inl, inr, None, arith, lit<, cond, bytes_eq, slice_get, Contains, Exclude, DropEmptied, DropAll, Pad, Settings, Ending, HasRecords, NoFault, copy_revision_name, with_header_value, DumpRecord, record_text, LengthsFit, image, kept_revisions, HoldsOfRecord, HasBadCopyRevision, AreFaultFree, IsWrittenBlock, IsWrittenText, IsCleanText, IsNewProperty, IsNewNode, path_of, NodePath, Node, Tree, root_alone, Change, Patching}
 use Rattle.std.proofs.Common.{ℕ, Bool, true, false, List, [], ◌∷◌, Some, codes}
 use Rattle.std.specs.Fmt.{digits}
@@ -306,7 +306,7 @@ has_left = (
   (refl, lit< tt),
 )
 
--- behind the copy the file is deleted that isn't excluded at its source
+-- after the copy the file is deleted that isn't excluded at its source
 
 abbrev goes : WrittenNode
 goes = WrittenNode.Deletion (codes "branch/old")
@@ -361,7 +361,7 @@ is_trimmed = record {
     behind_zero : List ℕ
     behind_zero = record_text one ++ (codes "\n" ++ behind_one)
 
--- what stands in the directory that is copied
+-- what is in the directory that is copied
 abbrev both : Branch
 both = Branch.Folder []
     (Branches.Named (codes "app") (Branch.File [] (codes "text"))
@@ -459,11 +459,11 @@ renumbered patched = trimmed_dump_loads_renumbered patched settings dump records
   trims = trims;
 }) refl refl
 
--- every delta is refused
+-- every delta is rejected
 abbrev refused : Patching
 refused delta base = None
 
--- revision 3 is now revision 2 of 2, and in its branch neither file stands
+-- revision 3 is now revision 2 of 2, and its branch has neither file
 in_revision_2 : (others : List Tree) × (tree : Tree) × (length others ≡ 3) × (slice_get others 2 ≡ Some tree)
     × IsNewNode (IsNewProperty settings (kept_revisions settings records)) (Some (Node.File [] (codes "text")))
     (tree (path_of (codes "trunk/old")))

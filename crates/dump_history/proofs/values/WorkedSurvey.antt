@@ -1,4 +1,4 @@
--- The law of surveyed dumps, applied to the worked dump: nothing is found in it.
+-- The law of surveyed dumps, applied to the example dump: nothing is found in it.
 use Rattle.dump_history.proofs.Prelude.{◌≡◌, refl, ap, ◌∙◌, DumpRecord, groups, root_alone, nowhere_is_over, loaded_over, Patching, LoadsRestricted, LoadsBehindFolders, Finding, AreFindingsOf, AreDumpFindingsOf, AreFindingsBehind, HaveFindings, no_node_faults, groups_name_behind}
 use Rattle.std.proofs.Common.{false, List, [], ◌∷◌, Some}
 use Rattle.dump_history.proofs.restricted.LoadsOnce.{later_once}
@@ -23,7 +23,7 @@ before_other = version ∷ zero ∷ one ∷ trunk ∷ two ∷ []
 abbrev pub before_copy : List DumpRecord
 before_copy = version ∷ zero ∷ one ∷ trunk ∷ two ∷ other ∷ three ∷ []
 
--- nothing is found in the kept folder
+-- nothing is found in the kept directory
 pub in_trunk : AreFindingsOf settings before_trunk trunk []
 in_trunk = (
   Some [],
@@ -33,7 +33,7 @@ in_trunk = (
   refl,
 )
 
--- nothing is found in the dropped folder
+-- nothing is found in the dropped directory
 pub in_other : AreFindingsOf settings before_other other []
 in_other = (Some [], no_node_faults, none_of other refl, faults_of_left settings before_other other refl, refl)
 

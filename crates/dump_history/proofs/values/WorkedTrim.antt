@@ -1,5 +1,5 @@
--- The expanded form of the worked dump, filtered and trimmed: a copy stays, and a file that it takes to an excluded path is
--- deleted behind it.
+-- The expanded form of the example dump, filtered and trimmed: a copy stays, and after it a file is deleted that the
+-- copy takes to an excluded path.
 use Rattle.dump_history.proofs.Prelude.{◌≡◌, ◌+◌, ◌<◌, ◌^◌, true, ◌++◌, length, refl, ap, ◌∙◌, subst, inl, inr, None, arith, lit<, cond, bytes_eq, slice_get, drop, Contains, AllZip, Exclude, Pad, Settings, Ending, HasRecords, NoFault, copy_revision_name, with_header_value, property_block_text, Property, DumpRecord, record_text, HasPropertyList, LengthsFit, kept_revisions, HoldsOfRecord, AreFaultFree, IsWrittenBlock, IsWrittenText, IsCleanText, AreNewProperties, IsNewProperty, IsNewNode, property_list_once, path_of, NodePath, Node, Tree, root_alone, put, Change, Patching, LoadsAs, map, not, both_ways, first_true, not_true, list_all, keeps, sym}
 use Rattle.std.proofs.Common.{ℕ, Bool, false, List, [], ◌∷◌, Some, codes}
 use Rattle.std.specs.Fmt.{digits}
@@ -335,7 +335,7 @@ has_left = (
   (refl, lit< tt),
 )
 
--- the excluded file is deleted behind the copy of its directory
+-- the excluded file is deleted after the copy of its directory
 
 abbrev goes : WrittenNode
 goes = WrittenNode.Deletion (codes "branch/app")
@@ -414,7 +414,7 @@ abbrev made_tree : Tree
 made_tree = put (path_of (codes "trunk/app")) (Node.File [] (codes "text"))
     (put (path_of (codes "trunk/app")) (Node.File [] []) (put (path_of (codes "trunk/app")) (Node.File [] []) first_tree))
 
--- what stands in the directory that is copied
+-- what is in the directory that is copied
 abbrev both : Branch
 both = Branch.Folder []
     (Branches.Named (codes "app") (Branch.File [] (codes "text"))
@@ -525,11 +525,11 @@ trimmed_loads patched = trimmed_dump_loads patched settings expansion again expa
   trims = all_trimming;
 }) refl refl refl refl
 
--- every delta is refused
+-- every delta is rejected
 abbrev refused : Patching
 refused delta base = None
 
--- in the last revision the file that was written stands in the trunk, and in the branch neither file does
+-- in the last revision the file that was written is in the trunk, and neither file is in the branch
 in_the_last_revision : (other : Tree)
     × IsNewNode (IsNewProperty settings (kept_revisions settings again)) (Some (Node.File [] (codes "text")))
     (other (path_of (codes "trunk/app")))
@@ -558,7 +558,7 @@ in_the_last_revision =
     last_of (a ∷ b ∷ c ∷ d ∷ []) zip = (d, zip.1.1.1.0)
     last_of (a ∷ b ∷ c ∷ d ∷ e ∷ more) zip = absurd zip.1.1.1.1
 
--- which nodes may stand behind a record
+-- which nodes may follow a record
 
 none_behind_a_revision : may_stand_behind one (goes ∷ []) ≡ false
 none_behind_a_revision = refl
@@ -566,7 +566,7 @@ none_behind_a_revision = refl
 none_that_cannot_be_written : may_stand_behind trunk (WrittenNode.Deletion (codes "a\nb") ∷ []) ≡ false
 none_that_cannot_be_written = refl
 
--- their changes stand behind its own
+-- their changes follow its own
 behind_its_change : changes_behind ((goes ∷ []) ∷ [] ∷ []) (copies_trunk ∷ adds_app ∷ [])
     ≡ copies_trunk ∷ deletion_of (path_of (codes "branch/app")) ∷ adds_app ∷ []
 behind_its_change = refl

@@ -1,4 +1,4 @@
--- Worked values of written nodes.
+-- Examples of written nodes.
 use Rattle.dump_history.proofs.Prelude.{◌≡◌, ◌++◌, None, refl, Property, is_lawful, path_of}
 use Rattle.std.proofs.Common.{true, false, [], ◌∷◌, Some, codes}
 use Rattle.std.specs.Fmt.{digits}
@@ -94,7 +94,7 @@ no_broken_digest : can_be_written (WrittenNode.File false (codes "a") [] [] None
 unfolding digits
 no_broken_digest = refl
 
--- their lines break no rule behind the first record, but none stands first
+-- their lines break no rule after the first record, but none can be the first record
 
 fine_later : is_lawful 1 (node_lines file) ≡ true
 unfolding digits

@@ -48,7 +48,8 @@ abbrev pub copy_refused : Settings → List DumpRecord → DumpRecord → Bool
 copy_refused settings before r =
     has_missing_revision settings (kept_revisions settings (before ++ r ∷ [])).numbers (present_number before) r
 
--- what is rejected of one of a kept node's properties, by where the dump begins and how far it has come
+-- what the filter rejects in one of a kept node's properties, by the numbers of the dump's first revision and of the
+-- present one
 abbrev pub property_faults : Settings → ℕ → ℕ → Property → NodeFaults
 property_faults settings first present p = record {
   copy_revision = false;
