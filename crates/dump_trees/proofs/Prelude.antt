@@ -1,4 +1,4 @@
--- The words of std, of the definitions and of the lemmas below, for the proofs of this crate.
+-- The names of std, of the definitions and of the lemmas below, for the proofs of this crate.
 pub use Rattle.std.specs.Prelude.{slice_get, take}
 pub use Rattle.std.proofs.Common.{IsFalse, IsTrue, MatchBool, ap, append-nil, append_assoc, ap₂, arith, bytes_eq, codes, cond, count_by, drop, filter, if◌then◌else◌, inl, inr, map, nat_eq, nat_le, nat_lt, not, option_map, refl, subst, subst₂, suc, sym, unwrap_or, zero, ◌+◌, ◌<◌, ◌==◌, ◌||◌, ◌∙◌, ◌≡◌, ◌≤◌, ◌⊎◌}
 pub use Rattle.std.proofs.Math.Seq.{take-append_seam}

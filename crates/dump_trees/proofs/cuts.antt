@@ -1,4 +1,5 @@
--- What a program asks that cuts a dump: whether it loads, what comes back, and where copies are followed to.
+-- What a program that cuts a dump has to find out: whether the dump loads, what comes back, and to which paths copies
+-- are followed.
 pub mod CheckedSteps
 pub mod CheckedLoads
 pub mod CoveredPaths

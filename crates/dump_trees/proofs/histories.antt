@@ -1,4 +1,4 @@
--- Whole histories, their first revisions, and a load behind others.
+-- Whole histories, their first revisions, and a load after others.
 pub mod KeptNumbers
 pub mod HistoryLemmas
 pub mod FrontLemmas

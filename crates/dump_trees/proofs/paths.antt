@@ -1,4 +1,4 @@
--- Paths and their texts: which paths are kept, and which folders are given.
+-- Paths and their texts: which paths are kept, and which are parent directories.
 pub mod PathNames
 pub mod KeptPaths
 pub mod PrefixRests

@@ -1,4 +1,4 @@
--- The definitions, tried on worked values.
+-- Examples for the definitions.
 pub mod ValueParts
 pub mod WorkedHistory
 pub mod StepValues

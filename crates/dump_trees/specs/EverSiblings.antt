@@ -14,7 +14,7 @@ use Rattle.dump_trees.specs.FollowedParents.{AreEverSiblings}
 
 -- finding them
 
--- something with this name exists directly below the path after so many of the changes: the name is one that can exist
+-- something with this name exists directly below the path after this number of changes: the name is one that can exist
 -- there then, and looking back finds something
 abbrev pub ExistsBelow : List (List Change) → ℕ → NodePath → List ℕ → Type 0
 ExistsBelow revisions count path name =

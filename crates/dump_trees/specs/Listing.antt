@@ -25,7 +25,7 @@ abbrev pub names_made : List Placed → ℕ → NodePath → List (List ℕ)
 names_made placed zero path = []
 names_made placed (suc count) path = name_below path (slice_get placed count) ++ names_made placed count path
 
--- the names at this origin, for the change at this place; a function says the names after so many changes
+-- the names at this origin, for the change at this place; a function returns the names after a number of changes
 abbrev pub names_from : (ℕ → NodePath → List (List ℕ)) → List Placed → ℕ → NodePath → Origin → List (List ℕ)
 names_from earlier placed place path Origin.Nowhere = []
 names_from earlier placed place path (Origin.New node) = []
@@ -50,15 +50,15 @@ abbrev pub names_behind : (ℕ → NodePath → List (List ℕ)) → List Placed
 names_behind earlier placed path None = []
 names_behind earlier placed path (Some place) = names_there earlier placed place path (slice_get placed place)
 
--- names that can exist directly below the path after so many of the changes, if the search makes no more than this many
--- steps
+-- names that can exist directly below the path after this number of changes, if the search makes no more than this
+-- many steps
 abbrev pub names_within : ℕ → List Placed → ℕ → NodePath → List (List ℕ)
 names_within zero placed count path = []
 names_within (suc more) placed count path =
     names_made placed count path
     ++ names_behind (names_within more placed) placed path (latest (touches_path path) placed count)
 
--- names that can exist directly below the path after so many of the changes of a new repository: those of what is made
+-- names that can exist directly below the path after this number of changes of a new repository: those of what is made
 -- there, and those at the source of a copy
 abbrev pub names_look : List Placed → ℕ → NodePath → List (List ℕ)
 names_look placed count path = names_within count placed count path

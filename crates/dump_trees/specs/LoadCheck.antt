@@ -133,7 +133,7 @@ StepIsAllowed = (history : History) (tree : Tree) (c : Change) →
 
 -- an entire dump
 
--- a function that says what exists at a path after so many of the changes
+-- a function that returns what exists at a path after a number of changes
 abbrev pub ToldKinds : Type 0
 ToldKinds = ℕ → NodePath → Option Kind
 

@@ -82,7 +82,7 @@ abbrev pub set_by : Change → NodePath → Option Node → Option Node
 set_by c [] node = node_with_text c.text (node_with_props c.props node)
 set_by c (name ∷ rest) node = node
 
--- the node of this origin, for the change at this place; a function says what existed after so many changes
+-- the node of this origin, for the change at this place; a function returns what existed after a number of changes
 abbrev pub looked_up : (ℕ → NodePath → Option Node) → List Placed → ℕ → NodePath → Origin → Option Node
 looked_up earlier placed place path Origin.Nowhere = None
 looked_up earlier placed place path (Origin.New node) = Some node
@@ -105,15 +105,15 @@ abbrev pub look_behind : (ℕ → NodePath → Option Node) → Tree → List Pl
 look_behind earlier first placed path None = first path
 look_behind earlier first placed path (Some place) = left_there earlier placed place path (slice_get placed place)
 
--- what exists at the path after so many of the changes over a first tree, if the search makes no more than this many
+-- what exists at the path after this number of changes over a first tree, if the search makes no more than this many
 -- steps
 abbrev pub look_within : ℕ → Tree → List Placed → ℕ → NodePath → Option Node
 look_within zero first placed count path = first path
 look_within (suc more) first placed count path =
     look_behind (look_within more first placed) first placed path (latest (touches_path path) placed count)
 
--- what exists at the path after so many of the changes over a first tree. If copies are of earlier revisions, each step
--- goes to fewer changes, so no more steps than changes are needed
+-- What exists at the path after this number of changes over a first tree. If copies are of earlier revisions, each
+-- step goes to fewer changes, so no more steps than changes are needed.
 abbrev pub look : Tree → List Placed → ℕ → NodePath → Option Node
 look first placed count path = look_within count first placed count path
 

@@ -47,7 +47,7 @@ pub fn each_step_restricts()
     ensures filtered { FilteredIsNew }
 {}
 
-/// The same holds of the changes of a revision.
+/// The same is true of the changes of a revision.
 pub fn each_revision_restricts()
     ensures { EachRevisionRestricts }
 {}
@@ -70,24 +70,24 @@ pub fn each_quiet_history_restricts()
     ensures { EachQuietHistoryRestricts }
 {}
 
-/// The law of a whole dump holds of its first revisions, even if a load rejects a later revision or a later change is
-/// not separated. If the changes of the first revisions are separated, a load takes what the filter writes of them. It
-/// makes the restricted trees, at the images that the whole dump gives.
+/// The law of a whole dump is true of its first revisions, even if a load rejects a later revision or a later change
+/// is not separated. If the changes of the first revisions are separated, a load takes what the filter writes of them.
+/// It makes the restricted trees, at the images that the whole dump gives.
 pub fn each_front_restricts()
     ensures restricts { EachFrontRestricts }
     ensures trees { BegunTreesStay }
     ensures images { BegunImagesStay }
 {}
 
-/// The same holds of first revisions of quiet changes. Up to the first revision with an alarm the law holds even if
-/// both dumps are loaded whole.
+/// The same is true of first revisions of quiet changes. Up to the first revision with an alarm the law is true even
+/// if both dumps are loaded completely.
 pub fn each_quiet_front_restricts()
     ensures restricts { EachQuietFrontRestricts }
     ensures loads { EachQuietLoadsRestrict }
 {}
 
-/// After older revisions a dump makes the trees that it makes in a new repository. This holds even if the load sets new
-/// properties, as it does with mergeinfo.
+/// After older revisions a dump makes the trees that it makes in a new repository. This is true even if the load sets
+/// new properties, as it does with mergeinfo.
 pub fn each_dump_loads_behind_others()
     ensures same { LoadsBehindOthers }
     ensures alike { EachLoadsAlike }
@@ -142,8 +142,9 @@ pub fn returns_are_found()
 {}
 
 /// A program follows copies, and each path to which it follows one is an addition. The paths then cover the addition,
-/// what is below it, and what they covered before. Each addition leaves one path less of those that ever exist, so the
-/// additions end. If a pass adds nothing, the paths cover exactly the least closed set, and nothing comes back.
+/// what is below it, and what they covered before. Each addition reduces the number of paths that ever exist and
+/// aren't covered, so the additions end. If a pass adds nothing, the paths cover exactly the least closed set, and
+/// nothing comes back.
 pub fn copies_are_followed()
     ensures listed { ListedAreFollowed }
     ensures grown { GrownPathsCover }
@@ -184,9 +185,10 @@ pub fn siblings_leave_the_cut()
     ensures texts { NamedTextsLeaveCut }
 {}
 
-/// If siblings that cover the paths named by a dump are excluded, a mergeinfo line whose path the dump names in short
-/// form stays exactly if this path is in the cut, whether something exists there or not. The siblings on the ways to
-/// all named paths cover them. The siblings on the ways to all paths that ever exist are the siblings of every tree.
+/// If siblings that cover the paths named by a dump are excluded, they decide about mergeinfo lines. A line whose path
+/// the dump names in short form stays exactly if this path is in the cut, even if nothing exists there. The siblings
+/// on the ways to all named paths cover them. The siblings on the ways to all paths that ever exist are the siblings
+/// of every tree.
 pub fn lines_stay_by_the_cut()
     ensures line { NamedLineStays }
     ensures cover { SiblingsOfNamedCover }
@@ -238,9 +240,9 @@ pub fn copies_are_trimmed()
     ensures taken { TakenTopsCover }
 {}
 
-/// Revisions may be written so. A whole history may be written so too, whether each revision keeps its number or is
-/// renumbered. Then what is written has the restricted trees, though nothing in it is written anew. Each history in
-/// which nothing comes back can be written so.
+/// Revisions may be written in this way, and so may a whole history, whether each revision keeps its number or is
+/// renumbered. The result has the restricted trees, though no node in it is written again as an addition. Each history
+/// in which nothing comes back can be written in this way.
 pub fn trimmed_histories_restrict()
     ensures revision { EachTrimmedRevisionRestricts }
     ensures history { EachTrimmedHistoryRestricts }

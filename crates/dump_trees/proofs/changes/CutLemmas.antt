@@ -1,9 +1,9 @@
--- Where prefixes are excluded, nothing has to be made before the load.
+-- If prefixes are excluded, no directory has to be created before the load.
 use Rattle.dump_trees.proofs.Prelude.{◌≡◌, not, cond, refl, ap, ◌∙◌, Exclude, Settings, NodePath, keeps, Node, is_above_some, given, root_alone}
 use Rattle.std.proofs.Common.{ℕ, Bool, true, false, ◌&&◌, List, [], ◌∷◌, Some, None}
 use Rattle.dump_trees.specs.TreeLaws.{GivesRootAlone}
 
--- where prefixes are excluded, only the root is given
+-- if prefixes are excluded, the only parent directory is the root
 pub given_alone : (settings : Settings) → settings.side ≡ Exclude → (name : List ℕ) (path : NodePath)
     → given settings (name ∷ path) ≡ None
 given_alone settings side name path =
@@ -15,7 +15,7 @@ given_alone settings side name path =
     no_more true = refl
     no_more false = refl
 
--- so what is given is a new repository
+-- so the parent directories are those of a new repository
 pub gives_root : GivesRootAlone
 gives_root settings side = λ i. λ path. cases path i
   where

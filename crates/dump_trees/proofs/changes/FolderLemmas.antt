@@ -1,4 +1,4 @@
--- Each node but the root stands in folders alone: each change keeps that.
+-- Each node but the root is in directories only; each change keeps this true.
 use Rattle.dump_trees.proofs.Prelude.{◌≡◌, option_map, cond, bytes_eq, refl, sym, ap, ◌∙◌, append-nil, append_assoc, IfSome, both_ways, and_parts, bytes_eq-Decides, NodePath, below, parent_of, Node, Tree, HasFolders, is_folder, at_or_below, grafted, at_top, put, empty_tree, Made, PropertyChange, TextChange, Change, History, is_folder_at, has_folder, deleted, node_put, copied, made_in, new_props, with_props, new_text, with_text, props_put, props_set, text_set, step, AllHaveFolders}
 use Rattle.std.proofs.Common.{ℕ, Bool, true, false, ◌&&◌, List, [], ◌∷◌, ◌++◌, Option, Some, None, option_and_then, is_some, is_none}
 use Rattle.dump_trees.proofs.changes.TreeLemmas.{below_rest, below_found}
@@ -21,7 +21,7 @@ parent_behind (first ∷ []) name path = ap (λ o. option_map (λ p. first ∷ p
 parent_behind (first ∷ second ∷ top) name path =
     ap (λ o. option_map (λ p. first ∷ p) o) (parent_behind (second ∷ top) name path)
 
--- a path that isn't at or below the top, and goes on to one that is, lies above the top
+-- a path that isn't at or below the top, but is above a path that is, is above the top
 above_top : (top path more rest : NodePath) → below top path ≡ None → below top (path ++ more) ≡ Some rest
     → (name : List ℕ) × (behind : NodePath) × (top ≡ path ++ name ∷ behind)
 above_top [] path more rest no_rest is = absurd (let bad : Some path ≡ None = no_rest in cc)
@@ -46,7 +46,7 @@ below_further top rest more =
 
 -- trees
 
--- each path above the top is a folder
+-- each path above the top is a directory
 abbrev AboveAreFolders : Tree → NodePath → Type 0
 AboveAreFolders tree top = (path : NodePath) (name : List ℕ) (behind : NodePath) →
     top ≡ path ++ name ∷ behind → is_folder (tree path) ≡ true
@@ -55,13 +55,13 @@ folder_stands : (o : Option Node) → is_folder o ≡ true → (node : Node) × 
 folder_stands None is = absurd (let bad : false ≡ true = is in cc)
 folder_stands (Some node) is = (node, refl)
 
--- a node stands in folders alone
+-- a node is in directories only
 above_node : (tree : Tree) → HasFolders tree → (top : NodePath) (node : Node) → tree top ≡ Some node
     → AboveAreFolders tree top
 above_node tree folders top node at path name behind is =
     folders path name behind node (ap tree (sym is) ∙ at)
 
--- a path in a folder stands in folders alone
+-- a path in a directory is in directories only
 above_folder : (tree : Tree) → HasFolders tree → (top : NodePath) → has_folder tree top ≡ true
     → AboveAreFolders tree top
 above_folder tree folders top some path name behind is = cases name behind (parent_is name behind is)
@@ -123,7 +123,7 @@ put_folders top n old folders above under path name rest node =
 
 -- stages
 
--- the tree, if there is one, has folders
+-- the tree, if there is one, has directories
 abbrev pub KeepsFolders : Option Tree → Type 0
 KeepsFolders o = IfSome o HasFolders
 
@@ -227,7 +227,7 @@ text_keeps (Some change) top tree folders = cases (tree top) refl
         by_text None = tt
         by_text (Some t) = same_keeps top (Node.File ps text) (Node.File ps t) tree folders at refl
 
--- a change keeps folders
+-- a change keeps directories
 pub step_keeps : (history : History) → AllHaveFolders history → (tree : Tree) (c : Change) → HasFolders tree
     → KeepsFolders (step history tree c)
 step_keeps history all tree c folders =

@@ -6,7 +6,7 @@ use Rattle.dump_trees.proofs.paths.KeptPaths.{gives_nothing}
 use Rattle.dump_trees.proofs.changes.TreeLemmas.{below_rest, below_found, below_top, RestrictedAt, nothing_restricted, folder_restricted}
 use Rattle.dump_trees.proofs.changes.StageLemmas.{Follows}
 
--- what stands at the top
+-- what exists at the top
 
 -- the node that is put
 pub put_at : (top : NodePath) (n : Node) (tree : Tree) → put top n tree top ≡ Some n
@@ -16,7 +16,7 @@ put_at top n tree = ap (λ o. at_top o n (tree top)) (below_top top)
 pub graft_at : (top : NodePath) (new tree : Tree) → grafted top new tree top ≡ new []
 graft_at top new tree = ap (λ o. at_or_below o new (tree top)) (below_top top)
 
--- below nothing and below a file nothing stands
+-- nothing exists below a file, and nothing exists below a path without a node
 
 below_no_folder : (tree : Tree) → HasFolders tree → (top : NodePath) → is_folder (tree top) ≡ false
     → (name : List ℕ) (rest : NodePath) → tree (top ++ name ∷ rest) ≡ None
@@ -26,7 +26,7 @@ below_no_folder tree folders top none name rest = cases (tree (top ++ name ∷ r
     cases None at = refl
     cases (Some node) at = absurd (both_ways _ none (folders top name rest node at))
 
--- after a deletion, or where nothing stood, nothing stands at the top and below it
+-- after a deletion, or if nothing existed there before, nothing exists at the top and below it
 pub all_gone : (deletes : Bool) (top : NodePath) (tree : Tree) → HasFolders tree
     → IsTrue (deletes || is_none (tree top))
     → IfSome (deleted deletes top tree) (λ after. (rest : NodePath) → after (top ++ rest) ≡ None)
@@ -48,13 +48,13 @@ all_gone false top tree folders free = λ rest. cases rest
 
 -- properties and a text, set one after the other
 
--- the tree with the file that they make of one
+-- the tree with a file in which properties and a text are set
 abbrev file_set : Option (List Property) → List ℕ → List Property → List ℕ → NodePath → Tree → Tree
 file_set None text old other top tree = put top (Node.File old text) tree
 file_set (Some entries) text old other top tree =
     put top (Node.File (edited_with entries []) text) (put top (Node.File (edited_with entries []) other) tree)
 
--- what comes of both, by what stands at the top
+-- the result for both, by what exists at the top
 abbrev both_set : Option (List Property) → List ℕ → NodePath → Tree → Option Node → Option Tree
 both_set props text top tree None = None
 both_set props text top tree (Some (Node.Folder old)) = None
@@ -92,7 +92,7 @@ edited (Some props) text top tree (Some (Node.File old other)) at =
     ∙ ap (texted text top (put top (Node.File (edited_with props []) other) tree))
     (put_at top (Node.File (edited_with props []) other) tree)
 
--- of two nodes that are put at the top the second stays
+-- of two nodes that are put at the top, the second one stays
 put_twice : (o : Option NodePath) (n m : Node) (old : Option Node) → at_top o n (at_top o m old) ≡ at_top o n old
 put_twice None n m old = refl
 put_twice (Some []) n m old = refl
@@ -112,7 +112,7 @@ module _ (settings : Settings) (IsNew : NewProperty) (entries : KeepsEntries IsN
   abbrev plain_tree : Tree
   plain_tree = put top (Node.File [] []) new
 
-  -- with their files put they are alike
+  -- with their files put in, they differ only in new properties
   alike : (ps qs earlier : List Property) (other : List ℕ) → AllZip IsNew ps qs
       → from source ≡ Some (Node.File earlier other)
       → IsRestricted settings IsNew (put top (Node.File ps text) copy_tree) (put top (Node.File qs text) plain_tree)
@@ -140,7 +140,7 @@ module _ (settings : Settings) (IsNew : NewProperty) (entries : KeepsEntries IsN
             λ left. none ∙ sym (gives_nothing settings top (name ∷ rest) is left),
           ))
 
-  -- so they are where the properties were put before
+  -- the same if the properties were put in before
   alike_twice : (ps qs earlier : List Property) (n m : Node) (other : List ℕ) → AllZip IsNew ps qs
       → from source ≡ Some (Node.File earlier other)
       → IsRestricted settings IsNew (put top (Node.File ps text) (put top n copy_tree))

@@ -5,7 +5,7 @@ use Rattle.dump_trees.proofs.changes.StageLemmas.{Follows}
 use Rattle.dump_trees.proofs.changes.StepLemmas.{followed, change_follows, dropped_step}
 use Rattle.dump_trees.proofs.changes.FolderLemmas.{KeepsFolders, step_keeps}
 
--- the changes of a revision keep folders
+-- the changes of a revision keep directories
 pub steps_keep : (history : History) → AllHaveFolders history → (changes : List Change) (tree : Tree) → HasFolders tree
     → KeepsFolders (steps history tree changes)
 steps_keep history all [] tree folders = folders
@@ -20,7 +20,7 @@ steps_keep history all (c ∷ changes) tree folders =
 module _ (settings : Settings) (IsNew : NewProperty) (IsNumber : NewNumber) (entries : KeepsEntries IsNew)
     (history others : History)
     (all : AllHaveFolders history) (same : AreRestricted settings IsNew IsNumber history others) where
-  -- what follows a tree that there is, is there
+  -- what follows an existing tree exists
   follows_there : (old : Tree) (o : Option Tree) (f : Tree → Option Tree) (whole : Option Tree)
       → Follows settings IsNew (Some old) o
       → ((new : Tree) → IsRestricted settings IsNew old new → Follows settings IsNew whole (f new))
@@ -28,7 +28,7 @@ module _ (settings : Settings) (IsNew : NewProperty) (IsNumber : NewNumber) (ent
   follows_there old None f whole first then = absurd first
   follows_there old (Some new) f whole first then = then new first
 
-  -- what is shown of the changes behind a change
+  -- what is proved of the changes after a change
   abbrev Further : List Change → Type 0
   Further changes = (rest : List Change) (t u : Tree) → HasFolders t → IsRestricted settings IsNew t u
       → AllSeparate settings history t changes → AreNewChanges settings IsNew IsNumber changes rest
@@ -68,7 +68,7 @@ module _ (settings : Settings) (IsNew : NewProperty) (IsNumber : NewNumber) (ent
       cases further None at has = tt
       cases further (Some after) at has = sides further after at has (keeps settings c.path) refl
 
--- of changes none of which is kept nothing is written
+-- nothing is written of changes of which none is kept
 pub none_written : (settings : Settings) (IsNew : NewProperty) (IsNumber : NewNumber) (changes : List Change)
     → list_any (λ (c : Change). keeps settings c.path) changes ≡ false
     → AreNewChanges settings IsNew IsNumber changes []

@@ -6,7 +6,7 @@ use Rattle.dump_trees.proofs.paths.KeptPaths.{gives_nothing}
 use Rattle.dump_trees.proofs.changes.TreeLemmas.{same_presence, RestrictedAt, nothing_restricted, graft_restricts, put_restricts, folder_restricted}
 
 module _ (settings : Settings) (IsNew : NewProperty) where
-  -- where the whole load goes on, the filtered one does, with the restricted tree
+  -- if the whole load continues, the filtered one does too, with the restricted tree
   abbrev pub Follows : Option Tree → Option Tree → Type 0
   Follows None new = Rattle.std.specs.Prelude.⊤
   Follows (Some old) None = ⊥
@@ -20,7 +20,7 @@ module _ (settings : Settings) (IsNew : NewProperty) where
   follows_then f g (Some old) None first then = absurd first
   follows_then f g (Some old) (Some new) first then = then old new first
 
-  -- so where it goes on under a condition
+  -- the same if it continues under a condition
   pub follows_if : (b c : Bool) (old new : Tree) → (b ≡ true → c ≡ true) → IsRestricted settings IsNew old new
       → Follows (cond b (Some old) None) (cond c (Some new) None)
   follows_if false c old new same r = tt
@@ -76,7 +76,7 @@ module _ (settings : Settings) (IsNew : NewProperty) where
               ∙ sym (gives_nothing settings top rest is left)),
         )
 
-    -- the copy is made where the whole load makes it, and is the restricted one
+    -- the copy is made if the whole load makes it, and it is the restricted one
     pub copied_follows : (old new : Tree) → IsRestricted settings IsNew old new
         → Follows (copied source top old from) (copied source top new others)
     copied_follows old new s =
@@ -89,7 +89,7 @@ module _ (settings : Settings) (IsNew : NewProperty) where
         (graft_restricts settings IsNew top (λ rest. from (source ++ rest)) (λ rest. others (source ++ rest)) old new s
         copy_restricted)
 
-  -- properties that are changed alike
+  -- properties that are changed in the same way
   puts_follow : (change other : PropertyChange) (top : NodePath) (old new : Tree) → IsTrue (keeps settings top)
       → ((ps qs : List Property) → AllZip IsNew ps qs → AllZip IsNew (new_props change ps) (new_props other qs))
       → IsRestricted settings IsNew old new → Follows (props_put change top old) (props_put other top new)

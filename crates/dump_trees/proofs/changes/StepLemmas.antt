@@ -38,7 +38,7 @@ module _ (settings : Settings) (IsNew : NewProperty) (IsNumber : NewNumber) (ent
 
   module _ (deletes : Bool) (props others_props : Option PropertyChange) (both : AreNewProps IsNew props others_props)
       (text : Option TextChange) (old new : Tree) (r : IsRestricted settings IsNew old new) where
-    -- all stages, where what is made follows
+    -- all stages, if what is made follows
     through : (made written : Option Made)
         → ((t u : Tree) → IsRestricted settings IsNew t u
         → Follows settings IsNew (made_in history made top t) (made_in others written top u))
@@ -70,7 +70,7 @@ module _ (settings : Settings) (IsNew : NewProperty) (IsNumber : NewNumber) (ent
         (deleted deletes top new)
         (deleted_follows settings IsNew deletes top old new is r) (all_gone deletes top old has_folders free)
       where
-        -- both sets of properties, as the entries that take the place of the old ones
+        -- both sets of properties, as the entries that replace the old ones
         replacing : (t : List ℕ) (a b tree : Tree) → history number ≡ Some tree → IsRestricted settings IsNew a b
             → ((rest : NodePath) → a (top ++ rest) ≡ None) → (ps qs : Option PropertyChange)
             → not (edits_props ps) ≡ true → AreNewProps IsNew ps qs

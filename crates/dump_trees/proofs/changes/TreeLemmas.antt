@@ -1,11 +1,11 @@
--- Trees, what stands at a path and below it, and which of it the restricted tree has.
+-- Trees: what exists at a path and below it, and which of it the restricted tree has.
 use Rattle.dump_trees.proofs.Prelude.{◌≡◌, option_map, cond, bytes_eq, IsTrue, IsFalse, refl, sym, ap, ◌∙◌, subst, append-nil, both_ways, bytes_eq-Decides, Settings, NodePath, keeps, below, parent_of, Node, Tree, is_folder, at_or_below, grafted, at_top, put, is_folder_at, has_folder, given, NewProperty, IsNewNode, IsRestricted}
 use Rattle.std.proofs.Common.{ℕ, Bool, true, false, List, [], ◌∷◌, ◌++◌, Option, Some, None, is_some}
 use Rattle.dump_trees.proofs.paths.KeptPaths.{gives_nothing, gives_above}
 
 -- paths
 
--- the rest of a path is what stands behind the top
+-- the rest of a path is what follows the top
 pub below_rest : (top path rest : NodePath) → below top path ≡ Some rest → path ≡ top ++ rest
 below_rest [] path rest is = let same : Some path ≡ Some rest = is in cc
 below_rest (name ∷ top) [] rest is = absurd (let bad : None ≡ Some rest = is in cc)
@@ -51,7 +51,7 @@ parent_rest (name ∷ other ∷ path) parent is =
 
 -- nodes of the two trees
 
--- one is there where the other is
+-- one exists exactly if the other does
 pub same_presence : (IsNew : NewProperty) (a b : Option Node) → IsNewNode IsNew a b → is_some a ≡ is_some b
 same_presence IsNew None None new = refl
 same_presence IsNew None (Some b) new = absurd new
@@ -59,7 +59,7 @@ same_presence IsNew (Some (Node.Folder props)) None new = absurd new
 same_presence IsNew (Some (Node.File props text)) None new = absurd new
 same_presence IsNew (Some a) (Some b) new = refl
 
--- one is a folder where the other is
+-- one is a directory exactly if the other is
 pub same_kind : (IsNew : NewProperty) (a b : Option Node) → IsNewNode IsNew a b → is_folder a ≡ is_folder b
 same_kind IsNew None None new = refl
 same_kind IsNew None (Some b) new = absurd new
@@ -78,13 +78,13 @@ nothing_new IsNew (Some a) b new is = absurd (let bad : Some a ≡ None = is in 
 -- restricted trees
 
 module _ (settings : Settings) (IsNew : NewProperty) where
-  -- what stands at a path of the two trees
+  -- what exists at a path of the two trees
   abbrev pub RestrictedAt : NodePath → Option Node → Option Node → Type 0
   RestrictedAt path old new =
       (IsTrue (keeps settings path) → IsNewNode IsNew old new)
       × (IsFalse (keeps settings path) → new ≡ given settings path)
 
-  -- where nothing stands at or below a kept path, nothing does in the restricted tree
+  -- if nothing exists at or below a kept path, nothing does in the restricted tree
   pub nothing_restricted : (old new : Tree) → IsRestricted settings IsNew old new → (top rest : NodePath)
       → IsTrue (keeps settings top) → old (top ++ rest) ≡ None → new (top ++ rest) ≡ None
   nothing_restricted old new r top rest is none = cases (keeps settings (top ++ rest)) refl
@@ -93,7 +93,7 @@ module _ (settings : Settings) (IsNew : NewProperty) where
       cases true kept = nothing_new IsNew (old (top ++ rest)) (new (top ++ rest)) (r.kept (top ++ rest) kept) none
       cases false left = r.left (top ++ rest) left ∙ gives_nothing settings top rest is left
 
-  -- a graft at both keeps the restriction, where what is grafted has it
+  -- a graft in both trees keeps the restriction, if what is grafted has it
   pub graft_restricts : (top : NodePath) (more others old new : Tree) → IsRestricted settings IsNew old new
       → ((rest : NodePath) → RestrictedAt (top ++ rest) (more rest) (others rest))
       → IsRestricted settings IsNew (grafted top more old) (grafted top others new)
@@ -125,7 +125,7 @@ module _ (settings : Settings) (IsNew : NewProperty) where
           subst (λ p. RestrictedAt p (Some n) (Some m)) (sym (below_rest top path [] at ∙ append-nil top))
           (λ kept. node, λ left. absurd (both_ways _ left is))
 
-  -- a kept path that stands in a folder stands in one in the restricted tree
+  -- a kept path that is in a directory is in one in the restricted tree too
   pub folder_restricted : (old new : Tree) → IsRestricted settings IsNew old new → (top : NodePath)
       → IsTrue (keeps settings top) → has_folder old top ≡ true → has_folder new top ≡ true
   folder_restricted old new r top is = cases (parent_of top) refl

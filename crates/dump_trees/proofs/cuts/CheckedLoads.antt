@@ -1,4 +1,4 @@
--- A dump loads exactly where each change is allowed by the kinds that are told, and each delta applies.
+-- A dump loads exactly if the known kinds allow each change, and each delta applies.
 use Rattle.dump_trees.proofs.Prelude.{◌≡◌, ◌⊎◌, inl, inr, zero, suc, ◌+◌, ◌<◌, ◌≤◌, not, ◌||◌, cond, nat_le, nat_lt, map, refl, sym, ap, ap₂, ◌∙◌, subst, arith, append-nil, append_assoc, option_map, slice_get, list_all, list_all-append, both_ways, and_parts, and_from, not_from_false, le-leb, lt-leb, leb-true, lt-ltb, ltb-true, NodePath, parent_of, Node, Tree, Made, Change, History, step, steps, loaded, loaded_over, IsTrue, IsFalse}
 use Rattle.std.proofs.Common.{ℕ, Bool, true, false, ◌&&◌, List, [], ◌∷◌, ◌++◌, length, Option, Some, None, option_and_then, is_some}
 use Rattle.std.proofs.lemmas.List.Sums.{sum_by-append}
@@ -12,7 +12,7 @@ use Rattle.dump_trees.proofs.cuts.CheckedSteps.{step_is_allowed}
 
 -- places
 
--- no change of these is of a revision before this one
+-- none of these changes is of a revision before this one
 abbrev pub AreFrom : ℕ → List Placed → Type 0
 AreFrom number placed = list_all (λ (p : Placed). nat_le number p.revision) placed ≡ true
 
@@ -47,7 +47,7 @@ all_from number (changes ∷ revisions) =
     from_append number (of_one number changes) (placed_from (suc number) revisions) (one_from number changes)
     (from_more number (suc number) (omega arith) (placed_from (suc number) revisions) (all_from (suc number) revisions))
 
--- none of these is of a revision behind this one
+-- none of these is of a revision after this one
 one_up_to : (bound number : ℕ) (changes : List Change) → number ≤ bound
     → list_all (λ (p : Placed). nat_le p.revision bound) (of_one number changes) ≡ true
 one_up_to bound number [] low = refl
@@ -72,7 +72,7 @@ none_up_to bound (p ∷ placed) are =
     and_from (not (nat_le p.revision bound)) (list_all (λ (q : Placed). not (nat_le q.revision bound)) placed)
     (not_from_false _ (lt-leb p.revision bound (omega arith))) (none_up_to bound placed parts.1)
 
--- the changes of the first revisions end where those of the next begin
+-- the changes of the first revisions end at the place at which those of the next begin
 ends_at : (bound : ℕ) (placed more : List Placed)
     → list_all (λ (p : Placed). nat_le p.revision bound) placed ≡ true → AreFrom (suc bound) more
     → end_of (placed ++ more) bound ≡ length placed
@@ -107,7 +107,7 @@ length_append [] ys = (let same : length ys ≡ 0 + length ys = omega arith in s
 length_append (x ∷ xs) ys =
     ap suc (length_append xs ys) ∙ (let same : suc (length xs + length ys) ≡ suc (length xs) + length ys = omega arith in same)
 
--- the changes of whole revisions, of some of the next one's, and the others of that one
+-- the changes of whole revisions and some of the next one's, and the other changes of that one
 pub placed_cut : (number : ℕ) (front : List (List Change)) (done more : List Change)
     → placed_from number (front ++ (done ++ more) ∷ [])
     ≡ placed_from number (front ++ done ∷ []) ++ of_one (number + length front) more
@@ -125,7 +125,7 @@ get_at : {A : Type 0} (xs : List A) (x : A) (ys : List A) → slice_get (xs ++ x
 get_at [] x ys = refl
 get_at (y ∷ xs) x ys = get_at xs x ys
 
--- the first so many of a list
+-- the first elements of a list, this many
 pub split_at : {A : Type 0} (n : ℕ) (xs : List A) → n ≤ length xs
     → (front : List A) × (rest : List A) × (xs ≡ front ++ rest) × (length front ≡ n)
 split_at zero xs low = ([], xs, refl, refl)
@@ -158,7 +158,7 @@ steps_then history tree (c ∷ done) more = cases (λ t. steps_then history t do
     cases further None = refl
     cases further (Some t) = further t
 
--- one more revision behind those that load
+-- one more revision after those that load
 push_from : (front : List (List Change)) (older : List Tree) (youngest : Tree) (place : ℕ) (trees : List Tree) (last : Tree)
     (changes : List Change) → slice_get older place ≡ Some youngest → length older ≡ suc place
     → loaded older youngest front ≡ Some trees → slice_get trees (place + length front) ≡ Some last
@@ -220,7 +220,7 @@ pushed first front trees last changes tree is there leads = record {
       ∙ get_last trees tree;
 }
 
--- what is told at a path and in a revision before
+-- what is said of a path in a revision before
 
 module _ {X : Type 0} (read : Option Node → X) (told : ℕ → NodePath → X) (first : Tree) (placed : List Placed)
     (tells : (front : List (List Change)) (behind : List Placed) (trees : List Tree) (tree : Tree) (path : NodePath)
@@ -319,7 +319,7 @@ module _ (told : ToldKinds) (first : Tree) (placed : List Placed) where
           (more, (let next : suc b ≡ more + suc a = omega (arith, same) in next))
 
   module _ (tells : TellsKinds told first placed) where
-    -- looking back finds what stands
+    -- looking back finds what exists
     finds : (front : List (List Change)) (behind : List Placed) (trees : List Tree) (tree : Tree) (path : NodePath)
         → placed ≡ placed_from 1 front ++ behind → AreFrom (length front) behind
         → loaded_over first front ≡ Some trees → slice_get trees (length front) ≡ Some tree
@@ -328,7 +328,7 @@ module _ (told : ToldKinds) (first : Tree) (placed : List Placed) where
         ap (λ ps. look first ps (length (placed_from 1 front)) path) same
         ∙ look_finds first front behind trees tree path is there late
 
-    -- the next change, behind whole revisions and some changes of the next one
+    -- the next change, after whole revisions and some changes of the next one
     module _ (front : List (List Change)) (done : List Change) (trees : List Tree) (last tree : Tree) (c : Change)
         (later : List Placed)
         (is : loaded_over first front ≡ Some trees) (there : slice_get trees (length front) ≡ Some last)
@@ -354,7 +354,7 @@ module _ (told : ToldKinds) (first : Tree) (placed : List Placed) where
       now_late = subst (λ n. AreFrom n (this ∷ later))
           (let next : 1 + length front ≡ suc (length front) = omega arith in next ∙ sym (length_push front done)) this_late
 
-      -- behind the whole revisions stand these
+      -- these changes are after the whole revisions
       abbrev rest_here : List Placed
       rest_here = of_one (1 + length front) done ++ this ∷ later
 
@@ -379,7 +379,7 @@ module _ (told : ToldKinds) (first : Tree) (placed : List Placed) where
       found_now path =
           finds (front ++ done ∷ []) (this ∷ later) (trees ++ tree ∷ []) tree path same now_late grown.loads grown.last
 
-      -- a revision before has a tree, and another has none
+      -- an earlier revision has a tree, and a later one has none
       by_number : (number : ℕ) (now nothing : Option Kind)
           → cond (nat_lt number (1 + length front)) now nothing
           ≡ cond (is_some (slice_get trees number)) now nothing
@@ -439,7 +439,7 @@ module _ (told : ToldKinds) (first : Tree) (placed : List Placed) where
       abbrev kinds : Kinds
       kinds = kinds_before (slice_get trees) tree c
 
-      -- a copy of a revision that there isn't is refused
+      -- a copy of a revision that doesn't exist is rejected
       no_source : (number : ℕ) (source : NodePath) → c.made ≡ Some (Made.Copied number source)
           → slice_get trees number ≡ None → kinds_allow c kinds ≡ false
       no_source number source made none =
@@ -457,7 +457,7 @@ module _ (told : ToldKinds) (first : Tree) (placed : List Placed) where
           no_and true b d = refl
           no_and false b d = refl
 
-      -- both tests tell whether the load takes it
+      -- both tests say whether the load takes it
       passes_here : pass_there here (slice_get placed here) ≡ is_some (step (slice_get trees) tree c)
       passes_here =
           ap (pass_there here) (ap (λ ps. slice_get ps here) same ∙ get_at (placed_from 1 (front ++ done ∷ [])) this later)
@@ -488,7 +488,7 @@ module _ (told : ToldKinds) (first : Tree) (placed : List Placed) where
                   (tells_before (λ o. o) (look first placed) first placed finds front rest_here trees number old source
                   same_front front_late is at)
 
-    -- the changes of a revision, behind whole revisions and some changes of it
+    -- the changes of a revision, after whole revisions and some changes of it
     changes_pass : (front : List (List Change)) (trees : List Tree) (last : Tree) → loaded_over first front ≡ Some trees
         → slice_get trees (length front) ≡ Some last → (changes done : List Change) (tree : Tree) (behind : List Placed)
         → steps (slice_get trees) last done ≡ Some tree
@@ -565,7 +565,7 @@ module _ (told : ToldKinds) (first : Tree) (placed : List Placed) where
             (same ∙ ap (λ cs. placed_from 1 (front ++ cs ∷ []) ++ behind) (sym moved))
             late (ap pass next_size ∙ (next_pass ∙ ap is_some at))
 
-    -- the revisions behind those that load
+    -- the revisions after those that load
     revisions_pass : (revisions front : List (List Change)) (trees : List Tree) (last : Tree) (behind : List Placed)
         → loaded_over first front ≡ Some trees → slice_get trees (length front) ≡ Some last
         → placed ≡ placed_from 1 (front ++ revisions) ++ behind → AreFrom (length (front ++ revisions)) behind
@@ -638,7 +638,7 @@ module _ (told : ToldKinds) (first : Tree) (placed : List Placed) where
             ∙ further t grown.loads grown.last (same ∙ ap (λ f. placed_from 1 f ++ behind) (sym moved))
             (subst (λ f. AreFrom (length f) behind) (sym moved) late) (here_pass ∙ ap is_some at)
 
--- the first revisions load where each change of them is allowed, and each delta applies
+-- the first revisions load if each change of them is allowed, and each delta applies
 pub load_is_allowed : (told : ToldKinds) (first : Tree) (front : List (List Change)) (behind : List Placed) →
     TellsKinds told first (placed_from 1 front ++ behind)
     → IsTrue (list_all (λ (p : Placed). nat_le (length front) p.revision) behind)
@@ -661,7 +661,7 @@ tells_each_tree told first revisions trees number tree path tells is there =
     tells_before (option_map kind_of_node) told first (placed_from 1 revisions) tells revisions [] trees number tree path
     (sym (append-nil (placed_from 1 revisions))) refl is there
 
--- the first refusal
+-- the first rejection
 
 none_of : {A : Type 0} (o : Option A) → is_some o ≡ false → o ≡ None
 none_of None is = refl

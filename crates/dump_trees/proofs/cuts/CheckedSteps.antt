@@ -1,4 +1,4 @@
--- A load takes a change exactly where the kinds at single paths allow it.
+-- A load takes a change exactly if the kinds at single paths allow it.
 use Rattle.dump_trees.proofs.Prelude.{◌≡◌, not, ◌||◌, cond, refl, sym, ap, ap₂, ◌∙◌, append-nil, option_map, IfSome, Property, NodePath, parent_of, Node, Tree, is_folder, grafted, at_or_below, at_top, put, empty_tree, Made, PropertyChange, TextChange, Change, History, is_folder_at, has_folder, deleted, copied, made_in, with_props, with_text, props_put, props_set, text_set, step, is_root}
 use Rattle.std.proofs.Common.{ℕ, Bool, true, false, ◌&&◌, List, [], ◌∷◌, ◌++◌, Option, Some, None, option_and_then, is_some, is_none}
 use Rattle.std.proofs.lemmas.Option.{same_Some}
@@ -27,7 +27,7 @@ pub parent_directory : (tree : Tree) (parent : Option NodePath)
 parent_directory tree None = refl
 parent_directory tree (Some parent) = kind_directory (tree parent)
 
--- a tree that is made, if it is
+-- the tree that is made, if one is
 
 some_if : (b : Bool) (tree : Tree) → is_some (cond b (Some tree) None) ≡ b
 some_if true tree = refl
@@ -37,7 +37,7 @@ holds_if : (P : Tree → Type 0) (b : Bool) (tree : Tree) → P tree → IfSome 
 holds_if P true tree is = is
 holds_if P false tree is = tt
 
--- this node stands at the top of the tree, and this tells whether its parent is a folder
+-- this node is at the top of the tree, and this says whether its parent is a directory
 abbrev IsThere : NodePath → Option Node → Bool → Tree → Type 0
 IsThere top node parent tree = (tree top ≡ node) × (has_folder tree top ≡ parent)
 
@@ -103,7 +103,7 @@ made_node history (Some (Made.Copied number source)) left =
 put_there : (top : NodePath) (n : Node) (tree : Tree) → put top n tree top ≡ Some n
 put_there top n tree = ap (λ o. at_top o n (tree top)) (below_top top)
 
--- whether it may be made, told by nodes
+-- whether it may be made, by the nodes
 abbrev may_make : History → Option Made → Option Node → Bool → Bool
 may_make history None left parent = true
 may_make history (Some Made.NewFolder) left parent = is_none left && parent
@@ -281,7 +281,7 @@ and_assoc : (a b c : Bool) → (a && (b && c)) ≡ ((a && b) && c)
 and_assoc true b c = refl
 and_assoc false b c = refl
 
--- what stands at the path of a change when its text is set
+-- what exists at the path of a change when its text is set
 abbrev pub made_over : History → Tree → Change → Option Node
 made_over history tree c = made_node history c.made (left_of c.deletes (tree c.path))
 
@@ -370,7 +370,7 @@ step_is_allowed history tree c =
         (parent_directory tree (parent_of c.path)) refl
         ∙ ap (λ k. making_allowed c.made k kinds) (kind_of_left c.deletes (tree c.path))
 
--- where something is made, or something stands that isn't deleted, the change leaves something
+-- if something is made, or something exists that isn't deleted, the change leaves something
 
 text_leaves : (text : Option TextChange) (top : NodePath) (tree after : Tree) → is_some (tree top) ≡ true
     → text_set text top tree ≡ Some after → is_some (after top) ≡ true

@@ -1,4 +1,4 @@
--- Paths that cover others, and the rests from which on they do.
+-- Paths that cover others, and the rests at which they begin to do so.
 use Rattle.dump_trees.proofs.Prelude.{◌≡◌, ◌⊎◌, zero, suc, ◌<◌, cond, refl, sym, ap, ap₂, ◌∙◌, inl, inr, subst, arith, filter, append-nil, append_assoc, both_ways, list_all, and_from, or_cases, or_left, or_right, NodePath, below, Tree, HasFolders, is_folder}
 use Rattle.std.proofs.Common.{ℕ, Bool, true, false, List, [], ◌∷◌, ◌++◌, length, Option, Some, None, is_some, Contains}
 use Rattle.std.proofs.lemmas.Option.{same_Some}
@@ -75,12 +75,12 @@ within_more top path rest is =
     subst (λ p. is_within top p ≡ true) (sym (ap (λ p. p ++ rest) same ∙ append_assoc top more rest))
     (within_found top (more ++ rest))
 
--- what stands behind the same path is the same
+-- what follows the same path is the same
 pub same_behind : (top rest other : NodePath) → top ++ rest ≡ top ++ other → rest ≡ other
 same_behind top rest other same =
     same_Some rest other (sym (below_found top rest) ∙ (ap (below top) same ∙ below_found top other))
 
--- of two paths above a third one, one lies in the other
+-- of two paths above a third one, one is at or below the other
 pub one_in_other : (first second first_rest second_rest : NodePath) → first ++ first_rest ≡ second ++ second_rest
     → ((rest : NodePath) × (first ≡ second ++ rest))
     ⊎ ((name : List ℕ) × (rest : NodePath) × (second ≡ first ++ name ∷ rest))
@@ -152,7 +152,7 @@ uncovered_above tops path rest is = cases (is_covered tops path) refl
     cases false at = refl
     cases true at = absurd (both_ways _ is (covered_more tops path rest at))
 
--- rests from which on paths cover a branch
+-- rests at which paths begin to cover a branch
 
 named_there : (o : Option NodePath) (rest : NodePath) → Contains (named_rest o) rest
     → (name : List ℕ) × (more : NodePath) × (rest ≡ name ∷ more) × (o ≡ Some (name ∷ more))
@@ -164,7 +164,7 @@ named_there (Some (name ∷ more)) rest there =
       | inr none ↦ absurd (contains_none rest none)
     ]
 
--- they are those of the paths strictly below
+-- they are the rests of the paths strictly below
 pub below_there : (top : NodePath) (paths : List NodePath) (rest : NodePath) → Contains (rests_below top paths) rest
     → Contains paths (top ++ rest)
 below_there top [] rest there = absurd (contains_none rest there)
@@ -191,7 +191,7 @@ below_has top (path ∷ paths) name rest there =
           (below_has top paths name rest later)
     ]
 
--- what is there is covered
+-- what exists there is covered
 pub rests_there : (top : NodePath) (tops : List NodePath) (rest : NodePath) → Contains (rests_covered top tops) rest
     → is_covered tops (top ++ rest) ≡ true
 rests_there top tops rest there = cases (is_covered tops top) refl there

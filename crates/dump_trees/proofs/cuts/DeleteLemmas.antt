@@ -1,4 +1,4 @@
--- The deletes behind a copy are found among the excluded paths.
+-- The deletes after a copy are found among the excluded paths.
 use Rattle.dump_trees.proofs.Prelude.{◌≡◌, not, cond, refl, sym, ap, ◌∙◌, subst, filter, append_assoc, list_all, and_parts, and_from, not-true, not_from_false, NodePath, Settings, Tree, Change, History, keeps, below}
 use Rattle.std.proofs.Common.{Bool, true, false, ◌&&◌, List, [], ◌∷◌, ◌++◌, Option, Some, None, is_some, is_none, Contains}
 use Rattle.dump_trees.specs.ExpansionCases.{none_is_below}
@@ -48,7 +48,7 @@ module _ (settings : Settings) (excluded : List NodePath) (history : History) (o
   path_open =
       not-true _ (sym (excluded_match settings excluded c.path over.excludes over.names over.path) ∙ kept)
 
-  -- of the excluded paths below the path none is at or below another one
+  -- of the excluded paths below the path, none is at or below another one
   none_below : (paths : List NodePath) → lie_apart paths ≡ true → none_is_below (rests_below c.path paths) ≡ true
   none_below [] apart = refl
   none_below (path ∷ paths) apart = cases (below c.path path) refl (none_below paths parts.1)

@@ -1,4 +1,4 @@
--- The siblings of every tree are among the names that can stand in the directories above included paths.
+-- The siblings of every tree are among the names that can exist in the directories above included paths.
 use Rattle.dump_trees.proofs.Prelude.{◌≡◌, ◌⊎◌, inl, inr, ◌+◌, ◌≤◌, not, ◌||◌, refl, sym, ap, ◌∙◌, subst, arith, append-nil, append_assoc, option_map, nat_le, slice_get, and_parts, or_cases, NodePath, parent_of, Node, Tree, root_alone, Made, PropertyChange, TextChange, Change, History, step, steps, is_root}
 use Rattle.std.proofs.Common.{ℕ, Bool, true, false, ◌&&◌, List, [], ◌∷◌, ◌++◌, length, Option, Some, None, option_and_then, is_some, Contains}
 use Rattle.std.proofs.lemmas.List.Sums.{count_by-le-length}
@@ -100,7 +100,7 @@ pub file_some : (kind : Option Kind) → is_file kind ≡ true → is_some kind 
 file_some None is = is
 file_some (Some kind) is = refl
 
--- where the kinds allow a change that does something, something exists at its path, or it makes something there
+-- if the kinds allow a change that does something, something exists at its path, or the change makes something there
 allowed_exists : (path : NodePath) (deletes : Bool) (made : Option Made) (props : Option PropertyChange)
     (text : Option TextChange) (kinds : Kinds)
     → (deletes || is_some made || sets_props props || is_some text) ≡ true

@@ -1,5 +1,5 @@
--- Following copies: additions are in each closed set, there are no more of them than paths at which something ever
--- exists, and where a pass adds nothing the set is closed.
+-- Following copies. Additions are in each closed set. There are no more of them than paths at which something ever
+-- exists. If a pass adds nothing, the set is closed.
 use Rattle.dump_trees.proofs.Prelude.{◌≡◌, not, ◌||◌, ◌⊎◌, suc, ◌+◌, ◌<◌, ◌≤◌, cond, count_by, refl, sym, ap, ◌∙◌, inl, inr, subst, arith, filter, option_map, append-nil, append_assoc, both_ways, list_all, slice_get, sum_by-cons, and_parts, and_from, or_left, or_right, not-true, not_from_false, Settings, NodePath, Tree, root_alone, Made, Change, History, step, steps, loaded_over}
 use Rattle.std.proofs.Common.{ℕ, Bool, true, false, ◌&&◌, List, [], ◌∷◌, ◌++◌, length, Option, Some, None, option_and_then, is_some, Contains}
 use Rattle.std.proofs.lemmas.Option.{same_Some, slice_get_within}
@@ -41,7 +41,7 @@ pub no_elements : {A : Type 0} (xs : List A) → ((x : A) → Contains xs x → 
 no_elements [] none = refl
 no_elements (x ∷ xs) none = absurd (none x (contains_first x xs))
 
--- one path more
+-- one more path
 
 within_trans : (a b c : NodePath) → is_within a b ≡ true → is_within b c ≡ true → is_within a c ≡ true
 within_trans a b c one two =
@@ -276,7 +276,7 @@ reached_closed way trees revisions tops = record {
   copied = λ path source rest old copy exists reached. IsInClosure.Followed path source rest old copy exists reached;
 }
 
--- it is in each closed set that has the given paths, whatever makes a set
+-- it is in each closed set that has the given paths, however the set is defined
 pub reached_in : (way : Way) (trees : List Tree) (revisions : List (List Change)) (tops : List NodePath)
     (Other : NodePath → Type 0) → IsClosed way trees revisions Other → ((top : NodePath) → Contains tops top → Other top)
     → (path : NodePath) → IsInClosure way trees revisions tops path → Other path
@@ -405,7 +405,7 @@ module _ (trees : List Tree) (revisions : List (List Change)) (is : loaded_over 
         ∙ (ap (λ ts. slice_get ts copy.number) (sym at.joined) ∙ copy.tree)) in
         there ∙ ap Some same
 
-    -- something exists at the copy's path behind the copy
+    -- something exists at the copy's path after the copy
     pub exists_at_copy : (rest : NodePath) → is_some (old (source ++ rest)) ≡ true → ExistsOnce revisions (path ++ rest)
     exists_at_copy rest some =
         let grown =
@@ -429,7 +429,7 @@ module _ (trees : List Tree) (revisions : List (List Change)) (is : loaded_over 
               source_there at.makes some);
         }
 
-    -- and at its source at the end of the revision that it names
+    -- and it exists at the copy's source at the end of the revision that the copy names
     pub exists_at_source : (rest : NodePath) → is_some (old (source ++ rest)) ≡ true → ExistsOnce revisions (source ++ rest)
     exists_at_source rest some =
         let within = slice_get_within at.earlier copy.number old source_there in

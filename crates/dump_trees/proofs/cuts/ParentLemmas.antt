@@ -1,4 +1,4 @@
--- Where included paths are followed to their sources only directories above them come back.
+-- If included paths are followed to their sources, only directories above them come back.
 use Rattle.dump_trees.proofs.Prelude.{◌≡◌, ◌⊎◌, inl, inr, list_all, list_all-append, and_parts, and_from, or_cases, refl, sym, ◌∙◌, subst, append_assoc, both_ways, or_left, keeps, Change}
 use Rattle.std.proofs.Common.{Bool, true, false, List, [], ◌∷◌, ◌++◌, length}
 use Rattle.dump_trees.specs.Siblings.{is_above_included, is_in_cut, has_node_names, have_node_names}

@@ -1,4 +1,5 @@
--- The copies of a history are those at the places of its changes, and where they are followed to is told by kinds.
+-- The copies of a history are the copies at the places of its changes, and the kinds say to which paths they are
+-- followed.
 use Rattle.dump_trees.proofs.Prelude.{◌≡◌, not, zero, suc, inl, inr, map, refl, sym, ap, ◌∙◌, subst, slice_get, Change}
 use Rattle.std.proofs.Common.{ℕ, ◌&&◌, List, [], ◌∷◌, ◌++◌, Some, None, is_some, Contains}
 use Rattle.std.proofs.lemmas.Option.{same_Some}

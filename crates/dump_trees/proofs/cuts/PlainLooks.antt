@@ -1,4 +1,4 @@
--- Looking back over changes whose properties and texts aren't known tells what exists all the same.
+-- Looking back over changes finds what exists even if their properties and texts aren't known.
 use Rattle.dump_trees.proofs.Prelude.{◌≡◌, not, ◌||◌, zero, suc, ◌+◌, ◌≤◌, cond, nat_le, refl, sym, ap, ap₂, ◌∙◌, subst, arith, append-nil, option_map, slice_get, AllZip, NodePath, below, Node, Tree, TextChange, History, is_copied}
 use Rattle.std.proofs.Common.{ℕ, Bool, true, false, List, [], ◌∷◌, length, Option, Some, None, option_and_then, is_some}
 use Rattle.std.proofs.lemmas.Option.{same_Some}
@@ -45,7 +45,7 @@ same_touches : (p q : Placed) → HasSameKinds p q → (path : NodePath)
 same_touches p q same path =
     ap (λ top. touches_rest (below top path) q.change) same.path ∙ same_touch p q same (below p.change.path path)
 
--- what is left is of the same kind
+-- what remains is of the same kind
 
 text_kind : (text plain : Option TextChange) → is_some plain ≡ is_some text → not (patches_text plain) ≡ true
     → (old other : Option Node) → option_map kind_of_node other ≡ option_map kind_of_node old

@@ -14,7 +14,7 @@ use Rattle.dump_trees.proofs.cuts.CoveredPaths.{contains_first, contains_later, 
 use Rattle.dump_trees.proofs.cuts.FollowLemmas.{change_is_made, no_elements, followed_bring_nothing}
 use Rattle.dump_trees.proofs.cuts.PlacedCopies.{get_contains, placed_of, copies_are_placed, followed_is_told}
 
--- an element of a list whose elements are made of others is made of one
+-- an element of a mapped list is the image of an element of the list
 map_contains : {A B : Type 0} (f : A → B) (xs : List A) (y : B) → Contains (map f xs) y
     → (x : A) × Contains xs x × (f x ≡ y)
 map_contains f [] y there = absurd (contains_none y there)

@@ -6,7 +6,7 @@ use Rattle.dump_trees.specs.Branches.{Branch, Branches, tree_of, found, has_name
 use Rattle.dump_trees.specs.ComingBack.{alone_if, coming_back, inside_coming_back, ComesBack}
 use Rattle.dump_trees.proofs.expansions.FoundSiblings.{contains_map}
 
--- an element of a list whose elements are made of others is made of one
+-- an element of a mapped list is the image of an element of the list
 contains_made : {A B : Type 0} (f : A → B) (xs : List A) (y : B) → Contains (map f xs) y
     → (x : A) × Contains xs x × (f x ≡ y)
 contains_made f [] y (k, low, is) = absurd (omega (arith, low))
@@ -16,7 +16,7 @@ contains_made f (x ∷ xs) y (suc k, low, is) =
     contains_made f xs y (k, (let less : k < length (map f xs) = omega (arith, low) in less), is) in
     (z, (suc m, omega (arith, fits), there), same)
 
--- the tree of what stands in a folder
+-- the tree of what exists in a directory
 abbrev inside_of : Branches → Tree
 inside_of inside = tree_of (Branch.Folder [] inside)
 

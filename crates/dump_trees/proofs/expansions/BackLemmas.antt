@@ -1,4 +1,4 @@
--- Looking back goes to fewer changes, so the bound on how many are followed doesn't matter.
+-- Looking back goes to fewer changes, so the bound on the number of steps doesn't matter.
 use Rattle.dump_trees.proofs.Prelude.{◌≡◌, zero, suc, ◌<◌, ◌≤◌, not, cond, nat_le, refl, sym, ap, ◌∙◌, subst, arith, slice_get, list_all, and_parts, and_from, not_from_false, le-leb, lt-leb, leb-true, ltb-true, NodePath, below, Node, Tree, Made, Change}
 use Rattle.std.proofs.Common.{ℕ, Bool, true, false, List, [], ◌∷◌, ◌++◌, Option, Some, None}
 use Rattle.dump_trees.specs.Looking.{Placed, end_of, touches_path, holds_there, latest, Origin, origin_of, set_by, looked_up, left_at, left_there, look_behind, look_within, look}
@@ -8,7 +8,7 @@ use Rattle.dump_trees.proofs.expansions.LookLemmas.{count_cons, count_none, orig
 
 -- the order of changes
 
--- whether no change of these is of a revision before this one
+-- whether none of these changes is of a revision before this one
 abbrev pub AreFrom : ℕ → List Placed → Type 0
 AreFrom number placed = list_all (λ (p : Placed). nat_le number p.revision) placed ≡ true
 
@@ -25,7 +25,7 @@ from_more number other low (p ∷ placed) are =
     and_from (nat_le number p.revision) (list_all (λ (q : Placed). nat_le number q.revision) placed)
     (le-leb number p.revision (omega arith)) (from_more number other low placed parts.1)
 
--- none of them stands in a revision up to this number
+-- none of them is in a revision up to this number
 pub none_up_to : (number bound : ℕ) (placed : List Placed) → number < bound → AreFrom bound placed
     → end_of placed number ≡ 0
 none_up_to number bound placed low are =
@@ -40,7 +40,7 @@ none_up_to number bound placed low are =
         and_from (not (nat_le p.revision number)) (list_all (λ (q : Placed). not (nat_le q.revision number)) ps)
         (not_from_false _ (lt-leb p.revision number (omega arith))) (none ps parts.1)
 
--- what ends in a revision before that of a change stands before the change
+-- the end of a revision before that of a change is before the change
 ends_before : (placed : List Placed) → Rise placed → (place : ℕ) (p : Placed) → slice_get placed place ≡ Some p
     → (number : ℕ) → number < p.revision → end_of placed number ≤ place
 ends_before [] rise place p at number low = absurd (let bad : None ≡ Some p = at in cc)
@@ -83,7 +83,7 @@ looks_back placed rise back place p at number source is =
     (ltb-true number p.revision
     (sym (ap (λ m. is_of_before p.revision m) is) ∙ back_at placed back place p at))
 
--- the latest change is one of so many
+-- the latest change is one of this number of changes
 latest_low : (test : Change → Bool) (placed : List Placed) (count place : ℕ)
     → latest test placed count ≡ Some place → suc place ≤ count
 latest_low test placed zero place is = absurd (let bad : None ≡ Some place = is in cc)
@@ -97,7 +97,7 @@ latest_low test placed (suc count) place is =
     cases further false there = let low = further there in omega arith
 
 module _ (placed : List Placed) (back : LooksBack placed) where
-  -- two ways to look that find the same after fewer changes find the same after so many
+  -- two ways to look that find the same after fewer changes find the same after this number of changes
   module _ (first : Tree) (path : NodePath) where
     abbrev SameLook : (ℕ → NodePath → Option Node)
         → (ℕ → NodePath → Option Node) → ℕ → Type 0

@@ -1,4 +1,4 @@
--- What stands at a path of a tree in which a branch was put, and changes that write a branch out.
+-- What exists at a path of a tree in which a branch was put, and changes that write a branch out.
 use Rattle.dump_trees.proofs.Prelude.{◌≡◌, cond, bytes_eq, ◌||◌, refl, ap, ◌∙◌, subst, append-nil, option_map, both_ways, bytes_eq-Decides, Property, NodePath, below, parent_of, Node, Tree, HasFolders, is_folder, at_or_below, grafted, at_top, put, is_folder_at, has_folder}
 use Rattle.std.proofs.Common.{ℕ, Bool, true, false, List, [], ◌∷◌, ◌++◌, Option, Some, None, option_and_then}
 use Rattle.dump_trees.specs.Branches.{Branch, Branches, tree_of, found, has_name}
@@ -6,7 +6,7 @@ use Rattle.dump_trees.proofs.changes.TreeLemmas.{below_rest, below_top, parent_r
 
 -- paths
 
--- the rest of a path behind two tops
+-- the rest of a path after two tops
 pub below_joined : (top more path : NodePath)
     → below (top ++ more) path ≡ option_and_then (λ rest. below more rest) (below top path)
 below_joined [] more path = refl
@@ -19,7 +19,7 @@ below_joined (name ∷ top) more (other ∷ path) = cases (below_joined top more
     cases further true = further
     cases further false = refl
 
--- a path in a folder has the folder for its parent
+-- a path in a directory has the directory as its parent
 pub parent_child : (path : NodePath) (name : List ℕ) → parent_of (path ++ name ∷ []) ≡ Some path
 parent_child [] name = refl
 parent_child (first ∷ []) name = refl
@@ -34,13 +34,13 @@ parent_apart path parent is =
     ∙ (below_joined parent (rest.0 ∷ []) parent
     ∙ ap (option_and_then (λ more. below (rest.0 ∷ []) more)) (below_top parent))
 
--- a folder isn't at or below what stands in it
+-- a directory isn't at or below a path in it
 pub child_apart : (path : NodePath) (name : List ℕ) → below (path ++ name ∷ []) path ≡ None
 child_apart path name = parent_apart (path ++ name ∷ []) path (parent_child path name)
 
 -- trees
 
--- all is as it was outside of the path
+-- nothing differs outside of the path
 abbrev pub IsSameOutside : NodePath → Tree → Tree → Type 0
 IsSameOutside top before after = (path : NodePath) → below top path ≡ None → after path ≡ before path
 
@@ -55,11 +55,11 @@ at_twice None n m old = refl
 at_twice (Some []) n m old = refl
 at_twice (Some (name ∷ rest)) n m old = refl
 
--- of two nodes put at a path the later one stands there
+-- of two nodes that are put at a path, the later one exists there
 pub put_twice : (top : NodePath) (n m : Node) (tree : Tree) → put top n (put top m tree) ≡ put top n tree
 put_twice top n m tree = λ i. λ path. at_twice (below top path) n m (tree path) i
 
--- outside of the path its folder is what it was
+-- outside of the path its directory is the same as before
 pub same_folder : (top : NodePath) (before after : Tree) → IsSameOutside top before after
     → has_folder after top ≡ has_folder before top
 same_folder top before after same = cases (parent_of top) refl
@@ -68,16 +68,16 @@ same_folder top before after same = cases (parent_of top) refl
     cases None at = refl
     cases (Some parent) at = ap is_folder (same parent (parent_apart top parent at))
 
--- what stands in a folder stands in one
+-- a path in a directory is in one
 pub child_folder : (tree : Tree) (path : NodePath) (name : List ℕ) → is_folder (tree path) ≡ true
     → has_folder tree (path ++ name ∷ []) ≡ true
 child_folder tree path name is = ap (λ o. is_folder_at tree o) (parent_child path name) ∙ is
 
--- nothing stands at the path or below it
+-- nothing exists at the path or below it
 abbrev pub IsClear : Tree → NodePath → Type 0
 IsClear tree path = (rest : NodePath) → tree (path ++ rest) ≡ None
 
--- where nothing stands at a path, nothing does below it
+-- if nothing exists at a path, nothing exists below it
 pub clear_below : (tree : Tree) → HasFolders tree → (path : NodePath) → tree path ≡ None → IsClear tree path
 clear_below tree folders path none [] = ap tree (append-nil path) ∙ none
 clear_below tree folders path none (name ∷ rest) = cases (tree (path ++ name ∷ rest)) refl
@@ -87,19 +87,19 @@ clear_below tree folders path none (name ∷ rest) = cases (tree (path ++ name �
     cases (Some node) at =
         absurd (both_ways (is_folder (tree path)) (ap is_folder none) (folders path name rest node at))
 
--- the root of a branch stands
+-- the root of a branch exists
 pub root_stands : (branch : Branch) → (node : Node) × (tree_of branch [] ≡ Some node)
 root_stands (Branch.Folder props inside) = (Node.Folder props, refl)
 root_stands (Branch.File props text) = (Node.File props text, refl)
 
--- the tree in which the branches stand in a folder
+-- the tree that has the branches in a directory
 
 abbrev pub laid_at : Option NodePath → Branches → Option Node → Option Node
 laid_at None branches old = old
 laid_at (Some []) branches old = old
 laid_at (Some (name ∷ rest)) branches old = found branches name rest old
 
--- the tree with these branches in a folder
+-- the tree with these branches in a directory
 abbrev pub laid : NodePath → Branches → Tree → Tree
 laid path branches tree = λ p. laid_at (below path p) branches (tree p)
 
@@ -125,7 +125,7 @@ laid_none path tree = λ i. λ p. cases (below path p) (tree p) i
     cases (Some []) old = refl
     cases (Some (name ∷ rest)) old = refl
 
--- one branch, and the others behind it
+-- one branch, and the others after it
 pub laid_first : (path : NodePath) (name : List ℕ) (branch : Branch) (others : Branches) (tree : Tree)
     → has_name name others ≡ false
     → laid path others (grafted (path ++ name ∷ []) (tree_of branch) tree)
@@ -150,7 +150,7 @@ laid_first path name branch others tree none = λ i. λ p.
             (subst (λ n. has_name n others ≡ false) ((bytes_eq-Decides name other).0 same) none)
         sides false apart = refl
 
--- a folder with its branches, where nothing stood
+-- a directory with its branches, if nothing existed there
 pub laid_folder : (path : NodePath) (props : List Property) (inside : Branches) (tree : Tree) → IsClear tree path
     → laid path inside (put path (Node.Folder props) tree) ≡ grafted path (tree_of (Branch.Folder props inside)) tree
 laid_folder path props inside tree clear = λ i. λ p. cases p (below path p) refl i

@@ -117,7 +117,7 @@ further history c o =
     option_and_then (λ t. text_set c.text c.path t)
     (option_and_then (λ t. props_set c.props c.path t) (option_and_then (λ t. made_in history c.made c.path t) o))
 
--- a copy of a place where a branch stands
+-- a copy of a place with a branch
 module _ (history : History) (c : Change) (number : ℕ) (source : NodePath) (old : Tree) (branch : Branch)
     (is : c.made ≡ Some (Made.Copied number source)) (there : history number ≡ Some old)
     (stands : HasBranch old source branch) where
@@ -147,7 +147,7 @@ module _ (history : History) (c : Change) (number : ℕ) (source : NodePath) (ol
           ap (option_and_then (λ t. text_set c.text c.path t)) (props_branch c.path tree c.props branch)
           ∙ text_branch c.path tree c.text (branch_with_props c.props branch)
 
-  -- where the change is made, it makes something of the branch
+  -- if the change is made, it makes something of the branch
   pub copy_makes : (before after : Tree) → step history before c ≡ Some after
       → (made : Branch) × (branch_made c branch ≡ Some made)
   copy_makes before after at = cases (deleted c.deletes c.path before) at
@@ -168,7 +168,7 @@ module _ (history : History) (c : Change) (number : ℕ) (source : NodePath) (ol
 module _ (settings : Settings) (history : History) (before old : Tree) (c : Change) (number : ℕ) (source : NodePath)
     (branch made : Branch) (is : c.made ≡ Some (Made.Copied number source)) (there : history number ≡ Some old)
     (stands : HasBranch old source branch) (makes : branch_made c branch ≡ Some made) where
-  -- where the copy leads
+  -- the tree to which the copy leads
   copy_after : (after : Tree) → step history before c ≡ Some after
       → (has_folder before c.path ≡ true) × (grafted c.path (tree_of made) before ≡ after)
   copy_after after at = sides c.deletes at

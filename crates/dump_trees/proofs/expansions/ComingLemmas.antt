@@ -1,4 +1,4 @@
--- Where nothing comes back, what stands at kept paths is told by the kept changes alone.
+-- If nothing comes back, the kept changes alone say what exists at kept paths.
 use Rattle.dump_trees.proofs.Prelude.{◌≡◌, suc, cond, refl, sym, ap, ◌∙◌, subst, filter, both_ways, slice_get, AllZip, Exclude, Settings, NodePath, keeps, below, Node, Tree, root_alone, Made, Change, History, step, steps, loaded}
 use Rattle.std.proofs.Common.{ℕ, zero, Bool, true, false, List, [], ◌∷◌, ◌++◌, Option, Some, None, option_and_then, is_some}
 use Rattle.std.proofs.lemmas.List.Elements.{All-head, All-tail, All-weaker, AllZip-push}
@@ -27,7 +27,7 @@ module _ (settings : Settings) (side : settings.side ≡ Exclude) where
           (subst (λ p. keeps settings p ≡ false) (sym (below_rest c.path path rest at))
           (keeps_nothing settings c.path rest side left)) kept)
 
-  -- where nothing comes back, nothing stands at a source that isn't kept
+  -- if nothing comes back, nothing exists at a source that isn't kept
   pub none_there : (h : History) (c : Change) (number : ℕ) (source rest : NodePath) (old : Tree)
       → (ComesBack settings h c → ⊥) → c.made ≡ Some (Made.Copied number source) → h number ≡ Some old
       → keeps settings (c.path ++ rest) ≡ true → keeps settings (source ++ rest) ≡ false
@@ -114,7 +114,7 @@ module _ (settings : Settings) (side : settings.side ≡ Exclude) where
                     ∙ sym (none_there other_history c number source rest other other_none made other_there kept_rest
                     left)
 
-    -- the next kept change of the other revision, behind some that aren't kept
+    -- the next kept change of the other revision, after some that aren't kept
     record Next (before after : Tree) (c : Change) (kept_rest : List Change) : Type 0 where
       middle : Tree
       agrees : AgreeWhereKept settings before middle
@@ -262,7 +262,7 @@ module _ (settings : Settings) (side : settings.side ≡ Exclude) where
       subst (λ b. R x b) two (subst (λ a. R a w) one all.0)
   zip_gets R (v ∷ xs) (w ∷ ys) all (suc n) x y at other = zip_gets R xs ys all.1 n x y at other
 
-  -- where nothing comes back out of all trees, nothing does out of the first ones
+  -- if nothing comes back out of all trees, nothing does out of the first ones
   pub fewer_back : (older trees : List Tree) (more : List Tree) → trees ≡ older ++ more → (changes : List Change)
       → NoneComesBack settings (slice_get trees) changes → NoneComesBack settings (slice_get older) changes
   fewer_back older trees more same changes none =

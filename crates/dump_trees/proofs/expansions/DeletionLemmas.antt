@@ -23,7 +23,7 @@ pub parent_below : (top : NodePath) (name : List ℕ) (rest : NodePath) → is_s
 parent_below [] name rest = parent_some name rest
 parent_below (first ∷ top) name rest = parent_some first (top ++ name ∷ rest)
 
--- where the parent is a folder there is one
+-- if the parent is a directory, there is a parent
 folder_parent : (tree : Tree) (o : Option NodePath) → is_folder_at tree o ≡ true → is_some o ≡ true
 folder_parent tree None is = is
 folder_parent tree (Some parent) is = refl
@@ -39,7 +39,7 @@ none_is (Some rest) is = absurd (let bad : false ≡ true = is in cc)
 
 -- trees
 
--- what is grafted at a path doesn't see what stood there
+-- what is grafted at a path doesn't depend on what was there
 pub graft_same : (top : NodePath) (new before after : Tree) → IsSameOutside top before after
     → grafted top new after ≡ grafted top new before
 graft_same top new before after same = λ i. λ path. cases path (below top path) refl i
@@ -49,12 +49,12 @@ graft_same top new before after same = λ i. λ path. cases path (below top path
     cases path None apart = same path apart
     cases path (Some rest) at = refl
 
--- of two trees grafted at a path the later one stands there
+-- of two trees that are grafted at a path, the later one is there
 pub graft_twice : (top : NodePath) (new other tree : Tree)
     → grafted top new (grafted top other tree) ≡ grafted top new tree
 graft_twice top new other tree = graft_same top new tree (grafted top other tree) (graft_outside top other tree)
 
--- nothing is taken away where nothing stands
+-- nothing is removed if nothing exists there
 pub graft_nothing : (top : NodePath) (tree : Tree) → IsClear tree top → tree ≡ grafted top empty_tree tree
 graft_nothing top tree clear = λ i. λ path. cases path (below top path) refl i
   where
@@ -81,12 +81,12 @@ deletion_step history path tree inner stands =
     (option_and_then (λ t. made_in history None path t) (cond b (Some (grafted path empty_tree tree)) None))))
     (and_from (is_some (parent_of path)) (is_some (tree path)) inner stands)
 
--- a tree without these paths and what stands below them; the paths are given from the top on
+-- a tree without these paths and without what is below them; the paths are given from the top on
 abbrev pub without : NodePath → List NodePath → Tree → Tree
 without top [] tree = tree
 without top (rest ∷ rests) tree = without top rests (grafted (top ++ rest) empty_tree tree)
 
--- where nothing stood nothing stands
+-- if nothing existed before, nothing exists after
 pub without_none : (top : NodePath) (rests : List NodePath) (tree : Tree) (path : NodePath) → tree path ≡ None
     → without top rests tree path ≡ None
 without_none top [] tree path none = none
@@ -97,7 +97,7 @@ without_none top (rest ∷ rests) tree path none =
     cases None = none
     cases (Some more) = refl
 
--- nothing stands at or below one of the paths
+-- nothing exists at or below one of the paths
 pub without_found : (top : NodePath) (rests : List NodePath) (tree : Tree) (more : NodePath)
     → list_any (λ other. is_some (below other more)) rests ≡ true → without top rests tree (top ++ more) ≡ None
 without_found top [] tree more is = absurd (let bad : false ≡ true = is in cc)
@@ -113,7 +113,7 @@ without_found top (rest ∷ rests) tree more is =
     cases None some = absurd (let bad : false ≡ true = some in cc)
     cases (Some found) some = refl
 
--- what isn't at or below a path that is deleted still stands
+-- what isn't at or below a deleted path still exists
 pub still_stand : (top rest : NodePath) (tree : Tree) (rests : List NodePath)
     → list_all (λ other. is_none (below rest other)) rests ≡ true
     → list_all (λ other. is_some (tree (top ++ other))) rests ≡ true
@@ -139,7 +139,7 @@ module _ (settings : Settings) (history : History) where
     dropped = λ left. absurd (both_ways (keeps settings path) left kept);
   }
 
-  -- what stands at a path is deleted, if something does
+  -- what exists at a path is deleted, if something does
   pub clearing_leads : (path : NodePath) (tree : Tree) (b : Bool) → is_some (tree path) ≡ b
       → has_folder tree path ≡ true → (tree path ≡ None → IsClear tree path)
       → Separates settings history tree (deletion_of path) (grafted path empty_tree tree)

@@ -1,4 +1,4 @@
--- What a copy needs: a source at which something stands; and one more tree that is a branch.
+-- What a copy needs: a source at which something exists; and one more tree that is a branch.
 use Rattle.dump_trees.proofs.Prelude.{◌≡◌, cond, refl, sym, ap, ◌∙◌, subst, inl, inr, slice_get, NodePath, Node, Tree, grafted, Made, Change, History, is_copied, has_folder, deleted, copied, made_in, props_set, text_set, step}
 use Rattle.std.proofs.Common.{ℕ, true, false, ◌&&◌, List, [], ◌∷◌, ◌++◌, Option, Some, None, option_and_then, is_some}
 use Rattle.dump_trees.proofs.histories.KeptNumbers.{get_pushed}

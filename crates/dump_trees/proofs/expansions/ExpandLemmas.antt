@@ -1,4 +1,4 @@
--- Expanded changes lead where the changes lead, and expanded revisions load to the same trees.
+-- Expanded changes lead to the same tree as the changes, and expanded revisions load to the same trees.
 use Rattle.dump_trees.proofs.Prelude.{◌≡◌, refl, sym, ap, ◌∙◌, subst, slice_get, Tree, root_alone, Change, step, steps, loaded, AllRevisionsSeparate}
 use Rattle.std.proofs.Common.{List, [], ◌∷◌, ◌++◌, Option, Some, None, option_and_then}
 use Rattle.dump_trees.specs.Leading.{Leads}
@@ -27,7 +27,7 @@ expanded_lead settings history before after (c ∷ changes) expanded at (first, 
         subst (λ cs. Leads settings history before cs after) (sym same)
         (leads_then settings history first rest before t after (expands t at) (behind t there (more t at)))
 
--- what is loaded, where the changes of the next revision lead to a tree
+-- what is loaded, if the changes of the next revision lead to a tree
 loads_next : (older : List Tree) (youngest tree : Tree) (changes : List Change) (revisions : List (List Change))
     → steps (slice_get older) youngest changes ≡ Some tree
     → loaded older youngest (changes ∷ revisions) ≡ loaded (older ++ tree ∷ []) tree revisions

@@ -1,4 +1,4 @@
--- Trees that are branches stay branches where something is put in or taken out.
+-- Trees that are branches remain branches if something is put in or removed.
 use Rattle.dump_trees.proofs.Prelude.{◌≡◌, not, cond, bytes_eq, refl, sym, ap, ◌∙◌, subst, option_map, both_ways, and_parts, and_from, or_parts, or_from, not-true, not_from_false, bytes_eq-Decides, Property, NodePath, below, parent_of, Node, Tree, is_folder, at_or_below, grafted, empty_tree, is_folder_at, has_folder, edited_with}
 use Rattle.std.proofs.Common.{ℕ, Bool, true, false, ◌&&◌, List, [], ◌∷◌, ◌++◌, Option, Some, None, is_some}
 use Rattle.dump_trees.specs.Branches.{Branch, Branches, tree_of, found, has_name, is_distinct, are_distinct, HasBranch}
@@ -25,19 +25,19 @@ abbrev pub IsWholeIf : Option Branch → Type 0
 IsWholeIf None = Rattle.std.specs.Prelude.⊤
 IsWholeIf (Some branch) = IsWhole branch
 
--- the tree of a branch, or that in which nothing stands
+-- the tree of a branch, or the tree in which nothing exists
 abbrev pub tree_if : Option Branch → Tree
 tree_if None = empty_tree
 tree_if (Some branch) = tree_of branch
 
--- of two nodes, one by whether a name is the other
+-- a claim about the node that a test selects, from the claims about both nodes
 folder_either : (b : Bool) (here there also_here also_there : Option Node) (node : Node)
     → (here ≡ Some node → is_folder also_here ≡ true) → (there ≡ Some node → is_folder also_there ≡ true)
     → cond b here there ≡ Some node → is_folder (cond b also_here also_there) ≡ true
 folder_either true here there also_here also_there node one two at = one at
 folder_either false here there also_here also_there node one two at = two at
 
--- each node of a branch stands in folders alone
+-- each node of a branch is in directories only
 mutual
   pub branch_folders : (branch : Branch) (top : NodePath) (name : List ℕ) (rest : NodePath) (node : Node)
       → tree_of branch (top ++ name ∷ rest) ≡ Some node → is_folder (tree_of branch top) ≡ true
@@ -58,19 +58,19 @@ mutual
       (λ here. branch_folders branch top name rest node here)
       (λ there. inside_folders others first top name rest node there) at
 
--- a branch that stands at a path of a tree
+-- a branch that is at a path of a tree
 pub record Stands (tree : Tree) (path : NodePath) : Type 0 where
   pub branch : Branch
   pub has : HasBranch tree path branch
   pub whole : IsWhole branch
 
--- below a name of a folder
+-- below a name in a directory
 stands_found : (tree : Tree) (path : NodePath) (other : Tree) (rest : NodePath)
     → ((more : NodePath) → tree (path ++ more) ≡ other (rest ++ more)) → Stands other rest → Stands tree path
 stands_found tree path other rest same s =
     record { branch = s.branch; has = λ more. same more ∙ s.has more; whole = s.whole }
 
--- by whether the first branch has the name
+-- whether the first branch has the name
 either_stands : (first : List ℕ) (branch : Branch) (others : Branches) (name : List ℕ) (rest : NodePath) (node : Node)
     (tree : Tree)
     → ((more : NodePath) → tree (name ∷ more) ≡ found (Branches.Named first branch others) name more None)
@@ -87,7 +87,7 @@ either_stands first branch others name rest node tree same here there false is a
     there tree at
     (λ more. same more ∙ ap (λ b. cond b (tree_of branch more) (found others name more None)) is)
 
--- at each path of a branch where something stands, a branch does
+-- at each path of a branch at which something exists, a branch exists
 mutual
   pub branch_stands : (branch : Branch) (path : NodePath) (node : Node) → is_distinct branch ≡ true
       → HasEntries branch → tree_of branch path ≡ Some node → Stands (tree_of branch) path
@@ -111,7 +111,7 @@ mutual
       (λ here. branch_stands branch rest node more.1 entries.0 here)
       (λ t there is. inside_stands others name rest node parts.1 entries.1 there t is) (bytes_eq first name) refl at
 
--- a branch, with another one in place of what stands below a name, or with nothing there
+-- a branch, with another one in place of what is below a name, or with nothing there
 
 abbrev pub with_first : List ℕ → Option Branch → Branches → Branches
 with_first name None others = others
@@ -135,7 +135,7 @@ abbrev mutual
       cond (bytes_eq first name) (Branches.Named first (replaced next rest new branch) others)
       (Branches.Named first branch (replaced_inside name (next ∷ rest) new others))
 
--- what is put in must stand in a folder
+-- what is put in must be in a directory
 abbrev pub Holds : Option Branch → Tree → NodePath → Type 0
 Holds new tree path = is_some new ≡ true → has_folder tree path ≡ true
 
@@ -145,7 +145,7 @@ holds_not None bad None = refl
 holds_not None bad (Some rest) = refl
 holds_not (Some branch) bad o = absurd (bad refl)
 
--- a file holds nothing
+-- nothing is below a file
 file_holds : (props : List Property) (text : List ℕ) (name : List ℕ) (rest : NodePath)
     → has_folder (tree_of (Branch.File props text)) (name ∷ rest) ≡ true → ⊥
 file_holds props text name [] is = let bad : false ≡ true = is in cc
@@ -156,7 +156,7 @@ file_holds props text name (next ∷ rest) is = cases (parent_of (next ∷ rest)
     cases None is = let bad : false ≡ true = is in cc
     cases (Some parent) is = let bad : false ≡ true = is in cc
 
--- nor does a folder at a name that isn't there
+-- a directory doesn't have it at a missing name either
 none_holds : (props : List Property) (name next : List ℕ) (rest : NodePath)
     → has_folder (tree_of (Branch.Folder props Branches.NoMore)) (name ∷ next ∷ rest) ≡ true → ⊥
 none_holds props name next rest is = cases (parent_of (next ∷ rest)) is
@@ -191,7 +191,7 @@ module _ (props : List Property) (first : List ℕ) (branch : Branch) (others : 
       cases (Some parent) is =
           ap (λ b. is_folder (cond b (tree_of branch parent) (found others name parent None))) (sym same) ∙ is
 
--- a branch of another name stays as it is
+-- a branch with another name doesn't change
 apart_case : (first name : List ℕ) → bytes_eq first name ≡ false → (q : List ℕ) (here left right : Option Node)
     (o : Option NodePath) (new : Tree) → left ≡ at_or_below (cond (bytes_eq name q) o None) new right → (b : Bool)
     → bytes_eq first q ≡ b
@@ -206,7 +206,7 @@ apart_case first name apart q here left right o new same true is = cases (bytes_
         ((bytes_eq-Decides first name).1
         ((bytes_eq-Decides first q).0 is ∙ sym ((bytes_eq-Decides name q).0 same))))
 
--- the branch of the name is replaced as a whole
+-- the branch with the name is replaced as a whole
 first_case : (first : List ℕ) (new : Option Branch) (branch : Branch) (others : Branches)
     → has_name first others ≡ false → (q : List ℕ) (r : NodePath) (b : Bool) → bytes_eq first q ≡ b
     → found (with_first first new others) q r None
@@ -219,7 +219,7 @@ first_case first (Some new) branch others none q r true same =
 first_case first (Some new) branch others none q r false apart =
     ap (λ b. cond b (tree_of new r) (found others q r None)) apart
 
--- and one below it within it
+-- a branch below it is replaced within it
 within_case : (here before there : Option Node) (o : Option NodePath) (new : Tree)
     → here ≡ at_or_below o new before → (b : Bool)
     → cond b here there ≡ at_or_below (cond b o None) new (cond b before there)
@@ -310,7 +310,7 @@ module _ (new : Option Branch) where
             (found (replaced_inside name (next ∷ rest) new others) q r None)
             (found others q r None) (below (next ∷ rest) r) (tree_if new) (further away) (bytes_eq first q) refl
 
-  -- no other names come
+  -- there are no other names
   no_name : (branches : Branches) (name : List ℕ) (rest : NodePath) (other : List ℕ)
       → has_name other branches ≡ false → bytes_eq name other ≡ false
       → has_name other (replaced_inside name rest new branches) ≡ false
@@ -344,7 +344,7 @@ module _ (new : Option Branch) where
       cases away none further false =
           or_from (bytes_eq first other) (has_name other (replaced_inside name (next ∷ rest) new others)) away further
 
--- another name, seen from the other side
+-- the same for another name, the other way round
 other_side : (first name : List ℕ) → bytes_eq first name ≡ false → bytes_eq name first ≡ false
 other_side first name apart = cases (bytes_eq name first) refl
   where
@@ -362,7 +362,7 @@ named_apart name branch others none one two =
     (and_from (not (has_name name others)) (is_distinct branch) (not_from_false _ none) one) two
 
 module _ (new : Option Branch) (is : IsWholeIf new) where
-  -- the new branch before others
+  -- the new branch in front of the others
   first_whole : (first : List ℕ) (o : Option Branch) → IsWholeIf o → (others : Branches)
       → has_name first others ≡ false → are_distinct others ≡ true → HaveEntries others
       → (are_distinct (with_first first o others) ≡ true) × HaveEntries (with_first first o others)

@@ -1,4 +1,4 @@
--- Each change of a tree that is a branch makes one.
+-- Each change of a tree that is a branch makes a tree that is a branch.
 use Rattle.dump_trees.proofs.Prelude.{◌≡◌, cond, refl, sym, ap, ◌∙◌, subst, append-nil, option_map, IfSome, and_parts, Property, NodePath, below, parent_of, Node, Tree, HasFolders, at_or_below, grafted, at_top, put, empty_tree, root_alone, Made, PropertyChange, TextChange, Change, History, is_folder_at, has_folder, deleted, node_put, copied, made_in, edited_with, with_entry, new_props, new_text, with_props, with_text, props_put, props_set, text_set, step, steps}
 use Rattle.std.proofs.Common.{ℕ, Bool, true, false, ◌&&◌, List, [], ◌∷◌, ◌++◌, Option, Some, None, option_and_then, is_some, is_none}
 use Rattle.dump_trees.specs.Branches.{Branch, Branches, tree_of, HasBranch}
@@ -14,17 +14,17 @@ pub record IsFinite (tree : Tree) : Type 0 where
   pub same : tree_of branch ≡ tree
   pub whole : IsWhole branch
 
--- each tree of the history is
+-- each tree of the history is the tree of a branch
 abbrev pub AllFinite : History → Type 0
 AllFinite history = (number : ℕ) (tree : Tree) → history number ≡ Some tree → IsFinite tree
 
--- each node of it stands in folders alone
+-- each node of it is in directories only
 pub finite_folders : (tree : Tree) → IsFinite tree → HasFolders tree
 finite_folders tree f =
     subst (λ t. HasFolders t) f.same
     (λ top name rest node at. branch_folders f.branch top name rest node at)
 
--- at each path where something stands a branch does
+-- at each path at which something exists, a branch exists
 pub finite_stands : (tree : Tree) → IsFinite tree → (path : NodePath) (node : Node) → tree path ≡ Some node
     → Stands tree path
 finite_stands tree f path node =
@@ -43,7 +43,7 @@ finite_root = record {
     cases [] = refl
     cases (name ∷ path) = refl
 
--- something is put in or taken out below the root
+-- something is put in or removed below the root
 finite_replaced : (tree : Tree) → IsFinite tree → (name : List ℕ) (rest : NodePath) (new : Option Branch)
     → IsWholeIf new → Holds new tree (name ∷ rest) → IsFinite (grafted (name ∷ rest) (tree_if new) tree)
 finite_replaced tree f name rest new whole =
@@ -55,7 +55,7 @@ finite_replaced tree f name rest new whole =
       whole = record { apart = parts.0; entries = parts.1 };
     })
 
--- what stands below the root stands in a folder
+-- what is below the root is in a directory
 stands_folder : (tree : Tree) → HasFolders tree → (name : List ℕ) (rest : NodePath) (node : Node)
     → tree (name ∷ rest) ≡ Some node → has_folder tree (name ∷ rest) ≡ true
 stands_folder tree folders name rest node at = cases (parent_of (name ∷ rest)) refl (parent_some name rest)
@@ -66,7 +66,7 @@ stands_folder tree folders name rest node at = cases (parent_of (name ∷ rest))
         let last = parent_rest (name ∷ rest) parent is in
         folders parent last.0 [] node (ap tree (sym last.1) ∙ at)
 
--- another branch in place of what stands at a path
+-- another branch in place of what exists at a path
 finite_changed : (tree : Tree) → IsFinite tree → (top : NodePath) (node : Node) → tree top ≡ Some node → (new : Branch)
     → IsWhole new → IsFinite (grafted top (tree_of new) tree)
 finite_changed tree f [] node at new whole = record { branch = new; same = refl; whole = whole }
@@ -74,14 +74,14 @@ finite_changed tree f (name ∷ rest) node at new whole =
     finite_replaced tree f name rest (Some new) whole
     (λ some. stands_folder tree (finite_folders tree f) name rest node at)
 
--- a new branch in a folder
+-- a new branch in a directory
 finite_added : (tree : Tree) → IsFinite tree → (top : NodePath) → has_folder tree top ≡ true → (new : Branch)
     → IsWhole new → IsFinite (grafted top (tree_of new) tree)
 finite_added tree f [] some new whole = absurd (let bad : false ≡ true = some in cc)
 finite_added tree f (name ∷ rest) some new whole =
     finite_replaced tree f name rest (Some new) whole (λ is. some)
 
--- a node that is put at a path, with what stands below
+-- a node that is put at a path, with what is below it
 put_branch : (top : NodePath) (node : Node) (new : Branch) (tree : Tree) → tree_of new [] ≡ Some node
     → ((name : List ℕ) (rest : NodePath) → tree_of new (name ∷ rest) ≡ tree (top ++ name ∷ rest))
     → grafted top (tree_of new) tree ≡ put top node tree
@@ -93,7 +93,7 @@ put_branch top node new tree root same = λ i. λ path. cases path (below top pa
     cases path (Some []) at = root
     cases path (Some (name ∷ rest)) at = same name rest ∙ ap tree (sym (below_rest top path (name ∷ rest) at))
 
--- entries behind others
+-- entries after others
 edited_append : (entries more props : List Property)
     → edited_with (entries ++ more) props ≡ edited_with more (edited_with entries props)
 edited_append [] more props = refl
@@ -198,7 +198,7 @@ props_below : (change : PropertyChange) (branch : Branch) (name : List ℕ) (res
 props_below change (Branch.Folder props inside) name rest = refl
 props_below change (Branch.File props text) name rest = refl
 
--- a branch stands at a path where a node does, and the node is its root
+-- a branch exists at a path if a node does, and the node is its root
 root_node : (tree : Tree) (top : NodePath) (node : Node) → tree top ≡ Some node → (branch : Branch)
     → HasBranch tree top branch → tree_of branch [] ≡ Some node
 root_node tree top node at branch has = sym (has []) ∙ (ap tree (append-nil top) ∙ at)

@@ -1,4 +1,4 @@
--- The siblings are among the names that can stand in the directories above included paths.
+-- The siblings are among the names that can exist in the directories above included paths.
 use Rattle.dump_trees.proofs.Prelude.{◌≡◌, zero, suc, ◌≤◌, ◌<◌, refl, sym, ap, subst, inl, inr, arith, map, list_any, slice_get, and_parts, or_cases, NodePath, below, parent_of, Tree, root_alone}
 use Rattle.std.proofs.Common.{ℕ, true, false, not, ◌&&◌, List, [], ◌∷◌, ◌++◌, length, Option, Some, None, is_some, Contains}
 use Rattle.std.proofs.lemmas.Option.{slice_get_within}
@@ -45,7 +45,7 @@ above_are_listed included [] above = Contains-append_left ([] ∷ []) (all_above
 above_are_listed included (name ∷ path) above =
     Contains-append_right ([] ∷ []) (all_above included) (name ∷ path) (any_listed included (name ∷ path) above)
 
--- siblings among which is each that can stand suffice
+-- siblings suffice if each sibling that can exist is one of them
 pub siblings_are_found : SiblingsAreFound
 siblings_are_found included siblings revisions trees is each all = record { each = each; all = found }
   where

@@ -8,7 +8,7 @@ module _ (settings : Settings) (history : History) where
   pub leads_nowhere : (tree : Tree) → Leads settings history tree [] tree
   leads_nowhere tree = record { same = refl; apart = tt }
 
-  -- one change, and more behind it
+  -- one change, and more after it
   pub leads_first : (before between after : Tree) (c : Change) (changes : List Change)
       → step history before c ≡ Some between → Separates settings history before c between
       → Leads settings history between changes after → Leads settings history before (c ∷ changes) after
@@ -25,7 +25,7 @@ module _ (settings : Settings) (history : History) where
       → Separates settings history before c after → Leads settings history before (c ∷ []) after
   leads_one before after c at apart = leads_first before after after c [] at apart (leads_nowhere after)
 
-  -- some changes, and more behind them
+  -- some changes, and more after them
   pub leads_then : (first rest : List Change) (before between after : Tree)
       → Leads settings history before first between → Leads settings history between rest after
       → Leads settings history before (first ++ rest) after

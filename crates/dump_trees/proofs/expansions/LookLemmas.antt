@@ -1,4 +1,4 @@
--- Looking back finds what stands in the trees.
+-- Looking back finds what exists in the trees.
 use Rattle.dump_trees.proofs.Prelude.{◌≡◌, zero, suc, ◌+◌, ◌<◌, ◌≤◌, not, cond, nat_le, count_by, map, refl, sym, ap, ap₂, ◌∙◌, subst, inl, inr, ◌⊎◌, arith, append-nil, append_assoc, slice_get, list_all, list_all-append, and_parts, and_from, not_from_false, le-leb, lt-leb, leb-true, sum_by-cons, NodePath, below, Node, Tree, Made, Change, History, step, steps, loaded}
 use Rattle.std.proofs.Common.{ℕ, Bool, true, false, List, [], ◌∷◌, ◌++◌, Option, Some, None, option_and_then, length}
 use Rattle.std.proofs.lemmas.List.Sums.{count_by-le-length}
@@ -13,7 +13,7 @@ pub count_cons : (f : Placed → Bool) (p : Placed) (ps : List Placed)
     → count_by f (p ∷ ps) ≡ cond (f p) 1 0 + count_by f ps
 count_cons f p ps = sum_by-cons (λ q. cond (f q) 1 0) p ps
 
--- what stands behind isn't counted where the test fails there
+-- later elements aren't counted if they fail the test
 pub count_none : (f : Placed → Bool) (ps : List Placed) → list_all (λ p. not (f p)) ps ≡ true → count_by f ps ≡ 0
 count_none f [] none = refl
 count_none f (p ∷ ps) none =
@@ -31,14 +31,14 @@ count_front f (p ∷ ps) qs none =
     count_cons f p (ps ++ qs)
     ∙ (ap (λ c. cond (f p) 1 0 + c) (count_front f ps qs none) ∙ sym (count_cons f p ps))
 
--- all are counted where the test holds of all
+-- all are counted if all pass the test
 pub count_whole : (f : Placed → Bool) (ps : List Placed) → list_all f ps ≡ true → count_by f ps ≡ length ps
 count_whole f [] all = refl
 count_whole f (p ∷ ps) all =
     let parts = and_parts (f p) (list_all f ps) all in
     count_cons f p ps ∙ (ap₂ (λ b c. cond b 1 0 + c) parts.0 (count_whole f ps parts.1) ∙ omega arith)
 
--- the ends of earlier revisions stay where changes of this revision and later ones come behind
+-- the ends of earlier revisions stay if changes of this revision and later ones follow
 none_early : (bound number : ℕ) (ps : List Placed) → number < bound
     → list_all (λ (p : Placed). nat_le bound p.revision) ps ≡ true
     → list_all (λ (p : Placed). not (nat_le p.revision number)) ps ≡ true
@@ -77,7 +77,7 @@ pub record Runs (first : Tree) (placed : List Placed) (bound : ℕ) (trees : Lis
   pub each : (place : ℕ) (after : Tree) → slice_get trees (suc place) ≡ Some after
       → StepsAt placed bound trees place after
 
--- where a copy brings what it leaves
+-- the origin of what a copy leaves
 pub origin_source : (deletes : Bool) (made : Option Made) (rest : NodePath) (number : ℕ) (source : NodePath)
     → origin_of deletes made rest ≡ Origin.From number source
     → (from : NodePath) × (made ≡ Some (Made.Copied number from))
@@ -104,7 +104,7 @@ origin_source deletes (Some (Made.Copied n from)) rest number source is =
 
 module _ (first : Tree) (placed : List Placed) (bound : ℕ) (trees : List Tree)
     (runs : Runs first placed bound trees) where
-  -- what is found after so many changes, if no more than this many are followed
+  -- what is found after this number of changes, if no more than this many are followed
   abbrev Finds : ℕ → Type 0
   Finds more = (count : ℕ) → count ≤ more → (tree : Tree) → slice_get trees count ≡ Some tree → (path : NodePath)
       → look_within more first placed count path ≡ tree path
@@ -179,12 +179,12 @@ module _ (first : Tree) (placed : List Placed) (bound : ℕ) (trees : List Tree)
             (cond (holds_there (touches_path path) o) (Some count) (latest (touches_path path) placed count))) s.there
             ∙ sides s further (touches_path path s.at.change) refl
 
-  -- what is found is what stands in the tree
+  -- what is found is what exists in the tree
   pub look_runs : (more : ℕ) → Finds more
   look_runs zero count low tree at path = first_is count (omega arith) tree at path
   look_runs (suc more) count low tree at path = behind_finds more (look_runs more) path count low tree at
 
--- changes that stand behind don't matter
+-- later changes don't matter
 pub runs_before : (first : Tree) (placed behind : List Placed) (bound : ℕ) (trees : List Tree)
     → Runs first placed bound trees → list_all (λ (p : Placed). nat_le bound p.revision) behind ≡ true
     → Runs first (placed ++ behind) bound trees
@@ -211,7 +211,7 @@ runs_before first placed behind bound trees runs late = record {
 
 -- the changes of a load, one after the other
 
--- what holds after these changes, where the older trees are those of earlier revisions
+-- what is true after these changes, if the older trees are those of earlier revisions
 pub record Begun (first : Tree) (older : List Tree) (youngest : Tree) (bound : ℕ) (placed : List Placed)
     (trees : List Tree) : Type 0 where
   pub runs : Runs first placed bound trees
@@ -452,7 +452,7 @@ module _ (first : Tree) where
                 (append_assoc placed here rest) all.2),
           )
 
--- what holds after a load
+-- what is true after a load
 pub loaded_begun : (first : Tree) (revisions : List (List Change)) (trees : List Tree)
     → loaded (first ∷ []) first revisions ≡ Some trees
     → (last : Tree) × (more : List Tree)

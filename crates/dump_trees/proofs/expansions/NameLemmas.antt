@@ -1,4 +1,4 @@
--- Each name in a folder is among those that can stand there.
+-- Each name in a directory is one of the names that can exist there.
 use Rattle.dump_trees.proofs.Prelude.{◌≡◌, zero, suc, ◌≤◌, ◌||◌, cond, bytes_eq, refl, sym, ap, ◌∙◌, subst, inl, inr, ◌⊎◌, arith, append-nil, append_assoc, slice_get, IfSome, list_any, both_ways, or_left, or_right, or_cases, bytes_eq-Decides, NodePath, below, Node, Tree, HasFolders, root_alone, put, Made, PropertyChange, TextChange, Change, History, is_copied, deleted, made_in, node_put, has_folder, props_set, text_set, step}
 use Rattle.std.proofs.Common.{ℕ, Bool, true, false, ◌&&◌, List, [], ◌∷◌, ◌++◌, Option, Some, None, option_and_then, length, is_some, is_none}
 use Rattle.dump_trees.specs.Looking.{Placed, placed_from, end_of, touches_rest, touches_path, holds_there, latest, left_by, origin_of, node_with_props, node_with_text, set_by}
@@ -31,7 +31,7 @@ has_right name (first ∷ names) others is =
     or_right (bytes_eq first name) (list_any (λ other. bytes_eq other name) (names ++ others))
     (has_right name names others is)
 
--- names that more changes add don't take others away
+-- more changes add names, and remove none
 has_more : (name : List ℕ) (new names others : List (List ℕ)) → Has name (names ++ others)
     → Has name ((new ++ names) ++ others)
 has_more name new names others is =
@@ -45,7 +45,7 @@ below_more top path rest more at =
     ap (λ p. below top (p ++ more)) (below_rest top path rest at)
     ∙ (ap (λ p. below top p) (append_assoc top rest more) ∙ below_found top (rest ++ more))
 
--- what lies at or below a path in a folder, and isn't that path, has the folder at or below it
+-- what is at or below a path in a directory, and isn't that path, has the directory at or below it
 below_less : (top path : NodePath) (name first : List ℕ) (rest : NodePath)
     → below top (path ++ name ∷ []) ≡ Some (first ∷ rest) → (more : NodePath) × (below top path ≡ Some more)
 below_less [] path name first rest at = (path, refl)
@@ -72,7 +72,7 @@ below_less (one ∷ top) (other ∷ path) name first rest at =
 
 -- single changes
 
--- nothing has no properties and no text
+-- if there is no node, a change sets no properties and no text
 set_nothing : (c : Change) (rest : NodePath) → set_by c rest None ≡ None
 set_nothing c [] = both c.props c.text
   where
@@ -89,7 +89,7 @@ set_nothing c [] = both c.props c.text
     both props text = ap (node_with_text text) (props_none props) ∙ text_none text
 set_nothing c (name ∷ rest) = refl
 
--- what stands after a change, and wasn't deleted, stood before
+-- what exists after a change, and wasn't deleted, existed before
 stood_before : (history : History) (c : Change) (rest : NodePath) (old : Option Node)
     → is_some (set_by c rest (origin_in history old (left_by c.deletes))) ≡ true
     → (c.deletes ≡ false) × (is_some old ≡ true)
@@ -106,7 +106,7 @@ stood_before history c rest old is = cases c.deletes refl is
         absurd (let bad : false ≡ true = sym (ap is_some (set_nothing c rest)) ∙ some in cc)
     cases false stays some = (stays, by_old old some)
 
--- a new node that takes the place of nothing is made where nothing stands
+-- a new node that replaces nothing is made at a path without a node
 new_needs_none : (history : History) (before after : Tree) (c : Change) → c.deletes ≡ false
     → (c.made ≡ Some Made.NewFolder) ⊎ (c.made ≡ Some Made.NewFile) → step history before c ≡ Some after
     → before c.path ≡ None
@@ -146,7 +146,7 @@ new_needs_none history before after c stays (inr made) at =
         in cc)
 
 module _ (placed : List Placed) (bound : ℕ) (trees : List Tree) (runs : Runs root_alone placed bound trees) where
-  -- the trees between changes have folders
+  -- the trees between changes have directories
   folders_at : (more count : ℕ) → count ≤ more → (tree : Tree) → slice_get trees count ≡ Some tree → HasFolders tree
   folders_at more zero low tree at =
       let same : root_alone ≡ tree = (let both : Some root_alone ≡ Some tree = sym runs.start ∙ at in cc) in
@@ -160,7 +160,7 @@ module _ (placed : List Placed) (bound : ℕ) (trees : List Tree) (runs : Runs r
       folders_at more (end_of placed number) (omega arith) old (s.found number old is))
       s.before s.at.change (folders_at more count (omega arith) s.before s.was))
 
-  -- each name that stands is among these, if no more than this many changes are followed
+  -- each name that exists is one of these, if no more than this many changes are followed
   abbrev Lists : ℕ → Type 0
   Lists more = (count : ℕ) → count ≤ more → (tree : Tree) → slice_get trees count ≡ Some tree → (path : NodePath)
       (name : List ℕ) → is_some (tree (path ++ name ∷ [])) ≡ true → Has name (names_within more placed count path)
@@ -178,7 +178,7 @@ module _ (placed : List Placed) (bound : ℕ) (trees : List Tree) (runs : Runs r
           (below_more s.at.change.path path rest (name ∷ []) at) s.leads)
           ∙ stands
 
-      -- what stood there before
+      -- what existed there before
       from_before : is_some (s.before (path ++ name ∷ [])) ≡ true → Has name (names_within more placed place path)
       from_before some = lists place low s.before s.was path name some
 
@@ -260,7 +260,7 @@ module _ (placed : List Placed) (bound : ℕ) (trees : List Tree) (runs : Runs r
           (below_set rest (origin_in s.history (s.before (path ++ name ∷ []))
           (origin_of s.at.change.deletes s.at.change.made (rest ++ name ∷ []))) (child_stands rest at))
 
-      -- where the path isn't touched, the name is a new one, or it stood before
+      -- if the path isn't touched, the name is a new one, or it existed before
       new_or_before : touches_path path s.at.change ≡ false
           → Has name (name_made (below path s.at.change.path) s.at.change.made)
           ⊎ (is_some (s.before (path ++ name ∷ [])) ≡ true)
@@ -284,7 +284,7 @@ module _ (placed : List Placed) (bound : ℕ) (trees : List Tree) (runs : Runs r
               ∙ (ap is_some (step_has s.history s.before after s.at.change (path ++ name ∷ []) [] at s.leads)
               ∙ stands))).1
 
-          -- a change that touches it, and isn't its own, touches the path
+          -- a change at a path above that touches it touches the path
           above : (first : List ℕ) (rest : NodePath)
               → below s.at.change.path (path ++ name ∷ []) ≡ Some (first ∷ rest)
               → (s.at.change.deletes || is_copied s.at.change.made) ≡ true
@@ -327,7 +327,7 @@ module _ (placed : List Placed) (bound : ℕ) (trees : List Tree) (runs : Runs r
               ∙ stands)
           sides true near = by_rest (below s.at.change.path (path ++ name ∷ [])) refl near
 
-    -- the names behind so many changes
+    -- the names after this number of changes
     abbrev names_at : ℕ → List (List ℕ)
     names_at count = names_made placed count path
         ++ names_behind (names_within more placed) placed path (latest (touches_path path) placed count)
@@ -386,7 +386,7 @@ module _ (placed : List Placed) (bound : ℕ) (trees : List Tree) (runs : Runs r
             (sym s.there)
             (sides s further (touches_path path s.at.change) refl)
 
-  -- each name that stands
+  -- each name that exists
   pub names_run : (more : ℕ) → Lists more
   names_run zero zero low tree at path name some =
       let same : root_alone ≡ tree = (let both : Some root_alone ≡ Some tree = sym runs.start ∙ at in cc) in

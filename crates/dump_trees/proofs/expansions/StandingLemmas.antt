@@ -5,14 +5,14 @@ use Rattle.dump_trees.specs.Looking.{touches_rest, touches_path, Origin, left_by
 use Rattle.dump_trees.proofs.changes.TreeLemmas.{below_rest}
 use Rattle.dump_trees.proofs.quiet.LeavingLemmas.{step_leaves}
 
--- where what a change leaves comes from, in trees
+-- the origin, in trees, of what a change leaves
 abbrev pub origin_in : History → Option Node → Origin → Option Node
 origin_in history old Origin.Nowhere = None
 origin_in history old (Origin.New node) = Some node
 origin_in history old Origin.Before = old
 origin_in history old (Origin.From number source) = option_and_then (λ tree. tree source) (history number)
 
--- what a change leaves of what stood there
+-- what a change leaves of what existed there
 abbrev kept_by : Bool → Option Node → Option Node
 kept_by true old = None
 kept_by false old = old
@@ -27,12 +27,12 @@ made_at history (Some Made.NewFile) (name ∷ rest) old = old
 made_at history (Some (Made.Copied number source)) rest old =
     option_and_then (λ tree. tree (source ++ rest)) (history number)
 
--- what it sets of properties there
+-- what it does to the properties there
 abbrev props_at : Option PropertyChange → NodePath → Option Node → Option Node
 props_at props [] old = node_with_props props old
 props_at props (name ∷ rest) old = old
 
--- what it sets of a text there
+-- what it does to the text there
 abbrev text_at : Option TextChange → NodePath → Option Node → Option Node
 text_at text [] old = node_with_text text old
 text_at text (name ∷ rest) old = old
@@ -120,7 +120,7 @@ made_has path top rest at history (Some (Made.Copied number source)) tree = case
         has_if path (is_some (old source) && has_folder tree top) (grafted top (λ more. old (source ++ more)) tree)
         (old (source ++ rest)) (graft_has path top rest at (λ more. old (source ++ more)) tree)
 
--- what stands at the top stands at the path that it is
+-- what exists at the top exists at the path, if the path is the top
 top_node : (path top : NodePath) (tree : Tree) → below top path ≡ Some [] → tree top ≡ tree path
 top_node path top tree at = ap tree (sym (below_rest top path [] at ∙ append-nil top))
 
@@ -258,7 +258,7 @@ step_untouched history before after c path none at = cases (below c.path path) r
         (λ d. absurd (let bad : true ≡ false = sym d ∙ parts.0 in cc))
         (λ d. absurd (let bad : true ≡ false = sym d ∙ parts.1 in cc)) at
 
--- where a copy is made its source stands in a revision
+-- if a copy is made, its source exists in a revision
 pub copy_has_tree : (history : History) (before after : Tree) (c : Change) (number : ℕ) (source : NodePath)
     → c.made ≡ Some (Made.Copied number source) → step history before c ≡ Some after
     → (old : Tree) × (history number ≡ Some old)

@@ -31,7 +31,7 @@ separated_revisions_expand settings trees youngest (changes ∷ revisions) apart
   λ tree at. separated_revisions_expand settings (trees ++ tree ∷ []) tree revisions (apart.1 tree at),
 )
 
--- a copy doesn't see what stands at its path and below it
+-- a copy doesn't depend on what exists at its path and below it
 pub copied_same : (history : History) (number : ℕ) (source top : NodePath) (before after : Tree)
     → IsSameOutside top before after
     → made_in history (Some (Made.Copied number source)) top after
@@ -45,7 +45,7 @@ copied_same history number source top before after same = cases (history number)
     cases (Some old) = λ i. cond (is_some (old source) && same_folder top before after same i)
         (Some (graft_same top (λ rest. old (source ++ rest)) before after same i)) None
 
--- where prefixes are excluded, nothing at a path that isn't kept is needed
+-- if prefixes are excluded, nothing at a path that isn't kept is needed
 pub excluded_change_stays : ExcludedChangeStays
 excluded_change_stays settings history before c side left =
     separated_expands settings history before c

@@ -1,4 +1,4 @@
--- Copies that are trimmed behind them.
+-- Copies with deletions after them.
 use Rattle.dump_trees.proofs.Prelude.{◌≡◌, zero, suc, ◌<◌, ◌||◌, ◌⊎◌, arith, cond, option_map, refl, sym, ap, ◌∙◌, subst, append-nil, append_assoc, list_all, list_any, both_ways, and_parts, and_from, or_parts, or_left, or_right, inl, inr, not-true, not_from_false, Exclude, Settings, NodePath, keeps, below, Node, Tree, at_or_below, grafted, at_top, put, empty_tree, Made, PropertyChange, TextChange, Change, History, has_folder, copied, deleted, made_in, with_props, with_text, props_put, props_set, text_set, step, steps, NewProperty, NewNumber, KeepsEntries, IsNewNode, AreNewProps, IsNewMade, IsRestricted, sets_whole, IsMade, IsRenumbered}
 use Rattle.std.proofs.Common.{ℕ, Bool, true, false, not, ◌&&◌, List, [], ◌∷◌, ◌++◌, Option, Some, None, option_and_then, is_some, is_none, length, Contains}
 use Rattle.dump_trees.specs.ExpansionCases.{deletions, none_is_below}
@@ -15,7 +15,7 @@ use Rattle.dump_trees.proofs.expansions.StandingLemmas.{step_has}
 use Rattle.dump_trees.proofs.expansions.BackFound.{IsBack, branch_back, branch_found}
 use Rattle.dump_trees.proofs.expansions.EveryLemmas.{copies_something}
 
--- whether a path, given from the top on, lies below it
+-- whether a path, given from the top on, is below it
 abbrev is_deeper : NodePath → Bool
 is_deeper [] = false
 is_deeper (name ∷ rest) = true
@@ -26,7 +26,7 @@ are_deeper rests = list_all is_deeper rests
 -- what is deleted below the top
 
 module _ (top : NodePath) where
-  -- a node that is put at the top doesn't see it
+  -- putting a node at the top and deleting below the top can be exchanged
   graft_put : (name : List ℕ) (rest : NodePath) (node : Node) (tree : Tree)
       → grafted (top ++ name ∷ rest) empty_tree (put top node tree)
       ≡ put top node (grafted (top ++ name ∷ rest) empty_tree tree)
@@ -51,7 +51,7 @@ module _ (top : NodePath) where
       ap (without top rests) (graft_put name rest node tree)
       ∙ without_put rests node (grafted (top ++ name ∷ rest) empty_tree tree) deeper
 
-  -- and what stands at the top stays
+  -- and what is at the top stays
   without_here : (rests : List NodePath) (tree : Tree) → are_deeper rests ≡ true → without top rests tree top ≡ tree top
   without_here [] tree deeper = refl
   without_here ([] ∷ rests) tree deeper = absurd (let bad : false ≡ true = deeper in cc)
@@ -60,7 +60,7 @@ module _ (top : NodePath) where
       ∙ graft_outside (top ++ name ∷ rest) empty_tree tree top
       (below_joined top (name ∷ rest) top ∙ ap (option_and_then (λ more. below (name ∷ rest) more)) (below_top top))
 
-  -- it is deleted of what is grafted at the top
+  -- the same is deleted from what is grafted at the top
   without_graft : (rests : List NodePath) (new tree : Tree)
       → without top rests (grafted top new tree) ≡ grafted top (without [] rests new) tree
   without_graft [] new tree = refl
@@ -75,7 +75,7 @@ module _ (top : NodePath) where
       cases None old = refl
       cases (Some more) old = refl
 
-  -- so properties and a text can be set at the top before or behind
+  -- so properties and a text can be set at the top before or after
 
   puts_before : (rests : List NodePath) (change : PropertyChange) (tree : Tree) → are_deeper rests ≡ true
       → props_put change top (without top rests tree) ≡ option_map (without top rests) (props_put change top tree)
@@ -111,7 +111,7 @@ module _ (top : NodePath) where
       cases None = refl
       cases (Some node) = ap Some (sym (without_put rests node tree deeper))
 
-  -- where something stands at each path, they are deleted one after the other
+  -- if something exists at each path, the paths are deleted one after the other
   deleting : (history : History) (rests : List NodePath) (tree : Tree) → are_deeper rests ≡ true
       → list_all (λ rest. is_some (tree (top ++ rest))) rests ≡ true → none_is_below rests ≡ true
       → steps history tree (deletions top rests) ≡ Some (without top rests tree)
@@ -127,7 +127,7 @@ module _ (top : NodePath) where
       ∙ deleting history rests (grafted (top ++ name ∷ rest) empty_tree tree) deeper
       (still_stand top (name ∷ rest) tree rests three.0 two.1) three.1
 
--- a path at and above which nothing is deleted stays
+-- a path stays if nothing at it or above it is deleted
 without_apart : (rests : List NodePath) (tree : Tree) (path : NodePath)
     → list_all (λ other. is_none (below other path)) rests ≡ true → without [] rests tree path ≡ tree path
 without_apart [] tree path apart = refl
@@ -149,7 +149,7 @@ then_map : (f : Tree → Option Tree) (w : Tree → Tree) → ((t : Tree) → f 
 then_map f w same None = refl
 then_map f w same (Some t) = same t
 
--- a copy and the deletions behind it
+-- a copy and the deletions after it
 
 module _ (settings : Settings) (IsNew : NewProperty) (exclude : settings.side ≡ Exclude) (top source : NodePath)
     (kept : keeps settings top ≡ true) (kept_source : keeps settings source ≡ true) (rests : List NodePath)
@@ -157,7 +157,7 @@ module _ (settings : Settings) (IsNew : NewProperty) (exclude : settings.side �
     (none_back : (rest : NodePath) (node : Node) → old (source ++ rest) ≡ Some node
     → keeps settings (top ++ rest) ≡ true → keeps settings (source ++ rest) ≡ true)
     (cover : CoverTaken settings old top source rests) where
-  -- the paths lie below the top, which is kept
+  -- the paths are below the top, which is kept
   deeper : (paths : List NodePath) → list_all (λ rest. not (keeps settings (top ++ rest))) paths ≡ true
       → are_deeper paths ≡ true
   deeper [] left = refl
@@ -170,7 +170,7 @@ module _ (settings : Settings) (IsNew : NewProperty) (exclude : settings.side �
       deeper paths (and_parts (not (keeps settings (top ++ name ∷ rest)))
       (list_all (λ more. not (keeps settings (top ++ more))) paths) left).1
 
-  -- what is kept isn't at or below one of them
+  -- what is kept isn't at or below one of the paths
   apart_from : (paths : List NodePath) → list_all (λ rest. not (keeps settings (top ++ rest))) paths ≡ true
       → (rest : NodePath) → keeps settings (top ++ rest) ≡ true
       → list_all (λ other. is_none (below other rest)) paths ≡ true
@@ -194,7 +194,7 @@ module _ (settings : Settings) (IsNew : NewProperty) (exclude : settings.side �
   abbrev taken : Tree
   taken = without [] rests (λ rest. other_old (source ++ rest))
 
-  -- it is what stands at the source, restricted to where it comes
+  -- it is what exists at the source, restricted by the paths to which it comes
   taken_restricted : (rest : NodePath) → RestrictedAt settings IsNew (top ++ rest) (old (source ++ rest)) (taken rest)
   taken_restricted rest = (
     λ keep. subst (λ o. IsNewNode IsNew (old (source ++ rest)) o)
@@ -249,7 +249,7 @@ module _ (settings : Settings) (IsNew : NewProperty) (exclude : settings.side �
       cond_map true = refl
       cond_map false = refl
 
-  -- what is taken stands in the restricted tree too
+  -- what is taken exists in the restricted tree too
   taken_stand : (paths : List NodePath) → list_all (λ rest. keeps settings (source ++ rest)) paths ≡ true
       → list_all (λ rest. is_some (old (source ++ rest))) paths ≡ true
       → list_all (λ rest. is_some (other_old (source ++ rest))) paths ≡ true
@@ -286,7 +286,7 @@ module _ (settings : Settings) (IsNew : NewProperty) (exclude : settings.side �
         (option_map (without top rests) (option_and_then (λ tree. copied source top v tree) o))) (sym other_there)
         (copy_follows u v restricts))
 
-    -- all stages, and the deletions behind them
+    -- all stages, and the deletions after them
     trimmed_follows : Follows settings IsNew
         (step history before
         (record { path = top; deletes = deletes; made = Some (Made.Copied number source); props = props; text = text }))
@@ -327,7 +327,7 @@ module _ (settings : Settings) (IsNew : NewProperty) (exclude : settings.side �
         first = option_and_then (λ t. props_set props top t)
             (option_and_then (λ t. made_in history (Some (Made.Copied number source)) top t) (deleted deletes top before))
 
-    -- what is deleted stands behind the copy
+    -- what is deleted exists after the copy
     stand_there : (mid : Tree) → step others restricted new ≡ Some mid → (paths : List NodePath)
         → are_deeper paths ≡ true → list_all (λ rest. is_some (other_old (source ++ rest))) paths ≡ true
         → list_all (λ rest. is_some (mid (top ++ rest))) paths ≡ true
@@ -449,7 +449,7 @@ each_trimmed_copy settings make renumber entries = trimmed_copy settings (IsMade
 abbrev is_seen : List NodePath → NodePath → Bool
 is_seen seen path = list_any (λ other. is_some (below other path)) seen
 
--- what holds of each path holds of those that are chosen
+-- what is true of each path is true of the chosen paths
 topmost_all : (test : NodePath → Bool) (seen paths : List NodePath) → list_all test paths ≡ true
     → list_all test (topmost_from seen paths) ≡ true
 topmost_all test seen [] all = refl
@@ -465,7 +465,7 @@ topmost_all test seen (path ∷ paths) all =
     cases left right true = left
     cases left right false = and_from (test path) (list_all test (topmost_from (path ∷ seen) paths)) parts.0 right
 
--- none that is chosen is at or below a seen one
+-- no chosen path is at or below a seen one
 topmost_unseen : (other : NodePath) (seen paths : List NodePath)
     → ((path : NodePath) → is_seen seen path ≡ false → is_none (below other path) ≡ true)
     → list_all (λ path. is_none (below other path)) (topmost_from seen paths) ≡ true
@@ -487,7 +487,7 @@ topmost_unseen other seen (path ∷ paths) far =
         (list_all (λ next. is_none (below other next)) (topmost_from (path ∷ seen) paths))
         (far path none) right
 
--- so none is at or below one before it
+-- so none is at or below an earlier one
 topmost_apart : (seen paths : List NodePath) → none_is_below (topmost_from seen paths) ≡ true
 topmost_apart seen [] = refl
 topmost_apart seen (path ∷ paths) =
@@ -507,7 +507,7 @@ topmost_apart seen (path ∷ paths) =
         (λ next none. none_of (below path next) (or_parts (is_some (below path next)) (is_seen seen next) none).0))
         right
 
--- and each path is at or below one that is seen or chosen
+-- and each path is at or below a seen or chosen one
 topmost_cover : (seen paths : List NodePath) (path : NodePath) → Contains paths path
     → (is_seen seen path || is_seen (topmost_from seen paths) path) ≡ true
 topmost_cover seen [] path (k, low, is) = absurd (omega (arith, low))

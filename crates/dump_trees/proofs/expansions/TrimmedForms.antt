@@ -30,7 +30,7 @@ module _ (settings : Settings) (make : Property → Property) (exclude : setting
   abbrev its_change : Change → Change
   its_change c = filtered_change settings make (λ n. n) c
 
-  -- what makes no copy is separated
+  -- a change that makes no copy is separated
   plain_form : (history : History) (before : Tree) (c : Change) → keeps settings c.path ≡ true
       → is_copied c.made ≡ false → HasForm history before c
   plain_form history before c kept plain = (
@@ -58,7 +58,7 @@ module _ (settings : Settings) (make : Property → Property) (exclude : setting
       not_lost (Some Made.NewFile) none = refl
       not_lost (Some (Made.Copied number source)) none = absurd (let bad : true ≡ false = none in cc)
 
-  -- of a copy by which nothing comes back what it takes is deleted
+  -- if nothing comes back by a copy, what it takes is deleted
   copy_form : (history : History) → AllFinite history → (before after : Tree) (c : Change)
       → step history before c ≡ Some after → keeps settings c.path ≡ true → is_copied c.made ≡ true
       → (ComesBack settings history c → ⊥) → HasForm history before c
@@ -125,7 +125,7 @@ module _ (settings : Settings) (make : Property → Property) (exclude : setting
       Further = (t : Tree) → IsFinite t → steps history t changes ≡ Some after
           → (written : List Change) × AreTrimmedChanges settings (IsMade make) IsSameNumber history t changes written
 
-      -- behind the one tree that the change leads to
+      -- after the one tree that the change leads to
       at_one : (t : Tree) → step history before c ≡ Some t → (rest : List Change)
           → AreTrimmedChanges settings (IsMade make) IsSameNumber history t changes rest → (u : Tree)
           → step history before c ≡ Some u

@@ -12,7 +12,7 @@ use Rattle.dump_trees.proofs.histories.HistoryLemmas.{root_folders, start_restri
 use Rattle.dump_trees.proofs.expansions.StayingLemmas.{excluded_change_stays}
 use Rattle.dump_trees.proofs.expansions.TrimLemmas.{trimmed_copy}
 
--- some changes, and more behind them
+-- some changes, and more after them
 steps_behind : (history : History) (front rest : List Change) (tree : Tree)
     → steps history tree (front ++ rest) ≡ option_and_then (λ t. steps history t rest) (steps history tree front)
 steps_behind history [] rest tree = refl
@@ -35,7 +35,7 @@ module _ (settings : Settings) (IsNew : NewProperty) (IsNumber : NewNumber) (ent
   Leads restricted written after =
       (other : Tree) × (steps others restricted written ≡ Some other) × IsRestricted settings IsNew after other
 
-  -- a kept change, and the deletions behind it
+  -- a kept change, and the deletions after it
   kept_leads : (before after restricted : Tree) (c new : Change) (rests : List NodePath) → HasFolders before
       → IsRestricted settings IsNew before restricted → step history before c ≡ Some after
       → keeps settings c.path ≡ true → IsNewChange settings IsNew IsNumber c new
@@ -61,7 +61,7 @@ module _ (settings : Settings) (IsNew : NewProperty) (IsNumber : NewNumber) (ent
       dropped_step settings IsNew history before after restricted c r at
       ((excluded_change_stays settings history before c exclude left after at).apart after at).0 left
 
-  -- what is shown of the changes behind one
+  -- what is proved of the changes after one
   abbrev Further : List Change → Type 0
   Further changes = (rest : List Change) (t after u : Tree) → HasFolders t → IsRestricted settings IsNew t u
       → steps history t changes ≡ Some after → AreTrimmedChanges settings IsNew IsNumber history t changes rest
@@ -145,7 +145,7 @@ module _ (settings : Settings) (IsNew : NewProperty) (entries : KeepsEntries IsN
         | inr last ↦ subst HasFolders last.1 has
       ]
 
-  -- what is shown of the revisions behind one
+  -- what is proved of the revisions after one
   abbrev Onward : List (List Change) → Type 0
   Onward revisions = (written : List (List Change)) (trees others : List Tree) (youngest restricted : Tree)
       → AllHaveFolders (slice_get trees) → HasFolders youngest → AreSame trees others

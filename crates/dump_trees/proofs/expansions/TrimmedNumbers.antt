@@ -9,7 +9,7 @@ use Rattle.dump_trees.proofs.histories.KeptNumbers.{kept_above, image_kept}
 use Rattle.dump_trees.proofs.histories.HistoryLemmas.{root_folders, start_restricts, Ongoing, renumbered_restrict, next_kept, next_dropped, Ends, ended}
 use Rattle.dump_trees.proofs.expansions.TrimmedHistories.{trimmed_revision}
 
--- of changes none of which is kept nothing is written
+-- nothing is written of changes of which none is kept
 none_trimmed : (settings : Settings) (IsNew : NewProperty) (IsNumber : NewNumber) (history : History) (before : Tree)
     (changes : List Change) → list_any (λ (c : Change). keeps settings c.path) changes ≡ false
     → AreTrimmedChanges settings IsNew IsNumber history before changes []
@@ -25,7 +25,7 @@ none_trimmed settings IsNew IsNumber history before (c ∷ changes) none =
 module _ (settings : Settings) (IsNew : NewProperty) (entries : KeepsEntries IsNew) (rule : EmptyRule)
     (exclude : settings.side ≡ Exclude) (renumber : settings.renumber ≡ true) (kept : KeptRevisions)
     (zero_first : kept.first ≡ 0) (begun : List ℕ) where
-  -- how both loads stand, with no revisions behind these
+  -- the state of both loads, with no revisions after these
   abbrev Now : ℕ → List Tree → List Tree → Tree → Tree → List (List Change) → Type 0
   Now number trees others youngest restricted revisions =
       Ongoing settings IsNew entries rule kept zero_first begun [] number trees others youngest restricted revisions
@@ -33,7 +33,7 @@ module _ (settings : Settings) (IsNew : NewProperty) (entries : KeepsEntries IsN
   abbrev AtEnd : List Tree → Option (List Tree) → Type 0
   AtEnd final o = Ends settings IsNew entries rule kept zero_first begun [] final o
 
-  -- what is shown of the revisions behind one
+  -- what is proved of the revisions after one
   abbrev Further : List (List Change) → Type 0
   Further revisions =
       (written : List (List Change)) (number : ℕ) (trees others : List Tree) (youngest restricted : Tree)

@@ -10,12 +10,12 @@ use Rattle.dump_trees.proofs.expansions.BranchLemmas.{graft_outside, put_at, put
 
 -- single changes
 
--- where nothing stands and the parent is a folder, something may be put
+-- if nothing exists at the path and the parent is a directory, something may be put there
 free_there : (tree : Tree) (path : NodePath) → tree path ≡ None → has_folder tree path ≡ true
     → (is_none (tree path) && has_folder tree path) ≡ true
 free_there tree path none some = and_from (is_none (tree path)) (has_folder tree path) (ap is_none none) some
 
--- a new folder with its properties
+-- a new directory with its properties
 folder_step : (history : History) (path : NodePath) (entries : List Property) (tree : Tree) → tree path ≡ None
     → has_folder tree path ≡ true
     → step history tree (folder_of path entries)
@@ -57,7 +57,7 @@ file_step history path entries text tree none some =
     two = put path (Node.File (edited_with entries []) []) one
 
 module _ (settings : Settings) (history : History) where
-  -- a node that is put where no path is kept leaves the kept ones
+  -- a node that is put where no path is kept doesn't change the kept ones
   pub put_leaves : (path : NodePath) (node : Node) (tree : Tree) → keeps settings path ≡ false
       → LeavesKept settings tree (put path node tree)
   put_leaves path node tree left p kept = cases (below path p) refl
@@ -89,7 +89,7 @@ module _ (settings : Settings) (history : History) where
     dropped = put_leaves path node tree;
   }
 
-  -- a copy of a place where the branch stands
+  -- a copy of a place with the branch
   module _ (path : NodePath) (branch : Branch) (number : ℕ) (source : NodePath) (old : Tree)
       (there : history number ≡ Some old) (stands : HasBranch old source branch) (tree : Tree) where
     copy_step : has_folder tree path ≡ true
@@ -152,7 +152,7 @@ module _ (settings : Settings) (history : History) where
       (copy_step path branch is.number is.source is.old is.there is.stands tree some)
       (copy_apart path branch is.number is.source is.old is.there is.stands tree clear is.apart))
 
-  -- the root of a folder is made, and what stands in it behind that
+  -- the root of a directory is made, and after that what is in it
   folder_leads : (path : NodePath) (props : List Property) (inside : Branches) (entries : List Property)
       (rest : List Change) (tree : Tree) → IsClear tree path → has_folder tree path ≡ true
       → edited_with entries [] ≡ props
@@ -179,7 +179,7 @@ module _ (settings : Settings) (history : History) where
           ∙ (ap (λ o. at_top o (Node.Folder props) (tree (path ++ name ∷ more))) (below_found path (name ∷ more))
           ∙ clear (name ∷ more))
 
-  -- other names stay free where a branch is made
+  -- other names stay free when a branch is made
   stays_free : (path : NodePath) (name : List ℕ) (branch : Branch) (others : Branches) (tree : Tree)
       → has_name name others ≡ false
       → ((other : List ℕ) → has_name other others ≡ true → IsClear tree (path ++ other ∷ []))

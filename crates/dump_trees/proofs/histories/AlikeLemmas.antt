@@ -1,4 +1,5 @@
--- Loading behind other revisions, where the load sets new properties: to the changes it is as a filter that keeps all.
+-- Loading after other revisions, when the load sets new properties. To the changes it is like a filter that keeps
+-- everything.
 use Rattle.dump_trees.proofs.Prelude.{◌≡◌, ◌+◌, cond, refl, sym, ap, ◌∙◌, subst, inl, inr, append_assoc, slice_get, AllZip, Property, Exclude, Pad, Settings, Node, Tree, HasFolders, Made, Change, History, steps, given, is_given, NewProperty, KeepsEntries, NewNumber, IsNewNode, IsRestricted, sets_whole, IsNewMade, IsNewChange, AllHaveFolders, AreRestricted, IsMade, loaded, AreNewChanges, AllSeparate, made_behind, IsChangeBehind, AreRevisionsBehind, AreAlike, AllAreAlike, LoadsAlike, EachLoadsAlike}
 use Rattle.std.proofs.Common.{ℕ, Bool, true, false, List, [], ◌∷◌, ◌++◌, length, Option, Some, None, option_and_then}
 use Rattle.dump_trees.proofs.changes.StepLemmas.{followed}
@@ -7,7 +8,7 @@ use Rattle.dump_trees.proofs.changes.RevisionLemmas.{steps_keep, steps_follow}
 use Rattle.dump_trees.proofs.histories.KeptNumbers.{length_push, get_last, get_before, get_pushed}
 use Rattle.dump_trees.proofs.histories.MovedLemmas.{get_behind}
 
--- nothing is excluded, so all is kept
+-- nothing is excluded, so everything is kept
 abbrev none_excluded : Settings
 none_excluded = record {
   side = Exclude;
@@ -18,14 +19,14 @@ none_excluded = record {
   skip_missing = false;
 }
 
--- a tree that is alike is the other one, restricted to all
+-- a tree that differs only in new properties is the other one, restricted to all paths
 restricted : (IsNew : NewProperty) (old new : Tree) → AreAlike IsNew old new → IsRestricted none_excluded IsNew old new
 restricted IsNew old new alike = record {
   kept = λ path kept. alike path;
   left = λ path left. absurd (let bad : true ≡ false = left in cc);
 }
 
--- where all is kept each change is separated
+-- if everything is kept, each change is separated
 all_separate : (history : History) (before : Tree) (changes : List Change)
     → AllSeparate none_excluded history before changes
 all_separate history before [] = tt
@@ -38,11 +39,11 @@ all_separate history before (c ∷ changes) = λ after at. (
   all_separate history after changes,
 )
 
--- the number of a copy behind this many revisions
+-- the number of a copy after this many revisions
 abbrev IsHigher : ℕ → NewNumber
 IsHigher count = λ old new. new ≡ count + old
 
--- a change behind others is one that the filter writes where it keeps all
+-- a change after others is one that the filter writes if it keeps everything
 
 made_new : (count : ℕ) (is_whole : Bool) (made : Option Made)
     → IsNewMade none_excluded (IsHigher count) is_whole made (made_behind count made)
@@ -78,7 +79,7 @@ module _ (IsNew : NewProperty) (entries : KeepsEntries IsNew) (older : List Tree
     size : length others ≡ length trees
     alike : AllAreAlike IsNew trees others
 
-  -- copies find alike trees
+  -- copies find trees that differ only in new properties
   copies_alike : (trees others : List Tree) → Beside trees others
       → AreRestricted none_excluded IsNew (IsHigher (length older)) (slice_get trees) (slice_get (older ++ others))
   copies_alike trees others b number written tree is at =
@@ -147,7 +148,8 @@ module _ (IsNew : NewProperty) (entries : KeepsEntries IsNew) (older : List Tree
             beside,
           )
 
--- behind older revisions a dump makes alike trees, for each relation of new properties that keeps entries
+-- after older revisions a dump makes trees that differ only in new properties, for each relation of these that keeps
+-- entries
 pub loads_alike : (IsNew : NewProperty) → KeepsEntries IsNew → LoadsAlike IsNew
 loads_alike IsNew entries older first revisions moved trees folders alike behind at =
     let (others, loads, beside) = comes IsNew entries older revisions moved behind (first ∷ []) (first ∷ []) first first
@@ -171,7 +173,7 @@ loads_alike IsNew entries older first revisions moved trees folders alike behind
 pub each_loads_alike : EachLoadsAlike
 each_loads_alike make entries = loads_alike (IsMade make) entries
 
--- the given folders have no properties, so they are alike
+-- the parent directories have no properties, so both trees have the same ones
 pub given_alike : (settings : Settings) (IsNew : NewProperty) → AreAlike IsNew (given settings) (given settings)
 given_alike settings IsNew path = cases (is_given settings path)
   where
@@ -183,7 +185,7 @@ given_alike settings IsNew path = cases (is_given settings path)
 -- one relation of new properties, and then another one
 
 module _ (First Second : NewProperty) where
-  -- a property that stands between the two
+  -- a property between the two
   abbrev pub Both : NewProperty
   Both = λ old new. (middle : Property) × First old middle × Second middle new
 
@@ -214,7 +216,7 @@ module _ (First Second : NewProperty) where
   both_nodes (Some (Node.File ps text)) (Some (Node.File qs same)) (Some (Node.File rs again)) first second =
       (both_lists ps qs rs first.0 second.0, second.1 ∙ first.1)
 
-  -- a tree that is alike to a restricted one is restricted, by both relations
+  -- a tree that differs only in new properties from a restricted one is restricted, by both relations
   pub both_restrict : (settings : Settings) (old middle new : Tree) → IsRestricted settings First old middle
       → AreAlike Second middle new → IsRestricted settings Both old new
   both_restrict settings old middle new r alike = record {

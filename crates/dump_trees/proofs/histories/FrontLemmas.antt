@@ -1,4 +1,4 @@
--- The first revisions of a dump: what is written of them, their trees and their images, whatever stands behind them.
+-- The first revisions of a dump: what is written of them, their trees and their images, whatever follows them.
 use Rattle.dump_trees.proofs.Prelude.{◌≡◌, suc, ◌+◌, ◌≤◌, option_map, cond, filter, count_by, nat_lt, nat_le, MatchBool, refl, sym, ap, ap₂, ◌∙◌, subst, arith, append-nil, append_assoc, slice_get, take, last_or, MatchBool-at_true, MatchBool-at_false, and_parts, le-ltb, lt-leb, leb-true, ltb-true, sum_by-cons, take-append_seam, Settings, KeptRevisions, new_number, image, Tree, root_alone, Change, steps, given, NewProperty, KeepsEntries, NewNumber, IsMade, loaded, loaded_over, AreNewChanges, EmptyRule, keeps_revision, AreNewRevisions, kept_from, kept_of, IsWrittenNumber, ImagesRestrict, FrontRestricts, EachFrontRestricts, QuietFrontRestricts, EachQuietFrontRestricts, QuietLoadsRestrict, EachQuietLoadsRestrict, BegunTreesStay, BegunImagesStay}
 use Rattle.std.proofs.Common.{ℕ, Bool, true, false, List, [], ◌∷◌, ◌++◌, length, Option, Some, None, option_and_then}
 use Rattle.dump_trees.proofs.histories.KeptNumbers.{length_push, get_before, AreAbove, kept_above}
@@ -8,7 +8,7 @@ use Rattle.dump_trees.proofs.quiet.QuietLemmas.{all_quiet}
 -- what is written of the first revisions
 
 module _ (settings : Settings) (IsNew : NewProperty) (IsNumber : NewNumber) (rule : EmptyRule) where
-  -- what is written of two lists of revisions is what is written of the one, and behind it that of the other
+  -- what is written of two lists of revisions is what is written of the first one, and then that of the second one
   record Parted (front rest written : List (List Change)) : Type 0 where
     first : List (List Change)
     more : List (List Change)
@@ -97,7 +97,7 @@ each_quiet_front settings make entries = quiet_front settings (IsMade make) entr
 
 -- trees of more revisions
 
--- the trees of a repository stay where more revisions are loaded
+-- the trees of a repository stay when more revisions are loaded
 pub loaded_behind : (trees : List Tree) (youngest : Tree) (revisions : List (List Change)) (all : List Tree)
     → loaded trees youngest revisions ≡ Some all → (more : List Tree) × (all ≡ trees ++ more)
 loaded_behind trees youngest [] all is =
@@ -130,11 +130,11 @@ begun trees youngest (changes ∷ front) rest all is =
     cases further None bad = absurd (let worse : None ≡ Some all = bad in cc)
     cases further (Some t) found = further t found
 
--- where more revisions load, the first ones do
+-- if more revisions load, the first ones do
 pub begun_trees : BegunTreesStay
 begun_trees first front rest all is = begun (first ∷ []) first front rest all is
 
--- a load has a tree for each revision behind those that were there
+-- a load has a tree for each revision after those that existed before
 pub loaded_length : (trees : List Tree) (youngest : Tree) (revisions : List (List Change)) (all : List Tree)
     → loaded trees youngest revisions ≡ Some all → length all ≡ length trees + length revisions
 loaded_length trees youngest [] all is =
@@ -153,7 +153,7 @@ loaded_length trees youngest (changes ∷ revisions) all is =
         ∙ (let next : suc (length trees) + length revisions ≡ length trees + suc
         (length revisions) = omega arith in next))
 
--- the images of trees stay where the load has more trees
+-- the images of trees stay if the load has more trees
 images_in : (settings : Settings) (IsNew : NewProperty) (image_of : ℕ → Option ℕ)
     (trees same_trees others same_others longer more : List Tree)
     → same_trees ≡ trees → Some others ≡ Some same_others → longer ≡ same_others ++ more
@@ -170,7 +170,7 @@ images_in settings IsNew image_of trees same_trees others same_others longer mor
       found.4,
     )
 
--- where both dumps load whole, the trees up to the last of the first revisions are restricted
+-- if both dumps load completely, the trees up to the last of the first revisions are restricted
 pub quiet_loads : (settings : Settings) (IsNew : NewProperty) → KeepsEntries IsNew → QuietLoadsRestrict settings IsNew
 quiet_loads settings IsNew entries rule front rest written trees others numbered at filtered quiet over new =
     let whole = begun_trees root_alone front rest trees at in
@@ -214,7 +214,7 @@ kept_parted settings rule n (changes ∷ front) rest =
     cases further true = ap (λ ns. n ∷ ns) further
     cases further false = further
 
--- numbers above one are none of those up to it
+-- numbers above a number aren't up to it
 none_up_to : (n : ℕ) (later : List ℕ) → AreAbove n later → filter (λ k. nat_le k n) later ≡ []
 none_up_to n [] are = refl
 none_up_to n (k ∷ later) are =
@@ -242,7 +242,7 @@ count_front n k low (m ∷ earlier) later are =
     ∙ (ap (λ c. cond (nat_lt m k) 1 0 + c) (count_front n k low earlier later are)
     ∙ sym (sum_by-cons (λ j. cond (nat_lt j k) 1 0) m earlier))
 
--- the last of the numbers up to one is at most that one
+-- the last of the numbers up to a number is at most that number
 module _ (n : ℕ) (f g : ℕ → ℕ) (same : (k : ℕ) → k ≤ n → f k ≡ g k) where
   last_alike : (o : Option ℕ) → option_map f o ≡ option_map g o → (numbers : List ℕ)
       → option_map f (last_or o (filter (λ k. nat_le k n) numbers)) ≡ option_map g
@@ -260,7 +260,7 @@ module _ (n : ℕ) (f g : ℕ → ℕ) (same : (k : ℕ) → k ≤ n → f k ≡
       cases further true is = further (Some k) (ap Some (same k (leb-true k n is)))
       cases further false is = further o alike
 
--- the image of a number doesn't change by numbers above it
+-- numbers above a number don't change its image
 image_front : (kept others : KeptRevisions) (n : ℕ) (later : List ℕ) → kept.first ≡ others.first
     → kept.numbers ≡ others.numbers ++ later → AreAbove n later → image kept n ≡ image others n
 image_front kept others n later first at above =
@@ -271,7 +271,7 @@ image_front kept others n later first at above =
     ∙ ap (λ c. others.first + c) (count_front n k low others.numbers later above))
     None refl others.numbers)
 
--- the image of a number of the first revisions is that of the whole
+-- the image of a number of the first revisions is its image in the whole history
 pub begun_images : BegunImagesStay
 begun_images settings rule front rest number low =
     image_front (kept_of settings rule (front ++ rest)) (kept_of settings rule front) number

@@ -1,4 +1,4 @@
--- A whole history: what holds after each revision, and so at the end.
+-- A whole history: what is true after each revision, and so at the end.
 use Rattle.dump_trees.proofs.Prelude.{◌≡◌, zero, suc, cond, IsTrue, ◌⊎◌, refl, sym, ap, ◌∙◌, subst, inl, inr, not, arith, append-nil, append_assoc, slice_get, list_any, MatchBool-at_true, MatchBool-at_false, both_ways, and_parts, or_parts, or_cases, not-true, Settings, KeptRevisions, image, NodePath, keeps, Node, Tree, HasFolders, root_alone, is_copied, Change, steps, is_above_some, given, NewProperty, NewNumber, KeepsEntries, IsNewNode, IsRestricted, AllHaveFolders, AreRestricted, IsMade, loaded, loaded_over, AreNewChanges, EmptyRule, keeps_revision, names_kept, names_none, names_none_behind, stays_numbered, AreNewRevisions, kept_from, kept_of, IsWrittenNumber, AllRevisionsSeparate, ImagesRestrict, HistoryRestricts, EachHistoryRestricts}
 use Rattle.std.proofs.Common.{ℕ, Bool, true, false, ◌&&◌, List, [], ◌∷◌, ◌++◌, length, Option, Some, None, option_and_then}
 use Rattle.dump_trees.proofs.changes.StageLemmas.{Follows}
@@ -13,7 +13,7 @@ pub root_folders : HasFolders root_alone
 root_folders [] name rest node at = absurd (let bad : None ≡ Some node = at in cc)
 root_folders (first ∷ path) name rest node at = absurd (let bad : None ≡ Some node = at in cc)
 
--- the given folders are the restricted tree of a new repository
+-- the parent directories are the restricted tree of a new repository
 pub start_restricts : (settings : Settings) (IsNew : NewProperty) → KeepsEntries IsNew
     → IsRestricted settings IsNew root_alone (given settings)
 start_restricts settings IsNew entries = record { kept = kept; left = λ path left. refl }
@@ -37,18 +37,18 @@ module _ (settings : Settings) (IsNew : NewProperty) (entries : KeepsEntries IsN
   abbrev copies_none : List (List Change) → Bool
   copies_none revisions = names_none settings (λ (c : Change). is_copied c.made) revisions
 
-  -- so as long as one may be
+  -- the same for the revisions after the first dropped one
   abbrev copies_none_behind : List (List Change) → Bool
   copies_none_behind revisions = names_none_behind settings rule (λ (c : Change). is_copied c.made) revisions
 
-  -- how the kept copies of these revisions find their sources: revisions are renumbered, or the numbers are even, or
-  -- there are no such copies
+  -- how the kept copies of these revisions find their sources: revisions are renumbered, or each number is its own
+  -- image, or there are no such copies
   abbrev pub FindsCopies : ℕ → List Tree → List Tree → List (List Change) → Type 0
   FindsCopies number trees others revisions = (settings.renumber ≡ true)
       ⊎ ((IsEven number trees others × (copies_none_behind revisions ≡ true)) ⊎ (copies_none revisions ≡ true))
 
-  -- what holds between the two loads after the revision of this number, while these revisions are left, and behind them
-  -- those that aren't loaded; the kept numbers of the loaded ones, once all are, are those that begun lists
+  -- What is true of the two loads after the revision of this number, when these revisions remain, and after them those
+  -- that aren't loaded. When all are loaded, the kept numbers of the loaded ones are those that begun lists.
   pub record Ongoing (number : ℕ) (trees others : List Tree) (youngest restricted : Tree) (revisions : List (List Change))
       : Type 0 where
     pub folders : AllHaveFolders (slice_get trees)
@@ -74,7 +74,7 @@ module _ (settings : Settings) (IsNew : NewProperty) (entries : KeepsEntries IsN
       subst (λ m. (other : Tree) × (slice_get others m ≡ Some other) × IsRestricted settings IsNew tree other)
       (let one : new ≡ written = cc in one) (other, stands, restricted)
 
-  -- where numbers are even they are so without
+  -- without renumbering, the trees at equal numbers are restricted
   even_restrict : settings.renumber ≡ false → (number : ℕ) (trees others : List Tree) → IsEven number trees others
       → ImagesRestrict settings IsNew (image kept) trees others
       → AreRestricted settings IsNew (IsWrittenNumber settings kept) (slice_get trees) (slice_get others)
@@ -251,7 +251,7 @@ module _ (settings : Settings) (IsNew : NewProperty) (entries : KeepsEntries IsN
         subst (λ ts. ImagesRestrict settings IsNew (image kept) ts others) same o.images,
       )
 
-  -- what is shown of the revisions behind one
+  -- what is proved of the revisions after one
   abbrev Further : List (List Change) → Type 0
   Further revisions =
       (written : List (List Change)) (number : ℕ) (trees others : List Tree) (youngest restricted : Tree)

@@ -1,11 +1,11 @@
--- Changes that name a revision by its number: where no kept one does, the numbers don't matter.
+-- Changes that name a revision by its number: if no kept change does, the numbers don't matter.
 use Rattle.dump_trees.proofs.Prelude.{◌≡◌, not, cond, refl, sym, ap, ◌∙◌, MatchBool, and_parts, and_from, or_parts, or_from, not-true, not_from_false, list_all-append, Settings, keeps, Made, is_copied, Change, NewProperty, NewNumber, IsNewMade, IsNewChange, sets_whole, AreNewChanges, EmptyRule, keeps_revision, names_kept, names_none, names_none_behind}
 use Rattle.std.proofs.Common.{Bool, true, false, ◌&&◌, List, [], ◌∷◌, ◌++◌, Option, Some, None}
 
 -- changes without a kept copy
 
 module _ (settings : Settings) (IsNew : NewProperty) (IsNumber IsOther : NewNumber) where
-  -- what is left of something that isn't copied has no number
+  -- what remains of something that is no copy has no number
   other_made : (is_whole : Bool) (old new : Option Made) → is_copied old ≡ false
       → IsNewMade settings IsNumber is_whole old new → IsNewMade settings IsOther is_whole old new
   other_made is_whole None None plain is = tt
@@ -62,7 +62,7 @@ module _ (settings : Settings) (IsNew : NewProperty) (IsNumber IsOther : NewNumb
 -- first revisions
 
 module _ (settings : Settings) (rule : EmptyRule) (names : Change → Bool) where
-  -- where nothing is named behind the first dropped one of all, it isn't behind that of the first revisions
+  -- if nothing after the first dropped revision of all is named, nothing after that of the first revisions is
   pub front_names_none : (front rest : List (List Change))
       → names_none_behind settings rule names (front ++ rest) ≡ true
       → names_none_behind settings rule names front ≡ true
@@ -102,7 +102,7 @@ module _ (settings : Settings) (rule : EmptyRule) (names fewer : Change → Bool
       let parts = and_parts (not (names_kept settings names changes)) (names_none settings names revisions) none in
       and_from _ _ (not_from_false _ (fewer_kept changes (not-true _ parts.0))) (fewer_none revisions parts.1)
 
-  -- where nothing is named behind the first dropped revision, nothing is by a test of fewer changes
+  -- if nothing after the first dropped revision is named, nothing is by a test that fewer changes pass
   pub fewer_names_none : (revisions : List (List Change)) → names_none_behind settings rule names revisions ≡ true
       → names_none_behind settings rule fewer revisions ≡ true
   fewer_names_none [] none = refl

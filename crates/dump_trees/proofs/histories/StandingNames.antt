@@ -1,4 +1,4 @@
--- The trees of loaded revisions: each node stands in folders, and has names of nodes where the changes' paths have.
+-- The trees of loaded revisions: each node is in directories, and has names of nodes if the changes' paths have.
 use Rattle.dump_trees.proofs.Prelude.{◌≡◌, refl, sym, ap, ◌∙◌, subst, inl, inr, IfSome, list_all, slice_get, and_parts, NodePath, below, Node, Tree, HasFolders, root_alone, Made, PropertyChange, TextChange, Change, History, step, steps, AllHaveFolders, loaded, loaded_over}
 use Rattle.std.proofs.Common.{ℕ, Bool, true, false, List, [], ◌∷◌, ◌++◌, Option, Some, None, option_and_then, is_some}
 use Rattle.dump_trees.specs.Looking.{left_by, origin_of, node_with_props, node_with_text, set_by}
@@ -11,7 +11,7 @@ use Rattle.dump_trees.proofs.histories.KeptNumbers.{get_pushed}
 use Rattle.dump_trees.proofs.quiet.LeavingLemmas.{step_leaves}
 use Rattle.dump_trees.proofs.expansions.StandingLemmas.{origin_in, step_has}
 
--- what holds of each tree
+-- what is true of each tree
 
 module _ (Holds : Tree → Type 0) (Plain : List Change → Type 0) (start : Holds root_alone)
     (each : (history : History) (before after : Tree) (changes : List Change)
@@ -62,7 +62,7 @@ module _ (Holds : Tree → Type 0) (Plain : List Change → Type 0) (start : Hol
       none : (number : ℕ) (t : Tree) → slice_get [] number ≡ Some t → Holds t
       none number t at = absurd (let bad : None ≡ Some t = at in cc)
 
--- folders
+-- directories
 
 folders_each : (history : History) (before after : Tree) (changes : List Change)
     → AllHaveFolders history → HasFolders before → Rattle.std.specs.Prelude.⊤
@@ -75,7 +75,7 @@ all_plain : (revisions : List (List Change))
 all_plain [] = tt
 all_plain (changes ∷ revisions) = (tt, all_plain revisions)
 
--- the trees of loaded revisions have folders
+-- the trees of loaded revisions have directories
 pub loaded_folders : LoadedTreesHaveFolders
 loaded_folders revisions trees number tree is at =
     holds_of_each HasFolders (λ changes. Rattle.std.specs.Prelude.⊤) root_folders folders_each revisions
@@ -87,7 +87,7 @@ root_names : HasNames root_alone
 root_names [] some = refl
 root_names (name ∷ path) some = absurd (let bad : false ≡ true = some in cc)
 
--- what is set at a node stands only where the node did
+-- what is set at a node exists only if the node did
 set_stands : (c : Change) (rest : NodePath) (node : Option Node) → is_some (set_by c rest node) ≡ true
     → is_some node ≡ true
 set_stands c rest (Some node) some = refl

@@ -26,7 +26,7 @@ split_joined (b ∷ front) behind = cases (nat_eq b 47) (split_joined front behi
 
 -- names
 
--- a text without a slash is its one name
+-- a text without a slash has one name, which is the text
 pub split_name : (name : List ℕ) → has_no_slash name ≡ true → split name ≡ name ∷ []
 split_name [] none = refl
 split_name (b ∷ name) none =
@@ -34,7 +34,7 @@ split_name (b ∷ name) none =
     ap (λ t. cond t ([] ∷ split name) (onto_first b (split name))) (not-true _ parts.0)
     ∙ ap (onto_first b) (split_name name parts.1)
 
--- what a test leaves passes it
+-- what remains after a test passes it
 filtered_pass : (names : NodePath) → has_node_names (filter is_node_name names) ≡ true
 filtered_pass [] = refl
 filtered_pass (name ∷ names) = cases (is_node_name name) refl (filtered_pass names)
@@ -44,7 +44,7 @@ filtered_pass (name ∷ names) = cases (is_node_name name) refl (filtered_pass n
     cases true is rest = and_from _ _ is rest
     cases false is rest = rest
 
--- names that pass it stay
+-- names that pass the test stay
 passing_stay : (names : NodePath) → has_node_names names ≡ true → filter is_node_name names ≡ names
 passing_stay [] are = refl
 passing_stay (name ∷ names) are =
@@ -59,7 +59,7 @@ canonical_have_names (prefix ∷ prefixes) =
 
 -- texts
 
--- it is what the path that the text names has of such names
+-- the canonical path has the names of the text's path that pass the test
 read_filtered : (text : List ℕ) → canonical_path text ≡ filter is_node_name (path_of text)
 read_filtered [] = refl
 read_filtered (b ∷ text) = cases (nat_eq b 47) refl

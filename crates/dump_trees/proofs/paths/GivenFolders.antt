@@ -1,4 +1,4 @@
--- Given folders stand in given folders alone.
+-- Parent directories are in parent directories only.
 use Rattle.dump_trees.proofs.Prelude.{◌≡◌, not, cond, nat_eq, refl, sym, ap, ◌∙◌, subst, inl, inr, append_assoc, list_any, starts_with, and_parts, and_from, or_cases, or_left, or_right, Side, Include, Exclude, bare_prefix, Settings, side_keeps, NodePath, path_text, Node, HasFolders, is_folder, is_above, is_above_some, is_given, given}
 use Rattle.std.proofs.Common.{ℕ, Bool, true, false, ◌&&◌, List, [], ◌∷◌, ◌++◌, Some, None}
 use Rattle.dump_trees.proofs.paths.KeptPaths.{path_text-append, matched, matched_below}
@@ -66,7 +66,7 @@ top_given settings [] name rest is = refl
 top_given settings (first ∷ top) name rest is =
     given_above settings.side settings.prefixes (first ∷ top) name rest is
 
--- each given folder but the root stands in given folders alone
+-- each parent directory but the root is in parent directories only
 pub given_folders : (settings : Settings) → HasFolders (given settings)
 given_folders settings top name rest node at =
     ap (λ b. is_folder (cond b (Some (Node.Folder [])) None))

@@ -4,7 +4,7 @@ use Rattle.dump_trees.specs.Siblings.{NamedTextsLeaveCut}
 use Rattle.dump_trees.proofs.paths.PathNames.{keeps_text}
 use Rattle.dump_trees.proofs.paths.SiblingLemmas.{short_names, named_paths_leave_cut}
 
--- a text is kept where its path is
+-- a text is kept exactly if its path is
 pub named_texts_leave_cut : NamedTextsLeaveCut
 named_texts_leave_cut settings included named siblings text excludes cover among short =
     sym (keeps_text settings text)

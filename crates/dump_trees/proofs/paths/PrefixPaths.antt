@@ -23,7 +23,7 @@ both_cond : {A : Type 0} (a b : Bool) (o : Option A)
 both_cond true b o = refl
 both_cond false b o = refl
 
--- a text of names reaches another one exactly where the one path is at or above the other
+-- a text of names reaches another one exactly if the one path is at or above the other
 pub reaches_names : (name other : List ℕ) (top path : NodePath) → has_no_slash name ≡ true
     → has_no_slash other ≡ true → list_all has_no_slash top ≡ true → list_all has_no_slash path ≡ true
     → reaches (name ++ path_text top) (other ++ path_text path)
@@ -74,7 +74,7 @@ split_names (b ∷ text) = cases (split_names text) (nat_eq b 47) refl
 
 -- bare prefixes
 
--- what is left of a text, of which the last byte is no slash, ends with that byte
+-- without its first bytes, a text whose last byte is no slash still ends with that byte
 leading_last : (text : List ℕ) (b : ℕ) → nat_eq b 47 ≡ false
     → (front : List ℕ) × (without_leading_slashes (text ++ b ∷ []) ≡ front ++ b ∷ [])
 leading_last [] b is = ([], ap (λ t. cond t [] (b ∷ [])) is)
@@ -85,7 +85,7 @@ leading_last (c ∷ text) b is = cases (nat_eq c 47) (leading_last text b is)
     cases true rest = rest
     cases false rest = (c ∷ text, refl)
 
--- a text that begins with no slash does so without the slashes at its end
+-- a text that doesn't begin with a slash doesn't either without the slashes at its end
 trailing_first : (b : ℕ) (text : List ℕ) → nat_eq b 47 ≡ false
     → (rest : List ℕ) × (without_trailing_slashes (b ∷ text) ≡ b ∷ rest)
 trailing_first b text is =
@@ -93,7 +93,7 @@ trailing_first b text is =
     let left = leading_last (reverse text) b is in
     (reverse left.0, ap (λ t. reverse (without_leading_slashes t)) turned ∙ (ap reverse left.1 ∙ reverse-append left.0 (b ∷ [])))
 
--- nothing, or no slash and more
+-- the empty text, or a text that doesn't begin with a slash
 abbrev IsBare : List ℕ → Type 0
 IsBare text = bare_path text ≡ text
 
@@ -108,7 +108,7 @@ leading_bare (b ∷ text) = cases (nat_eq b 47) refl (leading_bare text)
         let first = trailing_first b text is in
         subst IsBare (sym first.1) (ap (λ t. cond t first.0 (b ∷ first.0)) is)
 
--- a bare prefix begins with no slash
+-- a bare prefix doesn't begin with a slash
 pub bare_first : (prefix : List ℕ) → bare_path (bare_prefix prefix) ≡ bare_prefix prefix
 bare_first prefix = leading_bare prefix
 
@@ -129,7 +129,7 @@ begins_names (b ∷ bare) path are = cases (split (b ∷ bare)) (split_text (b �
         ap (λ t. reaches t (next ++ path_text path)) (sym same)
         ∙ reaches_names name next top path tops.0 paths.0 tops.1 paths.1
 
--- a prefix matches the path exactly where it is the path that the prefix names, or lies below it
+-- a prefix matches the path exactly if the prefix names the path, or a path above it
 pub matches_names : (prefix : List ℕ) (path : NodePath) → list_all has_no_slash path ≡ true
     → matches_path prefix (path_text path) ≡ is_within (path_of (bare_prefix prefix)) path
 matches_names prefix path are =
@@ -144,7 +144,7 @@ ends_name b (c ∷ name) are =
     let (front, last, same, differs) = ends_name c name (and_parts (not (nat_eq b 47)) (has_no_slash (c ∷ name)) are).1 in
     (b ∷ front, last, ap (λ t. b ∷ t) same, differs)
 
--- the text of a path, which isn't the root, ends with no slash
+-- the text of a path that isn't the root doesn't end with a slash
 ends_path : (name : List ℕ) (path : NodePath) → list_all is_name (name ∷ path) ≡ true
     → (front : List ℕ) × (last : ℕ) × (name ++ path_text path ≡ front ++ last ∷ []) × (nat_eq last 47 ≡ false)
 ends_path [] path are = absurd (let bad : false ≡ true = are in cc)
@@ -162,7 +162,7 @@ ends_path (b ∷ name) (next ∷ path) are =
       differs,
     )
 
--- without the slashes at its end it is the same text
+-- so it is the same text without the slashes at its end
 trailing_same : (front : List ℕ) (last : ℕ) → nat_eq last 47 ≡ false
     → without_trailing_slashes (front ++ last ∷ []) ≡ front ++ last ∷ []
 trailing_same front last is =

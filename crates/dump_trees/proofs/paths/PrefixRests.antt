@@ -1,9 +1,9 @@
--- The text of a prefix, cut into a path above it and a rest.
+-- The text of a prefix, split into a path above it and a rest.
 use Rattle.dump_trees.proofs.Prelude.{◌≡◌, drop, nat_eq, refl, sym, ap, ap₂, ◌∙◌, subst, inl, inr, append-nil, append_assoc, list_any, starts_with, and_parts, or_cases, or_left, or_right, eqb-true, bare_prefix, bare_path, begins_path, matches_path, NodePath, path_text, is_above, rest_of_prefix}
 use Rattle.std.proofs.Common.{ℕ, true, false, List, [], ◌∷◌, ◌++◌, length}
 use Rattle.dump_trees.proofs.paths.KeptPaths.{reaches, reaches_more, grows, path_text-append}
 
--- nothing, or a slash and more
+-- the empty text, or a text that begins with a slash
 abbrev pub IsEnd : List ℕ → Type 0
 IsEnd [] = Rattle.std.specs.Prelude.⊤
 IsEnd (c ∷ text) = c ≡ 47
@@ -56,7 +56,7 @@ begun_rest (name ∷ path) b prefix is =
     let rest = reaches_rest (b ∷ prefix) (name ++ path_text path) is in
     (rest.0, ap (λ text. 47 ∷ text) rest.1, rest.2)
 
--- what a prefix goes on with below a path is what the path that it begins goes on with
+-- what follows a path in a prefix follows the path that the prefix begins
 pub both_rests : (path more : NodePath) (bare rest : List ℕ) → begins_path bare (bare_path (path_text path)) ≡ false
     → begins_path bare (bare_path (path_text (path ++ more))) ≡ true → 47 ∷ bare ≡ path_text path ++ 47 ∷ rest
     → (end : List ℕ) × (path_text more ≡ (47 ∷ rest) ++ end) × IsEnd end
@@ -70,7 +70,7 @@ both_rests path more (b ∷ bare) rest left begun at =
       found.2,
     )
 
--- a prefix that begins a text begins what goes on behind it
+-- a prefix that begins a text begins each longer text
 begins_longer : (bare text end : List ℕ) → IsEnd end → begins_path bare text ≡ true
     → begins_path bare (text ++ end) ≡ true
 begins_longer [] text end is begun = refl
@@ -88,7 +88,7 @@ matches_longer (name ∷ path) prefix rest end is some =
     (append_assoc (name ++ path_text path) (47 ∷ rest) end)
     (begins_longer (bare_prefix prefix) ((name ++ path_text path) ++ 47 ∷ rest) end is some)
 
--- where some prefix matches a text, one matches what goes on behind it
+-- if some prefix matches a text, one matches each longer text
 pub any_longer : (path : NodePath) (rest end : List ℕ) → IsEnd end → (prefixes : List (List ℕ))
     → list_any (λ prefix. matches_path prefix (path_text path ++ 47 ∷ rest)) prefixes ≡ true
     → list_any (λ prefix. matches_path prefix (path_text path ++ ((47 ∷ rest) ++ end))) prefixes ≡ true

@@ -35,7 +35,7 @@ pub both_names : (top rest : NodePath) → has_node_names top ≡ true → has_n
     → has_node_names (top ++ rest) ≡ true
 both_names top rest tops rests = list_all-append is_node_name top rest ∙ and_from _ _ tops rests
 
--- paths that lie in one another
+-- paths that are below one another
 
 -- what is at or below a top is the top and a rest
 pub within_rest : (top path : NodePath) → is_within top path ≡ true → (rest : NodePath) × (path ≡ top ++ rest)
@@ -48,7 +48,7 @@ within_rest top path is = cases (below top path) refl is
 pub within_found : (top rest : NodePath) → is_within top (top ++ rest) ≡ true
 within_found top rest = ap is_some (below_found top rest)
 
--- what lies above another path goes on to it by a name
+-- a path that is above another path goes on to it by a name
 pub higher_rest : (path other : NodePath) → has_name_behind (below path other) ≡ true
     → (name : List ℕ) × (rest : NodePath) × (other ≡ path ++ name ∷ rest)
 higher_rest path other is = cases (below path other) refl is
@@ -63,7 +63,7 @@ pub higher_found : (path : NodePath) (name : List ℕ) (rest : NodePath)
     → has_name_behind (below path (path ++ name ∷ rest)) ≡ true
 higher_found path name rest = ap has_name_behind (below_found path (name ∷ rest))
 
--- of two paths above a third one, one lies in the other
+-- of two paths above a third one, one is at or below the other
 one_in_other : (first second first_rest second_rest : NodePath) → first ++ first_rest ≡ second ++ second_rest
     → ((rest : NodePath) × (first ≡ second ++ rest))
     ⊎ ((name : List ℕ) × (rest : NodePath) × (second ≡ first ++ name ∷ rest))
@@ -105,7 +105,7 @@ any_either f g h either (top ∷ tops) some =
       ]
     ]
 
--- the path that a path in the cut lies below is in the cut
+-- a path above which a path in the cut is is in the cut
 pub cut_above : (included : List NodePath) (top rest : NodePath) → is_in_cut included (top ++ rest) ≡ true
     → is_in_cut included top ≡ true
 cut_above included [] rest is = or_right (list_any (λ other. is_within other []) included) _ refl
@@ -150,7 +150,7 @@ cut_above included (first ∷ top) rest is =
               (higher_found (first ∷ top) name more))
         ]
 
--- on the way down to a path that isn't in the cut stands a first one that isn't
+-- on the way to a path that isn't in the cut there is a first path that isn't
 pub record Leaves (included : List NodePath) (path : NodePath) : Type 0 where
   pub top : NodePath
   pub name : List ℕ
@@ -191,7 +191,7 @@ root_inside included = or_right (list_any (λ other. is_within other []) include
 leaves_cut : (included : List NodePath) (path : NodePath) → is_in_cut included path ≡ false → Leaves included path
 leaves_cut included path out = leaves_from included [] path (root_inside included) out
 
--- a path in the cut, below which one isn't, lies above an included path
+-- a path in the cut, below which a path isn't in it, is above an included path
 above_there : (included : List NodePath) (top : NodePath) (name : List ℕ) → is_in_cut included top ≡ true
     → is_in_cut included (top ++ name ∷ []) ≡ false → is_above_included included top ≡ true
 above_there included top name inside outside =
@@ -224,7 +224,7 @@ is_sibling_there included path are l =
     (above_there included l.top l.name l.inside l.outside)))
     (not_from_false _ l.outside)
 
--- something stands there, where something stands below
+-- something exists at the path, if something exists below it
 stands_there : (tree : Tree) → HasFolders tree → (top : NodePath) (name : List ℕ) (rest : NodePath)
     → is_some (tree (top ++ name ∷ rest)) ≡ true → is_some (tree (top ++ name ∷ [])) ≡ true
 stands_there tree folders top name [] some = some
@@ -287,7 +287,7 @@ sibling_out included (top ∷ siblings) path are some =
         absurd (both_ways _ out (cut_above included top rest
         (subst (λ p. is_in_cut included p ≡ true) same is)))
 
--- the path is excluded where it isn't in the cut
+-- the path is excluded if it isn't in the cut
 siblings_match : (included siblings : List NodePath) (trees : List Tree) (number : ℕ) (tree : Tree) (path : NodePath)
     → AreSiblings included trees siblings → slice_get trees number ≡ Some tree → HasFolders tree
     → has_node_names path ≡ true → is_some (tree path) ≡ true
@@ -313,7 +313,7 @@ siblings_match included siblings trees number tree path all at folders are some 
     cases false true is cut = refl
     cases false false is cut = absurd (both_ways _ is (found cut))
 
--- a path is kept where no excluded path is at or above it
+-- a path is kept if no excluded path is at or above it
 pub excluded_match : (settings : Settings) (paths : List NodePath) (path : NodePath) → ExcludesPaths settings paths
     → list_all has_node_names paths ≡ true → has_node_names path ≡ true
     → keeps settings path ≡ not (list_any (λ top. is_within top path) paths)
@@ -322,7 +322,7 @@ excluded_match settings paths path excludes names are =
     excludes.side excludes.prefixes
     ∙ ap not (texts_match paths path names are)
 
--- where the siblings are excluded, what stands is kept where it is in the cut
+-- if the siblings are excluded, what exists is kept exactly if it is in the cut
 pub siblings_leave_cut : SiblingsLeaveCut
 siblings_leave_cut settings included siblings trees number tree path excludes all at folders names some =
     excluded_match settings siblings path excludes (sibling_names included siblings all.each) (names path some)

@@ -52,7 +52,7 @@ module _ (settings : Settings) (history : History) (before after : Tree) (c : Ch
 -- copies
 
 module _ (settings : Settings) (exclude : settings.side ≡ Exclude) where
-  -- a text is kept where no prefix matches it
+  -- a text is kept if no prefix matches it
   excluded : (text : List ℕ)
       → keeps_path settings text ≡ not (list_any (λ prefix. matches_path prefix text) settings.prefixes)
   excluded text = ap (λ side. side_keeps side (list_any (λ prefix. matches_path prefix text) settings.prefixes)) exclude
@@ -195,12 +195,12 @@ quiet_separates = quiet_step
 
 -- each revision
 
--- what holds of the tree that there is
+-- what is true of the tree, if there is one
 holds_of : (test : Tree → Bool) (o : Option Tree) (tree : Tree) → holds_of_some test o ≡ true → o ≡ Some tree
     → test tree ≡ true
 holds_of test o tree is at = ap (holds_of_some test) (sym at) ∙ is
 
--- where the changes of a revision are quiet and no lost copy is made over something, all are separated
+-- if the changes of a revision are quiet, and no lost copy is made over something, all are separated
 pub quiet_changes : (settings : Settings) (history : History) (changes : List Change) (before : Tree)
     → list_all (is_quiet settings) changes ≡ true → none_is_over settings history before changes ≡ true
     → AllSeparate settings history before changes

@@ -1,4 +1,4 @@
--- Worked values of what comes back, and of texts that kept changes make, which wrong definitions don't meet.
+-- Examples of what comes back, and of texts that kept changes make; wrong definitions don't satisfy them.
 use Rattle.dump_trees.proofs.Prelude.{◌≡◌, codes, refl, sym, ap, ap₂, ◌∙◌, subst, both_ways, bytes_eq, arith, zero, suc, unwrap_or, Settings, NodePath, path_of, keeps, Node, Tree, put, root_alone, Made, TextChange, Change, History, new_text, slice_get}
 use Rattle.std.proofs.Common.{true, false, List, [], ◌∷◌, ◌++◌, Some, None, is_some, Contains}
 use Rattle.std.proofs.lemmas.List.Elements.{All-head, All-tail}
@@ -8,7 +8,7 @@ use Rattle.dump_trees.proofs.values.ValueParts.{change, folder, file, copy, excl
 
 -- when something comes back
 
--- a directory with a file that is left out, and later without it
+-- a directory with an excluded file, and later without it
 abbrev with_it : Tree
 with_it = put (path_of (codes "a/s")) (Node.File [] (codes "1")) (put (path_of (codes "a")) (Node.Folder []) root_alone)
 
@@ -20,7 +20,7 @@ history zero = Some root_alone
 history (suc zero) = Some with_it
 history (suc (suc n)) = Some without_it
 
--- a copy of the directory as it was brings the file back, though it is gone when the copy is made
+-- a copy of the directory as it was brings the file back, though it no longer exists when the copy is made
 of_the_past : ComesBack (excluding (codes "a/s")) history (copy 1 (codes "a") (codes "b"))
 of_the_past = record {
   number = 1;
@@ -57,7 +57,7 @@ not_of_later b = cases b.rest (ap₂ (λ (t : Tree) s. is_some (t (s ++ b.rest))
 not_by_adding : ComesBack (excluding (codes "a/s")) history (file (codes "a/s") (codes "1")) → ⊥
 not_by_adding b = let bad : Some Made.NewFile ≡ Some (Made.Copied b.number b.source) = b.copies in cc
 
--- each change of a revision counts, and each revision
+-- each change of a revision counts, and so does each revision
 
 second_change : NoneComesBack (excluding (codes "a/s")) history (folder (codes "c") ∷ copy 1 (codes "a") (codes "b") ∷ [])
     → ⊥
@@ -103,7 +103,7 @@ not_found_there : coming_back (excluding (codes "b")) (path_of (codes "b")) (pat
     (Branch.File [] (codes "1")) ≡ []
 not_found_there = refl
 
--- more stands than the branch has
+-- the tree has more than the branch
 more_stands : HasBranch with_it (path_of (codes "a")) (Branch.Folder [] Branches.NoMore) → ⊥
 more_stands has = absurd (let bad : Some (Node.File [] (codes "1")) ≡ None = has (path_of (codes "s")) in cc)
 
@@ -111,7 +111,7 @@ more_stands has = absurd (let bad : Some (Node.File [] (codes "1")) ≡ None = h
 abbrev with_file : Branch
 with_file = Branch.Folder [] (Branches.Named (codes "s") (Branch.File [] (codes "1")) Branches.NoMore)
 
--- where the file is left out at the source alone, it comes back
+-- if the file is excluded only at the source, it comes back
 loses_file : coming_back (excluding (codes "b/s")) (path_of (codes "a")) (path_of (codes "b")) with_file
     ≡ path_of (codes "s") ∷ []
 loses_file = refl
@@ -121,7 +121,7 @@ loses_file = refl
 abbrev leaving : Settings
 leaving = excluding (codes "s")
 
--- a text that is left out, one that is kept, and one that is made of this
+-- an excluded text, a kept one, and one that is made from the kept one
 abbrev told : List (List Change)
 told = (file (codes "s") (codes "secret") ∷ file (codes "a") (codes "1") ∷ [])
     ∷ (patching (λ old. Some (old ++ codes "2")) (change (codes "a")) ∷ [])
@@ -140,7 +140,7 @@ one_made = (
   },
 )
 
--- one by two changes
+-- a text that two changes make
 two_make : IsMadeByKept leaving told (codes "12")
 unfolding one_made
 two_make = (
@@ -155,11 +155,11 @@ two_make = (
   },
 )
 
--- the text of an empty file is made by none
+-- no kept change makes the text of an empty file
 none_makes : IsMadeByKept leaving told []
 none_makes = (0, refl)
 
--- what is left out is made by no kept change
+-- no kept change makes the excluded text
 secret_left : IsMadeByKept leaving ((file (codes "s") (codes "secret") ∷ []) ∷ []) (codes "secret") → ⊥
 secret_left (zero, is) = absurd (let bad : false ≡ true = ap (λ t. bytes_eq t []) is in cc)
 secret_left (suc count, does) = revision does.among does.there
@@ -180,7 +180,7 @@ secret_left (suc count, does) = revision does.among does.there
 makes_no_text : MakesText [] (codes "1") (folder (codes "a")) → ⊥
 makes_no_text (text, is, makes) = let bad : None ≡ Some text = is in cc
 
--- nor does one make another text than it sets
+-- a change makes no other text than it sets
 makes_no_other : MakesText [] (codes "2") (file (codes "a") (codes "1")) → ⊥
 makes_no_other (text, is, makes) =
     let set : TextChange.Replaced (codes "1") ≡ text =

@@ -1,4 +1,4 @@
--- Worked values of branches and of the changes that write one out.
+-- Examples of branches and of the changes that write one out.
 use Rattle.dump_trees.proofs.Prelude.{◌≡◌, codes, refl, inr, both_ways, Property, Settings, path_of, Node, root_alone, Change, History, steps}
 use Rattle.std.proofs.Common.{ℕ, true, false, List, [], ◌∷◌, Option, Some, None, option_and_then, is_none}
 use Rattle.dump_trees.specs.Branches.{Branch, Branches, tree_of, is_distinct}
@@ -11,7 +11,7 @@ one = property (codes "p") (codes "1")
 
 -- branches
 
--- a folder with a file, and a folder in it with another one
+-- a directory with a file, and in it a directory with another file
 abbrev worked : Branch
 worked = Branch.Folder (one ∷ [])
     (Branches.Named (codes "f") (Branch.File [] (codes "1"))
@@ -37,7 +37,7 @@ not_below_a_file = refl
 names_differ : is_distinct worked ≡ true
 names_differ = refl
 
--- two files of one name in one folder
+-- two files with one name in one directory
 abbrev doubled : Branch
 doubled = Branch.Folder []
     (Branches.Named (codes "f") (Branch.File [] (codes "1"))
@@ -46,7 +46,7 @@ doubled = Branch.Folder []
 not_distinct : is_distinct doubled ≡ false
 not_distinct = refl
 
--- one name in two folders is none twice
+-- one name in two directories doesn't occur twice
 again_deeper : is_distinct
     (Branch.Folder []
     (Branches.Named (codes "f") (Branch.Folder [] (Branches.Named (codes "f") (Branch.File [] []) Branches.NoMore))
@@ -106,7 +106,7 @@ all_alone settings =
       ),
     )
 
--- what stands at a path once these changes are made over a new repository
+-- what exists at a path after these changes are made in a new repository
 abbrev made_there : List Change → List ℕ → Option Node
 made_there changes path = option_and_then (λ tree. tree (path_of path)) (steps nowhere root_alone changes)
 
@@ -116,23 +116,23 @@ made_deeper = refl
 made_root : made_there made_alone (codes "a") ≡ Some (Node.Folder (one ∷ []))
 made_root = refl
 
--- a branch with two files of one name isn't made: the second is refused
+-- a branch with two files of one name isn't made: the second file is rejected
 refused_twice : is_none (steps nowhere root_alone
     (folder_of (path_of (codes "a")) [] ∷ file_of (path_of (codes "a/f")) [] (codes "1")
     ∷ file_of (path_of (codes "a/f")) [] (codes "2") ∷ [])) ≡ true
 refused_twice = refl
 
--- over something a branch isn't made either
+-- a branch isn't made over something either
 refused_over : is_none (steps nowhere root_alone (folder_of (path_of (codes "a")) [] ∷ made_alone)) ≡ true
 refused_over = refl
 
 -- copies of branches
 
--- a kept file in a branch, where it isn't kept
+-- a kept file in a branch that isn't kept
 not_left_out : IsLeftOut (including (codes "a/f")) (path_of (codes "a")) worked → ⊥
 not_left_out left = both_ways true (left (path_of (codes "f")) (Node.File [] (codes "1")) refl) refl
 
--- a file that is left out at the source alone
+-- a file that is excluded only at the source
 cut_otherwise : IsCutAlike (excluding (codes "c/f")) (path_of (codes "a")) (path_of (codes "c")) worked → ⊥
 cut_otherwise (kept, source, alike) =
     absurd (let bad : true ≡ false = alike (path_of (codes "f")) (Node.File [] (codes "1")) refl in cc)

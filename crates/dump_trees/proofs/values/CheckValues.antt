@@ -1,4 +1,4 @@
--- Worked values of the load check: what kinds allow, and where a dump is refused first.
+-- Examples of the load check: what kinds allow, and where a load rejects a dump first.
 use Rattle.dump_trees.proofs.Prelude.{◌≡◌, not, AllZip, codes, refl, ap, option_map, slice_get, path_of, Tree, root_alone, Change, History, step, loaded_over}
 use Rattle.std.proofs.Common.{ℕ, true, false, List, [], ◌∷◌, length, Option, Some, None, is_some}
 use Rattle.dump_trees.specs.Looking.{Placed, placed_from, look}
@@ -56,7 +56,7 @@ not_from_nothing = refl
 not_into_a_file : kinds_allow (copy 1 (codes "a") (codes "b/c")) (where_is None reg reg) ≡ false
 not_into_a_file = refl
 
--- the text of a copy goes by what is copied, and not by what was there
+-- the text of a copy depends on what is copied, and not on what was there
 text_of_the_source : kinds_allow (writing (codes "1") (copy 1 (codes "a") (codes "b"))) (where_is dir dir reg) ≡ true
 text_of_the_source = refl
 
@@ -83,7 +83,7 @@ edits_something = refl
 does_nothing : kinds_allow (change (codes "a/b")) (where_is None None None) ≡ true
 does_nothing = refl
 
--- a delta that the load refuses is no matter of kinds
+-- kinds don't determine whether the load rejects a delta
 
 abbrev no_history : History
 no_history number = None
@@ -118,7 +118,7 @@ the_first_applies = refl
 
 -- a dump
 
--- a directory that is deleted, and copied from where it still was; then a copy of it from where it no longer is
+-- a directory is deleted, and then copied from a revision that still has it; then a copy of it from one that doesn't
 abbrev whole : List (List Change)
 whole =
     (folder (codes "a") ∷ file (codes "a/f") (codes "1") ∷ [])
@@ -145,18 +145,18 @@ nor_all = refl
 as_it_loads : is_some (loaded_over root_alone whole) ≡ false
 as_it_loads = refl
 
--- each source is looked up where its revision ends, and not before the copy
+-- each source is looked up at the end of its revision, and not before the copy
 where_it_was : allowed_there told placed 3 (slice_get placed 3) ≡ true
 where_it_was = refl
 
--- a copy of its own revision is refused
+-- a copy of its own revision is rejected
 own_revision : all_allowed
     (λ count path. option_map kind_of_node (look root_alone
     (placed_from 1 ((folder (codes "a") ∷ copy 1 (codes "a") (codes "b") ∷ []) ∷ [])) count path))
     (placed_from 1 ((folder (codes "a") ∷ copy 1 (codes "a") (codes "b") ∷ []) ∷ [])) 2 ≡ false
 own_revision = refl
 
--- a way to tell that says a directory is everywhere doesn't tell what exists
+-- a function that finds a directory at each path doesn't find what exists
 everywhere_is_wrong : TellsKinds (λ count path. dir) root_alone placed → ⊥
 everywhere_is_wrong tells =
     absurd (let bad : true ≡ false
@@ -218,16 +218,16 @@ another_kind : HasSameKinds record { revision = 1; change = folder (codes "a") }
     record { revision = 1; change = writing [] (folder (codes "a")) } → ⊥
 another_kind s = absurd (let bad : true ≡ false = s.text in cc)
 
--- and a delta may be refused
+-- and a delta may be rejected
 a_delta : HasSameKinds record { revision = 1; change = refused_delta } record { revision = 1; change = refused_delta } → ⊥
 a_delta s = absurd (let bad : false ≡ true = s.whole in cc)
 
--- the sixth change of the dump is refused, and so is the dump
+-- the sixth change of the dump is rejected, and so is the dump
 sixth_refused : IsRefusedAt root_alone whole 5 (copy 2 (codes "a") (codes "c"))
 sixth_refused =
     first_refusal_is_there (λ count path. option_map kind_of_node (look root_alone plain count path)) root_alone whole placed
     5 (record { revision = 3; change = copy 2 (codes "a") (codes "c") }) refl refl plain_tells refl refl refl
 
--- a change of a dump that loads isn't
+-- no change of a dump that loads is rejected
 none_is_refused : IsRefusedAt root_alone ((folder (codes "a") ∷ []) ∷ []) 0 (folder (codes "a")) → ⊥
 none_is_refused r = absurd (let bad : true ≡ false = ap (λ o. is_some o) r.none in cc)

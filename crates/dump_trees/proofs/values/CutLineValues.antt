@@ -1,4 +1,4 @@
--- Worked values of lines of mergeinfo by the cut, and of siblings on the ways to paths.
+-- Examples of lines of mergeinfo by the cut, and of siblings on the ways to paths.
 use Rattle.dump_trees.proofs.Prelude.{◌≡◌, codes, refl, map, Exclude, Settings, NodePath, path_text, path_of, is_short}
 use Rattle.std.proofs.Common.{ℕ, true, false, List, [], ◌∷◌}
 use Rattle.dump_rules.specs.Mergeinfo.{MergeLine}
@@ -67,8 +67,8 @@ out_of_cut = refl
 in_cut : keeps_path excluding_them (codes "/a/b/c") ≡ true
 in_cut = refl
 
--- the short form is needed: with a slash more a line's path isn't matched by any prefix but the root's, and stays,
--- though the load reads a path outside of the cut
+-- The short form is needed. If a line's path has one more slash, only the root's prefix matches it, so the line stays,
+-- though the load reads a path outside of the cut.
 not_short : is_short (codes "//never/x") ≡ false
 not_short = refl
 

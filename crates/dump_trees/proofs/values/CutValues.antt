@@ -1,4 +1,4 @@
--- Worked values of cuts, of their siblings, and of what comes back.
+-- Examples of cuts, of their siblings, and of what comes back.
 use Rattle.dump_trees.proofs.Prelude.{◌≡◌, sym, ◌≤◌, ◌||◌, bytes_eq-Decides, or_cases, inr, inl, ◌⊎◌, list_any, codes, refl, ap, subst, slice_get, bytes_eq, arith, AllZip, Exclude, Settings, NodePath, path_text, path_of, keeps, Node, Tree, put, root_alone, Made, Change, History, unwrap_or, both_ways, loaded_over}
 use Rattle.std.proofs.Common.{◌<◌, ℕ, zero, suc, true, false, List, [], ◌∷◌, ◌++◌, map, Some, Contains}
 use Rattle.std.proofs.lemmas.List.Elements.{All-nil, All-cons}
@@ -80,14 +80,14 @@ dots_have_no_names = refl
 
 -- a tree and its siblings
 
--- what stands: the included path, a sibling beside it, and one in the root
+-- what exists: the included path, a sibling next to it, and one in the root
 abbrev tree : Tree
 tree = put (path_of (codes "b")) (Node.File [] (codes "3"))
     (put (path_of (codes "a/x")) (Node.File [] (codes "2"))
     (put (path_of (codes "a/b")) (Node.File [] (codes "1"))
     (put (path_of (codes "a")) (Node.Folder (property (codes "p") (codes "1") ∷ [])) root_alone)))
 
--- the sibling beside the included path has to be among them
+-- the sibling next to the included path has to be among them
 missing : AreSiblings included (tree ∷ []) (path_of (codes "b") ∷ []) → ⊥
 missing all = none (all.all 0 tree (path_of (codes "a/x")) refl refl refl)
   where
@@ -118,7 +118,7 @@ left_in_the_root = refl
 
 -- what comes back
 
--- a directory with a file that is left out
+-- a directory with an excluded file
 abbrev old : Tree
 old = put (path_of (codes "a/s")) (Node.File [] (codes "1")) (put (path_of (codes "a")) (Node.Folder []) root_alone)
 
@@ -139,17 +139,17 @@ back = record {
   left = refl;
 }
 
--- both paths are left out
+-- both paths are excluded
 abbrev out_again : Settings
 out_again = record (excluding (codes "a/s")) { prefixes = codes "a/s" ∷ codes "b" ∷ [] }
 
--- not so where it is left out there too
+-- it doesn't come back if it is excluded there too
 not_left_again : ComesBack out_again history (copy 1 (codes "a") (codes "b")) → ⊥
 not_left_again b =
     both_ways (keeps out_again (path_of (codes "b") ++ b.rest)) (keeps_nothing out_again (path_of (codes "b")) b.rest refl refl)
     b.kept
 
--- nor where only kept paths are copied
+-- nor does it if only kept paths are copied
 not_kept_alone : ComesBack (excluding (codes "a/s")) history (copy 1 (codes "a/t") (codes "b")) → ⊥
 not_kept_alone b =
     absurd (let bad : true ≡ false
@@ -158,9 +158,9 @@ not_kept_alone b =
     source : b.source ≡ path_of (codes "a/t")
     source = (let both : (copy 1 (codes "a/t") (codes "b")).made ≡ Some _ = b.copies in cc)
 
--- what is left out has no part in the result
+-- what is excluded has no part in the result
 
--- a history with a text that is left out, and a copy of another one
+-- a history with an excluded text, and a copy of another one
 abbrev whole : List ℕ → List (List Change)
 whole text = (folder (codes "a") ∷ file (codes "a/f") (codes "1") ∷ file (codes "s") text ∷ [])
     ∷ (copy 1 (codes "a/f") (codes "a/g") ∷ []) ∷ []
@@ -197,7 +197,7 @@ nothing_back text =
         absurd (let bad : true ≡ false
         = subst (λ p. keeps (excluding (codes "s")) (p ++ b.rest) ≡ false) source b.left in cc)
 
--- whatever the text is, the same stands at kept paths
+-- whatever the text is, the same exists at kept paths
 no_part : (text other : List ℕ) → AllZip (AgreeWhereKept (excluding (codes "s"))) (trees text) (trees other)
 no_part text other =
     kept_changes_tell_all (excluding (codes "s")) (whole text) (whole other) (trees text) (trees other) refl refl refl
@@ -235,7 +235,7 @@ listed_above = refl
 
 -- siblings are found without trees
 
--- what is included, and siblings beside it and in the root
+-- what is included, and siblings next to it and in the root
 abbrev grown : List (List Change)
 grown = (folder (codes "a") ∷ file (codes "a/b") (codes "1") ∷ file (codes "a/x") (codes "2")
     ∷ file (codes "c") (codes "3") ∷ []) ∷ []

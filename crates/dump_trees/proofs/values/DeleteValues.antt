@@ -1,4 +1,4 @@
--- Worked values of deletes behind a copy.
+-- Examples of deletes after a copy.
 use Rattle.dump_trees.proofs.Prelude.{◌≡◌, codes, refl, map, slice_get, Exclude, Settings, NodePath, path_text, path_of, Node, Tree, root_alone, Change, step, steps, unwrap_or, loaded_over}
 use Rattle.std.proofs.Common.{ℕ, true, false, List, [], ◌∷◌, Option, Some, None, option_and_then, is_some}
 use Rattle.dump_trees.specs.ExpansionCases.{deletion_of, deletions}
@@ -26,7 +26,7 @@ b = path_of (codes "b")
 abbrev a : NodePath
 a = path_of (codes "a")
 
--- these are excluded, at the path of a copy alone
+-- these are excluded only at the path of a copy
 abbrev excluded : List NodePath
 excluded = path_of (codes "b/d") ∷ path_of (codes "b/s") ∷ path_of (codes "b/x") ∷ path_of (codes "c") ∷ []
 
@@ -59,7 +59,7 @@ not_without_one c = absurd (let bad : false ≡ true = c.all (path_of (codes "s"
 not_what_is_below : CoverTaken settings old b a (path_of (codes "d/s") ∷ path_of (codes "s") ∷ []) → ⊥
 not_what_is_below c = absurd (let bad : false ≡ true = c.all (path_of (codes "d")) refl refl refl in cc)
 
--- nor may it be deleted twice, or what is kept, or what doesn't exist
+-- nothing may be deleted twice, nor may what is kept, or what doesn't exist
 not_twice : CoverTaken settings old b a (path_of (codes "d") ∷ path_of (codes "d/s") ∷ path_of (codes "s") ∷ []) → ⊥
 not_twice c = absurd (let bad : false ≡ true = c.apart in cc)
 
@@ -69,7 +69,7 @@ not_the_copy c = absurd (let bad : false ≡ true = c.left in cc)
 not_what_isnt_there : CoverTaken settings old b a (path_of (codes "d") ∷ path_of (codes "s") ∷ path_of (codes "x") ∷ []) → ⊥
 not_what_isnt_there c = absurd (let bad : false ≡ true = c.stand in cc)
 
--- what stands once they are deleted behind the copy
+-- what exists after they are deleted after the copy
 abbrev behind : List ℕ → Option Node
 behind path = option_and_then (λ t. t (path_of path))
     (steps (slice_get trees) old
@@ -87,6 +87,6 @@ the_directory_too = refl
 the_source_stays : behind (codes "a/d/s") ≡ Some (Node.File [] (codes "2"))
 the_source_stays = refl
 
--- a load refuses them before the copy
+-- a load rejects them before the copy
 refused_before : is_some (step (slice_get trees) old (deletion_of (path_of (codes "b/s")))) ≡ false
 refused_before = refl

@@ -1,4 +1,4 @@
--- Worked values of property deltas and text deltas, as svnadmin load takes them.
+-- Examples of property deltas and text deltas, as svnadmin load takes them.
 use Rattle.dump_trees.proofs.Prelude.{◌≡◌, codes, refl, Property, Node, Change}
 use Rattle.std.proofs.Common.{ℕ, true, List, [], ◌∷◌, ◌++◌, Option, Some, None}
 use Rattle.dump_trees.proofs.values.ValueParts.{change, folder, file, copy, deletion, replacing, setting, editing, writing, patching, property, removal, stands, is_refused}
@@ -9,11 +9,11 @@ p = property (codes "p") (codes "1")
 abbrev q : Property
 q = property (codes "q") (codes "2")
 
--- a folder, and a file with two properties
+-- a directory, and a file with two properties
 abbrev begun : List (List Change)
 begun = (folder (codes "a") ∷ setting (p ∷ q ∷ []) (file (codes "f") (codes "old")) ∷ []) ∷ []
 
--- what stands at the path once one more change is loaded
+-- what exists at the path after one more change is loaded
 abbrev then : Change → List ℕ → Option Node
 then c path = stands (begun ++ (c ∷ []) ∷ []) path
 
@@ -36,7 +36,7 @@ sets_again = refl
 takes_away : edited (removal (codes "q") ∷ []) ≡ with (p ∷ [])
 takes_away = refl
 
--- what isn't there can be taken away
+-- a property that doesn't exist can be removed
 takes_nothing : edited (removal (codes "n") ∷ []) ≡ with (p ∷ q ∷ [])
 takes_nothing = refl
 
@@ -65,7 +65,7 @@ edits_copy = refl
 edits_replaced : then (editing (q ∷ []) (replacing (file (codes "f") (codes "old")))) (codes "f") ≡ with (q ∷ [])
 edits_replaced = refl
 
--- edits are refused where nothing stands, but an empty list of them is taken
+-- edits are rejected if nothing exists at the path, but an empty list of edits is taken
 
 edits_nothing : is_refused begun (editing (p ∷ []) (change (codes "n"))) ≡ true
 edits_nothing = refl
@@ -79,7 +79,7 @@ none_of_nothing = refl
 none_of_deleted : then (editing [] (deletion (codes "f"))) (codes "f") ≡ None
 none_of_deleted = refl
 
--- entries in place of the old ones
+-- entries that replace the old ones
 
 abbrev replaced : List Property → Option Node
 replaced entries = then (setting entries (change (codes "f"))) (codes "f")
@@ -96,7 +96,7 @@ whole_later = refl
 
 -- text deltas
 
--- a delta that puts a text behind the old one, and one that the load refuses
+-- a delta that appends a text to the old one, and a delta that the load rejects
 abbrev behind : List ℕ → Option (List ℕ)
 behind old = Some (old ++ codes "new")
 

@@ -1,4 +1,4 @@
--- Worked values of siblings that exist within revisions alone, and of changes that do nothing.
+-- Examples of siblings that exist only within revisions, and of changes that do nothing.
 use Rattle.dump_trees.proofs.Prelude.{◌≡◌, codes, refl, ap, ◌∙◌, subst, arith, inl, inr, zero, suc, ◌≤◌, not, ◌||◌, append-nil, bytes_eq, bytes_eq-Decides, or_cases, and_parts, list_all, list_any, map, slice_get, Exclude, Settings, NodePath, path_text, path_of, keeps, below, Tree, root_alone, Change, unwrap_or, loaded_over}
 use Rattle.std.proofs.Common.{ℕ, Bool, true, false, List, [], ◌∷◌, ◌++◌, length, Option, Some, None, is_some, Contains}
 use Rattle.dump_trees.specs.Looking.{placed_from}
@@ -17,7 +17,7 @@ use Rattle.dump_trees.proofs.values.ValueParts.{including_all, property, change,
 abbrev included : List NodePath
 included = path_of (codes "b/q") ∷ []
 
--- a directory with a file is copied to above the included path, and deleted and made anew in the same revision
+-- a directory with a file is copied above the included path, and deleted and made again in the same revision
 abbrev within : List (List Change)
 within = (folder (codes "s") ∷ file (codes "s/x") (codes "1") ∷ [])
     ∷ (copy 1 (codes "s") (codes "b") ∷ deletion (codes "b") ∷ folder (codes "b") ∷ []) ∷ []
@@ -25,7 +25,7 @@ within = (folder (codes "s") ∷ file (codes "s/x") (codes "1") ∷ [])
 it_loads : is_some (loaded_over root_alone within) ≡ true
 it_loads = refl
 
--- the file exists there after three changes alone
+-- the file exists there only after three changes
 after_three : ExistsBelow within 3 (path_of (codes "b")) (codes "x")
 after_three = (refl, refl)
 
@@ -35,11 +35,11 @@ not_after_two exists = absurd (let bad : false ≡ true = exists.0 in cc)
 not_after_four : ExistsBelow within 4 (path_of (codes "b")) (codes "x") → ⊥
 not_after_four exists = absurd (let bad : false ≡ true = exists.1 in cc)
 
--- at the end of the revision it can't stand there
+-- at the end of the revision it can't exist there
 not_at_the_end : CanStandBelow within 2 (path_of (codes "b")) (codes "x") → ⊥
 not_at_the_end can = absurd (let bad : false ≡ true = can in cc)
 
--- siblings that leave it out aren't those of every tree
+-- siblings without it aren't the siblings of every tree
 left_out : AreEverSiblings included within (path_of (codes "s") ∷ []) → ⊥
 left_out are = none ((are (front ∷ []) (copy 1 (codes "s") (codes "b") ∷ []) (deletion (codes "b") ∷ folder (codes "b") ∷ []) []
     cut_short refl refl).all 2 (unwrap_or (slice_get cut_short 2) root_alone) (path_of (codes "b/x")) refl refl refl)
@@ -108,7 +108,7 @@ names_among paths path (first ∷ names) are name some sibling =
     implied true b is holds = holds
     implied false b is holds = absurd (let bad : false ≡ true = is in cc)
 
--- those of the names that can stand below the directories after so many changes
+-- whether these include the names that can exist below the directories after this number of changes
 abbrev are_listed : List (List Change) → List NodePath → ℕ → Bool
 are_listed revisions paths count =
     list_all (λ path. are_among paths path (names_look (placed_from 1 revisions) count path)) ([] ∷ all_above included)
@@ -143,7 +143,7 @@ abbrev deleted_before : List (List Change)
 deleted_before = (folder (codes "a") ∷ file (codes "a/x") (codes "1") ∷ []) ∷ (deletion (codes "a/x") ∷ [])
     ∷ (copy 2 (codes "a") (codes "b") ∷ []) ∷ []
 
--- its name is one that can stand there, but nothing exists of that name
+-- its name is one that can exist there, but nothing with that name exists
 name_alone : CanStandBelow deleted_before 3 (path_of (codes "b")) (codes "x")
 name_alone = refl
 
@@ -176,8 +176,8 @@ edits = refl
 writes : does_something (writing (codes "1") (change (codes "x"))) ≡ true
 writes = refl
 
--- one at a path where nothing ever exists is loaded, and kept where siblings are excluded that leave it out: its path is
--- named alone
+-- A change at a path at which nothing ever exists is loaded. It is kept if siblings are excluded that don't include
+-- the path, since the path is only named.
 
 abbrev idle_there : List (List Change)
 idle_there = (change (codes "x") ∷ []) ∷ []

@@ -1,4 +1,4 @@
--- Worked values of following copies.
+-- Examples of following copies.
 use Rattle.dump_trees.proofs.Prelude.{◌≡◌, option_map, bytes_eq, path_text, ◌⊎◌, inl, inr, codes, refl, sym, ap, ◌∙◌, subst, arith, slice_get, NodePath, path_of, Tree, root_alone, Made, Change, unwrap_or, loaded_over}
 use Rattle.std.proofs.Common.{ℕ, true, false, List, [], ◌∷◌, ◌++◌, length, Some, Contains}
 use Rattle.std.proofs.lemmas.Option.{same_Some}
@@ -64,7 +64,7 @@ second_copy = record {
 listed : followed Way.ToCopies (one ∷ []) (tree_at 1) (path_of (codes "b")) (path_of (codes "a")) ≡ path_of (codes "s") ∷ []
 listed = refl
 
--- not before its source is covered
+-- the copy isn't followed before its source is covered
 not_yet : followed Way.ToCopies (one ∷ []) (tree_at 2) (path_of (codes "c")) (path_of (codes "b")) ≡ []
 not_yet = refl
 
@@ -72,12 +72,12 @@ then_too : followed Way.ToCopies (two ∷ one ∷ []) (tree_at 2) (path_of (code
     ≡ path_of (codes "s") ∷ []
 then_too = refl
 
--- a directory that is copied into itself isn't followed without end: where nothing exists at the source nothing is added
+-- a directory that is copied into itself isn't followed without end: if nothing exists at the source, nothing is added
 no_end_of_it : followed Way.ToCopies (path_of (codes "a/x") ∷ []) (tree_at 1) (path_of (codes "a/b")) (path_of (codes "a"))
     ≡ []
 no_end_of_it = refl
 
--- to sources: all of the source, where the path is covered, else what is covered below
+-- to sources: all of the source if the path is covered, otherwise what is covered below
 whole_source : followed Way.ToSources (path_of (codes "c") ∷ []) (tree_at 2) (path_of (codes "c")) (path_of (codes "b"))
     ≡ [] ∷ []
 whole_source = refl
@@ -86,7 +86,7 @@ part_of_it : followed Way.ToSources (three ∷ []) (tree_at 2) (path_of (codes "
     ≡ path_of (codes "s") ∷ []
 part_of_it = refl
 
--- the other way nothing is
+-- nothing is followed the other way
 other_way : followed Way.ToCopies (three ∷ []) (tree_at 2) (path_of (codes "c")) (path_of (codes "b")) ≡ []
 other_way = refl
 
@@ -135,7 +135,7 @@ both_added = (
   ),
 )
 
--- what is below an addition goes
+-- what is below an addition is removed
 grows_over : IsGrown (two ∷ one ∷ []) (path_of (codes "b")) (path_of (codes "b") ∷ one ∷ [])
 grows_over = record { front = []; behind = one ∷ []; others = refl; joined = refl }
 
@@ -154,7 +154,7 @@ may_not_stay g = sizes g.front g.behind g.others g.joined
     sizes (p ∷ q ∷ front) behind others joined =
         absurd (let bad : p ∷ q ∷ (front ++ behind) ≡ one ∷ [] = others in cc)
 
--- one path less is left
+-- one path fewer remains
 left_before : left_uncovered (one ∷ two ∷ three ∷ []) (one ∷ []) ≡ 2
 left_before = refl
 
@@ -258,7 +258,7 @@ not_done nothing =
     (nothing (path_of (codes "c")) (path_of (codes "b")) (tree_at 2) second_copy)
     (contains_first (path_of (codes "s")) []))
 
--- so the third one is reached, and a file beside it isn't
+-- so the third one is reached, and a file next to it isn't
 
 third_reached : IsInClosure Way.ToCopies trees whole (one ∷ []) three
 third_reached =
@@ -271,13 +271,13 @@ beside_not reached =
     (following_is_least Way.ToCopies trees whole (one ∷ []) (two ∷ three ∷ []) (one ∷ three ∷ two ∷ []) refl both_added
     nothing_more).2 (path_of (codes "c/t")) reached in cc)
 
--- a set that leaves out a copy isn't closed
+-- a set that doesn't contain a copy isn't closed
 not_closed : IsClosed Way.ToCopies trees whole (Covers (one ∷ two ∷ [])) → ⊥
 not_closed closed =
     absurd (let bad : false ≡ true =
     closed.copied (path_of (codes "c")) (path_of (codes "b")) (path_of (codes "s")) (tree_at 2) second_copy refl refl in cc)
 
--- that is the set the other way, which goes from the last to the first
+-- the other way, the set reaches from the last path back to the first
 back_to_the_first : IsInClosure Way.ToSources trees whole (three ∷ []) one
 back_to_the_first =
     IsInClosure.Followed (path_of (codes "b")) (path_of (codes "a")) (path_of (codes "s")) (tree_at 1) first_copy refl
@@ -297,14 +297,14 @@ placed_first = record {
   tree = refl;
 }
 
--- what is copied to one path isn't to another one
+-- what is copied to one path isn't copied to another
 not_there : PlacedCopy trees (placed_from 1 whole) 3 (path_of (codes "c")) (path_of (codes "a")) (tree_at 1) → ⊥
 not_there c =
     absurd (let bad : true ≡ false = ap (λ p. bytes_eq (path_text p) (codes "/b"))
     (ap (λ (q : Placed). q.change.path)
     (same_Some record { revision = 2; change = copy 1 (codes "a") (codes "b") } c.at c.there) ∙ c.to) in cc)
 
--- a file that is deleted, and copied with its directory from where it still was
+-- a file is deleted, and then copied with its directory from a revision that still has it
 abbrev later_on : List (List Change)
 later_on =
     (folder (codes "a") ∷ file (codes "a/s") (codes "1") ∷ [])

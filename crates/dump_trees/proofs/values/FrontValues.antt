@@ -1,5 +1,5 @@
--- Worked values of numbers and of first revisions: a dump with an alarm in its third revision, and one that is refused
--- there; the law holds of the revisions before it.
+-- Examples of numbers and of first revisions: a dump with an alarm in its third revision, and one that is rejected
+-- there. The law is true of the revisions before it.
 use Rattle.dump_trees.proofs.Prelude.{◌≡◌, codes, refl, take, Settings, KeptRevisions, image, path_of, keeps, Node, Tree, root_alone, Change, given, IsNewChange, loaded_over, EmptyRule, stays_numbered, AreNewRevisions, kept_of, IsWrittenNumber, are_quiet, ImagesRestrict, FrontLoads}
 use Rattle.std.proofs.Common.{ℕ, true, false, List, [], ◌∷◌, ◌++◌, Some, None, is_none}
 use Rattle.std.specs.Prelude.{◌&&◌, is_some}
@@ -29,8 +29,8 @@ kept_bare = refl
 kept_all : (kept_of (including (codes "a")) (λ changes. true) six).numbers ≡ 0 ∷ 1 ∷ 2 ∷ 3 ∷ 4 ∷ 5 ∷ 6 ∷ []
 kept_all = refl
 
--- each kept copy finds its revision by its number where revisions are renumbered, or none is dropped; where one is, while
--- no kept change behind it is a copy
+-- Each kept copy finds its revision by its number if revisions are renumbered, or none is dropped. If one is dropped,
+-- it does while no kept change after it is a copy.
 
 -- the options without renumbering
 abbrev left_numbers : Settings
@@ -52,7 +52,7 @@ numbers_not_named = refl
 numbers_named : stays_numbered left_numbers none_more (with_change (copy 2 (codes "a") (codes "a/c"))) ≡ false
 numbers_named = refl
 
--- a copy that is left out names nothing in what is written
+-- an excluded copy names nothing in what is written
 numbers_left_out : stays_numbered left_numbers none_more (with_change (copy 2 (codes "a") (codes "c/a"))) ≡ true
 numbers_left_out = refl
 
@@ -61,7 +61,7 @@ numbers_before : stays_numbered left_numbers none_more
     ((folder (codes "a") ∷ []) ∷ (copy 1 (codes "a") (codes "a/c") ∷ []) ∷ six) ≡ true
 numbers_before = refl
 
--- one behind it counts, be there more kept revisions between
+-- a copy after it counts, even if there are more kept revisions between
 numbers_behind : stays_numbered left_numbers none_more
     ((folder (codes "a") ∷ []) ∷ [] ∷ (change (codes "a") ∷ []) ∷ (change (codes "a") ∷ copy 1 (codes "a") (codes "a/c") ∷ []) ∷ [])
     ≡ false
@@ -121,7 +121,7 @@ front_is_quiet = refl
 whole_is_not : are_quiet settings (front ++ rest) ≡ false
 whole_is_not = refl
 
--- in the third revision the law of the whole dump is false: a kept path has its file in the one load alone
+-- in the third revision the law of the whole dump is false: only one of the loads has a file at a kept path
 whole_has_it : node_at (loaded_over root_alone (front ++ rest)) 3 (codes "branch/big") ≡ Some (Node.File [] (codes "b"))
 whole_has_it = refl
 
@@ -131,12 +131,12 @@ it_is_kept = refl
 filtered_lacks_it : node_at (loaded_over (given settings) (first ++ rest)) 3 (codes "branch/big") ≡ None
 filtered_lacks_it = refl
 
--- one change that isn't quiet is enough, beside quiet ones
+-- one change that isn't quiet is enough, even with quiet ones
 one_of_two_is_not : are_quiet settings
     ((file (codes "trunk/g") (codes "1") ∷ copy 1 (codes "trunk") (codes "branch") ∷ []) ∷ []) ≡ false
 one_of_two_is_not = refl
 
--- the second has the law
+-- the law is true of the second one
 front_text : node_at (loaded_over root_alone (front ++ rest)) 2 (codes "trunk/f") ≡ Some (Node.File [] (codes "2"))
 front_text = refl
 
@@ -144,7 +144,7 @@ first_text : node_at (loaded_over (given settings) (first ++ rest)) 2 (codes "tr
     (Node.File [] (codes "2"))
 first_text = refl
 
--- a new text is written as it stands
+-- a new text is written as it is
 same_text : (number : ℕ → ℕ → Type 0) (path text : List ℕ)
     → IsNewChange settings as_it_was number (writing text (change path)) (writing text (change path))
 same_text number path text = record { path = refl; deletes = refl; made = tt; props = tt; text = refl }
@@ -173,7 +173,7 @@ first_is_written number behind more new = (
   ),
 )
 
--- of the rest each change is written as it stands
+-- of the rest each change is written as it is
 rest_is_written : AreNewRevisions settings as_it_was
     (IsWrittenNumber settings (kept_of settings none_more (front ++ rest))) none_more
     rest rest
@@ -197,7 +197,7 @@ rest_is_written = (
   ),
 )
 
--- so the law tells of the first two revisions
+-- so the law says this of the first two revisions
 the_law : (trees : List Tree) → loaded_over root_alone front ≡ Some trees
     → FrontLoads settings as_it_was none_more (kept_of settings none_more (front ++ rest)) front (first ++ rest) trees
 the_law trees at =
@@ -217,7 +217,7 @@ both_load :
     (is_some (loaded_over root_alone (front ++ rest)) && is_some (loaded_over (given settings) (first ++ rest))) ≡ true
 both_load = refl
 
--- a third revision that is refused, for the file stands there already
+-- a third revision that is rejected, since the file exists there already
 
 abbrev refused : List (List Change)
 refused = (file (codes "trunk/f") (codes "3") ∷ []) ∷ []

@@ -1,5 +1,5 @@
--- Worked values of looking back: what is found is what stands once the dump is loaded, and the latest change that
--- touches a path is told from those that don't.
+-- Examples of looking back: what is found is what exists after the dump is loaded, and the latest change that touches
+-- a path differs from the changes that don't.
 use Rattle.dump_trees.proofs.Prelude.{◌≡◌, codes, refl, path_of, Node, root_alone, Change}
 use Rattle.std.proofs.Common.{ℕ, true, false, List, [], ◌∷◌, ◌++◌, length, Option, Some, None}
 use Rattle.dump_trees.specs.Listing.{names_look}
@@ -7,8 +7,8 @@ use Rattle.dump_trees.specs.steps.LookingBack.{copies_back}
 use Rattle.dump_trees.specs.Looking.{placed_from, end_of, touches_path, latest, look}
 use Rattle.dump_trees.proofs.values.ValueParts.{change, folder, file, copy, deletion, replacing, setting, writing, property, stands}
 
--- a folder with a file; a copy of it, in which another file takes the file's place; then the file itself gets a text,
--- and a copy of the copy as it was; last the first folder goes
+-- A directory has a file. In a copy of it another file replaces the file. Then the file itself gets a text, and the
+-- copy is copied as it was. At the end the first directory is deleted.
 abbrev whole : List (List Change)
 whole =
     (folder (codes "a") ∷ file (codes "a/f") (codes "1") ∷ folder (codes "c") ∷ [])
@@ -18,11 +18,11 @@ whole =
     ∷ (deletion (codes "a") ∷ [])
     ∷ []
 
--- what is found at a path behind so many of the changes
+-- what is found at a path after this number of changes
 abbrev found_in : List (List Change) → ℕ → List ℕ → Option Node
 found_in revisions count path = look root_alone (placed_from 1 revisions) count (path_of path)
 
--- what is found behind all of them
+-- what is found after all of them
 abbrev found_last : List (List Change) → List ℕ → Option Node
 found_last revisions path = found_in revisions (length (placed_from 1 revisions)) path
 
@@ -51,7 +51,7 @@ is_written = refl
 is_deleted_above : found_last whole (codes "a/f") ≡ None
 is_deleted_above = refl
 
--- a copy of a copy, as its source stood at the end of the revision that it names
+-- a copy of a copy, as its source was at the end of the revision that it names
 is_copied_twice : found_last whole (codes "c/d/f")
     ≡ Some (Node.File (property (codes "p") (codes "v") ∷ []) (codes "2"))
 is_copied_twice = refl
@@ -64,7 +64,7 @@ of_the_past : found_in (whole ++ (copy 1 (codes "a") (codes "e") ∷ []) ∷ [])
     ≡ Some (Node.File [] (codes "1"))
 of_the_past = refl
 
--- what is found is what stands
+-- what is found is what exists
 as_it_stands : found_last whole (codes "c/d/f") ≡ stands whole (codes "c/d/f")
 as_it_stands = refl
 
@@ -106,13 +106,13 @@ one_before = refl
 no_latest : latest (touches_path (path_of (codes "x"))) (placed_from 1 whole) 8 ≡ None
 no_latest = refl
 
--- names that can stand in a folder
+-- names that can exist in a directory
 
--- of what was made there, though it may be gone
+-- names of what was made there, even if it no longer exists
 once_made : names_look (placed_from 1 whole) 8 (path_of (codes "a")) ≡ codes "f" ∷ []
 once_made = refl
 
--- of what was made there, and of what stood at the source of the copy
+-- names of what was made there, and of what existed at the source of the copy
 at_a_source : names_look (placed_from 1 whole) 4 (path_of (codes "b")) ≡ codes "f" ∷ []
 at_a_source = refl
 
@@ -125,7 +125,7 @@ in_the_root = refl
 none_in_a_file : names_look (placed_from 1 whole) 8 (path_of (codes "b/f")) ≡ []
 none_in_a_file = refl
 
--- a folder that came by a copy keeps its names where its properties are set
+-- a directory that was copied keeps its names if its properties are set
 abbrev set_later : List (List Change)
 set_later = (folder (codes "a") ∷ file (codes "a/f") (codes "1") ∷ []) ∷ (copy 1 (codes "a") (codes "b") ∷ [])
     ∷ (setting [] (change (codes "b")) ∷ []) ∷ []

@@ -1,12 +1,12 @@
--- Worked values of a load behind other revisions.
+-- Examples of a load after other revisions.
 use Rattle.dump_trees.proofs.Prelude.{◌≡◌, ◌==◌, not, option_map, unwrap_or, bytes_eq, codes, refl, ap, ◌∙◌, Property, path_of, path_text, Node, Tree, put, root_alone, Made, Change, given, KeepsEntries, IsMade, loaded, loaded_over, change_behind, revisions_behind, IsChangeBehind, AreRevisionsBehind, AreAlike, AllAreAlike}
 use Rattle.std.proofs.Common.{ℕ, Bool, true, false, List, [], ◌∷◌, ◌++◌, length, Option, Some, None, is_some, is_none}
 use Rattle.dump_trees.proofs.paths.GivenFolders.{given_folders}
 use Rattle.dump_trees.proofs.histories.AlikeLemmas.{loads_alike, given_alike}
 use Rattle.dump_trees.proofs.values.ValueParts.{including, as_it_was, change, folder, file, copy, deletion, setting, property, node_at}
 
--- a dump behind other revisions: an administrator makes the folder a in a revision of its own, so the copy is of a
--- number that is higher by one
+-- a dump after other revisions: an administrator makes the directory `a` in a revision of its own, so the number of
+-- the copy source is higher by one
 
 number_behind : change_behind 1 (copy 2 (codes "a/f") (codes "a/g")) ≡ copy 3 (codes "a/f") (codes "a/g")
 number_behind = refl
@@ -26,7 +26,7 @@ copied_behind = refl
 not_raised : is_none (loaded (root_alone ∷ made ∷ []) made copying) ≡ true
 not_raised = refl
 
--- a load that also sets new properties: it writes a mark behind each value
+-- a load that also sets new properties: it appends a mark to each value
 
 abbrev one : Property
 one = property (codes "p") (codes "1")
@@ -55,7 +55,7 @@ is_behind = (
   ((record { path = refl; deletes = refl; made = refl; props = tt; text = refl }, tt), tt),
 )
 
--- so the law tells of both loads
+-- so the law says this of both loads
 the_law : (trees : List Tree) → loaded_over made with_property ≡ Some trees
     → (others : List Tree) × (loaded (root_alone ∷ made ∷ []) made behind_one ≡ Some (root_alone ∷ others))
     × (length others ≡ length trees) × AllAreAlike (IsMade marked) trees others
@@ -66,7 +66,7 @@ their_copy : node_at (loaded (root_alone ∷ made ∷ []) made behind_one) 3 (co
     ≡ Some (Node.Folder (marked one ∷ []))
 their_copy = refl
 
--- what isn't a change behind one revision
+-- what isn't a change after one revision
 
 number_stays : ¬ IsChangeBehind as_it_was 1 (copy 2 (codes "a/f") (codes "a/g")) (copy 2 (codes "a/f") (codes "a/g"))
 number_stays b = let bad : true ≡ false = ap (λ o. is_other o) b.made in cc
@@ -98,7 +98,7 @@ text_goes b = let bad : false ≡ true = ap (λ o. is_some o) b.text in cc
 revision_goes : ¬ AreRevisionsBehind as_it_was 1 ([] ∷ []) []
 revision_goes b = b
 
--- trees that aren't alike
+-- trees that differ in more than new properties
 
 other_text : ¬ AreAlike as_it_was (put (path_of (codes "f")) (Node.File [] (codes "1")) root_alone)
     (put (path_of (codes "f")) (Node.File [] (codes "2")) root_alone)

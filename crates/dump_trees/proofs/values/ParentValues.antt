@@ -1,4 +1,4 @@
--- Worked values of what comes back above included paths.
+-- Examples of what comes back above included paths.
 use Rattle.dump_trees.proofs.Prelude.{◌≡◌, codes, refl, slice_get, NodePath, path_of, Tree, root_alone, Change, unwrap_or, loaded_over}
 use Rattle.std.proofs.Common.{true, false, List, [], ◌∷◌}
 use Rattle.dump_trees.specs.Siblings.{is_above_included}
@@ -16,12 +16,12 @@ included = path_of (codes "c/b") ∷ []
 abbrev tree_after : List Change → Tree
 tree_after changes = unwrap_or (slice_get (unwrap_or (loaded_over root_alone (changes ∷ [])) []) 1) root_alone
 
--- where the source doesn't have the included path nothing is followed, and the directory alone comes back
+-- if the source doesn't have the included path, nothing is followed, and only the directory comes back
 nothing_followed : followed Way.ToSources included (tree_after (folder (codes "z") ∷ file (codes "z/x") (codes "1") ∷ []))
     (path_of (codes "c")) (path_of (codes "z")) ≡ []
 nothing_followed = refl
 
--- where it has it, that is followed, and no directory above
+-- if the source has it, it is followed, and no directory above it
 followed_source : followed Way.ToSources included
     (tree_after (folder (codes "z") ∷ file (codes "z/b") (codes "1") ∷ [])) (path_of (codes "c")) (path_of (codes "z"))
     ≡ path_of (codes "b") ∷ []
@@ -36,7 +36,7 @@ not_covered = refl
 not_the_included : is_above_included included (path_of (codes "c/b")) ≡ false
 not_the_included = refl
 
--- a sibling that exists within a revision alone may not be left out
+-- a sibling that exists only within a revision may not be omitted
 within_one : AreEverSiblings included
     ((file (codes "a") (codes "1") ∷ deletion (codes "a") ∷ []) ∷ []) [] → ⊥
 within_one are =

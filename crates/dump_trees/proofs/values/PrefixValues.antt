@@ -1,4 +1,4 @@
--- Worked values of prefixes that aren't written in canonical form.
+-- Examples of prefixes that aren't written in canonical form.
 use Rattle.dump_trees.proofs.Prelude.{◌≡◌, codes, refl, Exclude, Settings, path_of, keeps}
 use Rattle.std.proofs.Common.{ℕ, true, false, List, [], ◌∷◌, map}
 use Rattle.dump_trees.specs.Siblings.{is_in_cut}

@@ -1,5 +1,5 @@
--- Worked values of the premises of the law of quiet histories: of each a dump in which it alone fails, and the law with
--- it.
+-- Examples of the premises of the law of quiet histories: for each premise, a dump in which only this premise is
+-- false, and the law with it.
 use Rattle.dump_trees.proofs.Prelude.{◌≡◌, codes, refl, sym, ap, subst, ◌∙◌, slice_get, Property, Settings, image, path_of, Node, Tree, root_alone, Change, given, IsRestricted, loaded_over, stays_numbered, kept_of, AreFiltered, ImagesRestrict, are_quiet, nowhere_is_over}
 use Rattle.std.proofs.Common.{ℕ, Bool, true, false, List, [], ◌∷◌, length, Option, Some, None, option_and_then, is_some}
 use Rattle.dump_trees.proofs.quiet.QuietLemmas.{quiet_history}
@@ -29,7 +29,7 @@ abbrev AreThere : Settings → Option Tree → Option Tree → Type 0
 AreThere settings (Some old) (Some new) = IsRestricted settings as_it_was old new
 AreThere settings _ _ = ⊥
 
--- where the law holds, the tree at a number's image is the restricted one
+-- if the law is true, the tree at a number's image is the restricted one
 at_image : (settings : Settings) (whole part : List (List Change)) (number new : ℕ)
     → image (kept_of settings none_more whole) number ≡ Some new
     → is_some (tree_in (loaded_over root_alone whole) number) ≡ true → HasLaw settings whole part
@@ -53,7 +53,7 @@ at_image settings whole part number new at_new there law = by_load (loaded_over 
     by_load None loads some = cc
     by_load (Some trees) loads some = by_tree trees loads (slice_get trees number) refl some
 
--- where the law holds and the dump loads, what is written of it loads
+-- if the law is true and the dump loads, what is written of it loads
 both_load : (settings : Settings) (whole part : List (List Change)) → is_some (loaded_over root_alone whole) ≡ true
     → HasLaw settings whole part → is_some (loaded_over (given settings) part) ≡ true
 both_load settings whole part there law = by_load (loaded_over root_alone whole) refl there
@@ -64,7 +64,7 @@ both_load settings whole part there law = by_load (loaded_over root_alone whole)
     by_load (Some trees) loads some =
         let (others, other_loads, size, images) = law trees loads in ap (λ o. is_some o) other_loads
 
--- the whole dump is refused, since its folder stands in none; so is what is written of it
+-- the whole dump is rejected, since its directory is in none; so is what is written of it
 
 abbrev misses : List (List Change)
 misses = (folder (codes "a/b") ∷ []) ∷ []
@@ -142,7 +142,7 @@ numbers_are_needed : ¬ HasLaw left_numbers behind_dropped behind_dropped_part
 numbers_are_needed law =
     let bad : false ≡ true = both_load left_numbers behind_dropped behind_dropped_part refl law in cc
 
--- where the only copy behind the dropped revision is left out, the law holds without new numbers
+-- if the only copy after the dropped revision is excluded, the law is true without new numbers
 
 abbrev plain_behind : List (List Change)
 plain_behind = (folder (codes "a") ∷ file (codes "a/f") (codes "1") ∷ [])
@@ -181,7 +181,7 @@ gap_has_law : HasLaw left_numbers plain_behind plain_behind_part
 gap_has_law trees at = quiet_history left_numbers as_it_was entries_stay none_more plain_behind plain_behind_part trees
     refl at refl refl plain_behind_is_part
 
--- a copy of trunk, below which something is excluded: branch lacks it, where it is kept
+-- a copy of trunk, below which something is excluded: branch lacks it, though it is kept there
 
 abbrev loses : List (List Change)
 loses = (folder (codes "trunk") ∷ file (codes "trunk/big") (codes "1") ∷ [])
@@ -262,7 +262,7 @@ copy_lets_in law =
     (at_image (excluding (codes "tag/secret")) lets_in lets_in 2 2 refl refl law).left
     (path_of (codes "tag/secret")) refl in cc
 
--- a copy of a file that is left out sets a text and no properties: those of its source are lost
+-- a copy of an excluded file sets a text and no properties: those of its source are lost
 
 abbrev mode : Property
 mode = property (codes "svn:executable") (codes "*")
@@ -304,7 +304,7 @@ properties_are_lost : ¬ HasLaw (including (codes "trunk")) bare_copy bare_copy_
 properties_are_lost law = ((at_image (including (codes "trunk")) bare_copy bare_copy_part 2 2 refl refl law).kept
     (path_of (codes "trunk/f")) refl).0
 
--- a copy of a file that is left out is made over one that stands there: a new file is refused there
+-- a copy of an excluded file is made over an existing file: a new file is rejected there
 
 abbrev copy_over : List (List Change)
 copy_over = (folder (codes "other") ∷ file (codes "other/f") (codes "1") ∷ folder (codes "trunk")
@@ -351,7 +351,7 @@ new_file_is_refused : ¬ HasLaw (including (codes "trunk")) copy_over copy_over_
 new_file_is_refused law =
     let bad : false ≡ true = both_load (including (codes "trunk")) copy_over copy_over_part refl law in cc
 
--- a left-out folder above a prefix is deleted: what is kept below it stays
+-- an excluded directory above a prefix is deleted: what is kept below it stays
 
 abbrev takes : List (List Change)
 takes = (folder (codes "a") ∷ folder (codes "a/b") ∷ []) ∷ (deletion (codes "a") ∷ []) ∷ []
@@ -375,7 +375,7 @@ folder_stays : ¬ HasLaw (including (codes "a/b")) takes takes_part
 folder_stays law = (at_image (including (codes "a/b")) takes takes_part 2 1 refl refl law).kept
     (path_of (codes "a/b")) refl
 
--- a left-out folder above a prefix is a copy: what it brings isn't there
+-- an excluded directory above a prefix is a copy: what it brings isn't there
 
 abbrev brings : List (List Change)
 brings = (folder (codes "y") ∷ folder (codes "y/b") ∷ []) ∷ (copy 1 (codes "y") (codes "a") ∷ []) ∷ []

@@ -1,5 +1,5 @@
--- Worked values of what the filter leaves: each tells a definition of a restricted tree, or of what the filter writes,
--- from a weaker or a stronger one.
+-- Examples of what the filter leaves. Each shows that a definition of a restricted tree, or of what the filter writes,
+-- differs from a weaker or a stronger one.
 use Rattle.dump_trees.proofs.Prelude.{◌≡◌, bytes_eq, codes, refl, ap, Property, Exclude, Settings, path_of, path_text, is_short, Node, Tree, put, root_alone, Made, TextChange, Change, given, IsNewNode, IsRestricted, IsNewChange, AreNewChanges, AreNewRevisions}
 use Rattle.std.proofs.Common.{ℕ, true, false, List, [], ◌∷◌, Some, None, is_some}
 use Rattle.dump_trees.proofs.values.ValueParts.{including_all, including, excluding, none_more, as_it_was, change, folder, file, copy, deletion, setting, editing, writing, patching, property}
@@ -34,7 +34,7 @@ slash_at_the_end = refl
 dot : is_short (codes "trunk/./a") ≡ false
 dot = refl
 
--- the given folders
+-- the parent directories
 
 given_root : given (including (codes "a/b/c")) [] ≡ Some (Node.Folder [])
 given_root = refl

@@ -1,4 +1,4 @@
--- Worked values of returns.
+-- Examples of returns.
 use Rattle.dump_trees.proofs.Prelude.{◌≡◌, codes, refl, NodePath, path_of, keeps, Node, Tree, put, root_alone, History}
 use Rattle.std.proofs.Common.{ℕ, true, false, List, [], ◌∷◌, ◌++◌, Some, is_some}
 use Rattle.dump_trees.specs.ComingBack.{ComesBack}

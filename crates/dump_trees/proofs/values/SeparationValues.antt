@@ -1,4 +1,5 @@
--- Worked values of separation: what is lost, or let in, or brought along, is not separated, and what is harmless is.
+-- Examples of separation: a change by which something is lost, let in or brought along isn't separated, and a harmless
+-- one is.
 use Rattle.dump_trees.proofs.Prelude.{◌≡◌, codes, refl, sym, ap, subst, ◌∙◌, slice_get, both_ways, Property, Settings, image, NodePath, path_of, keeps, Node, Tree, put, root_alone, Made, Change, History, steps, given, is_lost, has_no_props, CopySeparates, PlainSeparates, LeavesKept, Separates, loaded_over, kept_of, AreFiltered, AllRevisionsSeparate, ImagesRestrict, is_quiet, is_over, nowhere_is_over}
 use Rattle.std.proofs.Common.{ℕ, true, false, List, [], ◌∷◌, length, Option, Some, None, option_and_then, is_some, is_none}
 use Rattle.dump_trees.proofs.histories.HistoryLemmas.{history}
@@ -8,7 +9,7 @@ use Rattle.dump_trees.proofs.values.ValueParts.{including, excluding, none_more,
 abbrev one : Property
 one = property (codes "p") (codes "1")
 
--- the history in which this node stands at a path in each revision
+-- the history in which each revision has this node at a path
 abbrev always : List ℕ → Node → History
 always path node number = Some (put (path_of path) node root_alone)
 
@@ -125,8 +126,8 @@ nowhere_over : nowhere_is_over (including (codes "a")) (root_alone ∷ []) root_
     (begun ∷ (copy 1 (codes "c/f") (codes "c") ∷ copy 1 (codes "a/f") (codes "a") ∷ []) ∷ []) ≡ true
 nowhere_over = refl
 
--- a history that isn't quiet, for a copy that loses its source has no property block, but is separated, for the source
--- has no properties: so the law holds of it
+-- A history that isn't quiet, since a copy that loses its source has no property block. It is separated, since the
+-- source has no properties. So the law is true of it.
 
 abbrev settings : Settings
 settings = including (codes "a")

@@ -1,4 +1,4 @@
--- Worked values of cuts and siblings that wrong definitions don't meet: of names, of paths that a dump names, and of
+-- Examples of cuts and siblings that wrong definitions don't satisfy: of names, of paths that a dump names, and of
 -- trees at other times.
 use Rattle.dump_trees.proofs.Prelude.{◌≡◌, codes, refl, sym, ap, ◌∙◌, subst, both_ways, list_any, Side, Include, Exclude, Settings, NodePath, path_text, path_of, keeps, Node, Tree, put, root_alone, Change, arith, slice_get, map, zero, suc}
 use Rattle.std.proofs.Common.{ℕ, Bool, true, false, List, [], ◌∷◌, Some, None, is_some, Contains}
@@ -25,7 +25,7 @@ not_above_itself = refl
 not_above_it : is_above_included included (path_of (codes "a/b/f")) ≡ false
 not_above_it = refl
 
--- of two included paths one counts as well as the other
+-- of two included paths both count
 either_inside : is_in_cut (path_of (codes "a/b") ∷ path_of (codes "c") ∷ []) (path_of (codes "c/f")) ≡ true
 either_inside = refl
 
@@ -43,24 +43,24 @@ no_empty_name = refl
 no_slash : is_sibling included (codes "x/y" ∷ []) ≡ false
 no_slash = refl
 
--- beside one included path another one is no sibling
+-- an included path next to another one is no sibling
 not_the_other : is_sibling (path_of (codes "a/b") ∷ path_of (codes "a/c") ∷ []) (path_of (codes "a/c")) ≡ false
 not_the_other = refl
 
--- nothing is beside what lies below an included path
+-- nothing is next to what is below an included path
 none_below_included : is_sibling (path_of (codes "a") ∷ path_of (codes "a/b") ∷ []) (path_of (codes "a/x")) ≡ false
 none_below_included = refl
 
 -- trees
 
--- a directory above the included path, and what stands beside that
+-- a directory above the included path, and what is next to that
 abbrev above : Tree
 above = put (path_of (codes "a")) (Node.Folder []) root_alone
 
 abbrev with_sibling : Tree
 with_sibling = put (path_of (codes "a/x")) (Node.File [] (codes "2")) above
 
--- a sibling that stands in an earlier tree alone has to be among them too
+-- a sibling that exists only in an earlier tree has to be among them too
 once_stood : AreSiblings included (with_sibling ∷ above ∷ []) [] → ⊥
 once_stood all = none (all.all 0 with_sibling (path_of (codes "a/x")) refl refl refl)
   where
@@ -73,7 +73,7 @@ stands_later all = none (all.all 1 with_sibling (path_of (codes "a/x")) refl ref
     none : Contains [] (path_of (codes "a/x")) → ⊥
     none (k, low, is) = absurd (omega (arith, low))
 
--- one at which nothing stands may be among them
+-- a path at which nothing exists may be among them
 idle_sibling : AreSiblings included (root_alone ∷ []) (path_of (codes "a/y") ∷ [])
 idle_sibling = record { each = refl; all = all }
   where
@@ -97,7 +97,7 @@ dot_stands names = absurd (let bad : false ≡ true = names ((46 ∷ []) ∷ [])
 
 -- named paths
 
--- siblings that leave out a path which a merge source names, though nothing ever stands there
+-- siblings that don't cover a path which a merge source names, though nothing ever exists there
 leaves_out_named : CoverNamed included (path_of (codes "gone/f") ∷ []) [] → ⊥
 leaves_out_named cover =
     absurd (let bad : false ≡ true = cover.all (path_of (codes "gone/f")) (0, omega arith, refl) refl refl in cc)
@@ -122,7 +122,7 @@ has_named = record { each = refl; all = all }
         (sym is) out in cc)
     all path (suc (suc k), low, is) names out = absurd (omega (arith, low))
 
--- where they aren't excluded, such a path is kept
+-- if they aren't excluded, such a path is kept
 abbrev excluding_all : List NodePath → Settings
 excluding_all paths = record (including_all (map path_text paths)) { side = Exclude }
 
@@ -147,15 +147,15 @@ does_not_include e = absurd (let bad : false ≡ true = ap is_exclude e.side in 
 no_other_path : ExcludesPaths (excluding_all []) (path_of (codes "gone") ∷ []) → ⊥
 no_other_path e = let bad : [] ≡ codes "/gone" ∷ [] = e.prefixes in cc
 
--- names that can stand
+-- names that can exist
 
--- a directory with something beside the included path, and a copy of it
+-- a directory with something next to the included path, and a copy of it
 abbrev copied : List (List Change)
 copied = (folder (codes "c") ∷ file (codes "c/x") (codes "1") ∷ []) ∷ (copy 1 (codes "c") (codes "a") ∷ []) ∷ []
 
 not_yet : CanStandBelow copied 1 (path_of (codes "a")) (codes "x") → ⊥
 not_yet can = absurd (let bad : false ≡ true = can in cc)
 
--- a name that no change tells comes with the copy
+-- a name that no change names comes with the copy
 by_the_copy : CanStandBelow copied 2 (path_of (codes "a")) (codes "x")
 by_the_copy = refl

@@ -1,19 +1,19 @@
--- Worked values of loading: each tells a definition of a change from one that svnadmin load doesn't have.
+-- Examples of loading. Each shows that a definition of a change differs from one that svnadmin load doesn't have.
 use Rattle.dump_trees.proofs.Prelude.{◌≡◌, option_map, codes, refl, Property, Node, root_alone, Made, Change, loaded_over}
 use Rattle.std.proofs.Common.{true, List, [], ◌∷◌, ◌++◌, length, Some, None}
 use Rattle.dump_trees.proofs.values.ValueParts.{change, folder, file, copy, deletion, replacing, setting, writing, property, node_at, stands, is_refused}
 
--- two folders with a file in each
+-- two directories with a file in each
 abbrev begun : List (List Change)
 begun =
     (folder (codes "a") ∷ file (codes "a/f") (codes "1") ∷ folder (codes "c") ∷ file (codes "c/x")
     (codes "x") ∷ []) ∷ []
 
--- the same, and behind them one more change
+-- the same, and after them one more change
 abbrev then : Change → List (List Change)
 then c = begun ++ (c ∷ []) ∷ []
 
--- the same, and behind them two more
+-- the same, and after them two more changes
 abbrev then_both : Change → Change → List (List Change)
 then_both c d = begun ++ (c ∷ []) ∷ (d ∷ []) ∷ []
 

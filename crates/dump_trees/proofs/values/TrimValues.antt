@@ -1,4 +1,4 @@
--- Worked values of copies that stay, with deletions behind them.
+-- Examples of copies that stay, with deletions after them.
 use Rattle.dump_trees.proofs.Prelude.{◌≡◌, codes, refl, sym, ap, ◌∙◌, subst, at_top, inl, inr, bytes_eq, cond, AllZip, slice_get, path_of, NodePath, keeps, Node, Tree, put, grafted, root_alone, Made, Change, History, steps, list_any, below, loaded_over, IsRestricted, is_quiet, is_over}
 use Rattle.std.proofs.Common.{ℕ, Bool, true, false, ◌||◌, List, [], ◌∷◌, ◌++◌, Option, Some, None, option_and_then, is_some, is_none}
 use Rattle.dump_trees.specs.Branches.{Branch, Branches, tree_of, HasBranch}
@@ -33,7 +33,7 @@ not_itself expands =
 
 -- copies that are trimmed
 
--- the one file goes
+-- the file is deleted
 goes : CoverTaken (excluding (codes "b/s")) old (path_of (codes "b")) (path_of (codes "a")) (path_of (codes "s") ∷ [])
 goes = record { kept = refl; left = refl; stand = refl; apart = refl; all = all }
   where
@@ -53,11 +53,11 @@ goes = record { kept = refl; left = refl; stand = refl; apart = refl; all = all 
     all [] some kept left = absurd (let bad : true ≡ false = left in cc)
     all (name ∷ rest) some kept left = named name rest (bytes_eq (codes "s") name) refl some
 
--- it has to
+-- it has to be deleted
 left_there : CoverTaken (excluding (codes "b/s")) old (path_of (codes "b")) (path_of (codes "a")) [] → ⊥
 left_there cover = absurd (let bad : false ≡ true = cover.all (path_of (codes "s")) refl refl refl in cc)
 
--- and nothing else
+-- and nothing else is
 kept_goes : CoverTaken (excluding (codes "b/t")) old (path_of (codes "b")) (path_of (codes "a"))
     (path_of (codes "s") ∷ []) → ⊥
 kept_goes cover = absurd (let bad : false ≡ true = cover.left in cc)
@@ -66,7 +66,7 @@ nothing_goes : CoverTaken (excluding (codes "b/t")) old (path_of (codes "b")) (p
     (path_of (codes "t") ∷ []) → ⊥
 nothing_goes cover = absurd (let bad : false ≡ true = cover.stand in cc)
 
--- each once
+-- each path is deleted once
 not_twice : CoverTaken (excluding (codes "b/s")) old (path_of (codes "b")) (path_of (codes "a"))
     (path_of (codes "s") ∷ path_of (codes "s") ∷ []) → ⊥
 not_twice cover = absurd (let bad : false ≡ true = cover.apart in cc)
@@ -76,7 +76,7 @@ not_taken : CoverTaken (record (excluding (codes "b/s")) { prefixes = codes "a/s
     (path_of (codes "b")) (path_of (codes "a")) (path_of (codes "s") ∷ []) → ⊥
 not_taken cover = absurd (let bad : false ≡ true = cover.kept in cc)
 
--- found in the branch, the topmost ones alone
+-- they are found in the branch: only the topmost ones
 
 abbrev deeper : Branch
 deeper = Branch.Folder [] (Branches.Named (codes "d") with_file Branches.NoMore)
@@ -92,7 +92,7 @@ found_file = refl
 found_none : taken_tops (excluding (codes "a/d")) (path_of (codes "b")) (path_of (codes "a")) deeper ≡ []
 found_none = refl
 
--- the copy, and the deletion behind it
+-- the copy, and the deletion after it
 abbrev trimmed : List ℕ → Option Node
 trimmed path = option_and_then (λ tree. tree (path_of path))
     (steps history old (copy 1 (codes "a") (codes "b") ∷ deletion (codes "b/s") ∷ []))
@@ -116,7 +116,7 @@ not_before = refl
 abbrev whole : List (List Change)
 whole = (folder (codes "a") ∷ file (codes "a/s") (codes "1") ∷ []) ∷ (copy 1 (codes "a") (codes "b") ∷ []) ∷ []
 
--- the copy stays, and the file is deleted behind it
+-- the copy stays, and the file is deleted after it
 abbrev written : List (List Change)
 written = (folder (codes "a") ∷ file (codes "a/s") (codes "1") ∷ [])
     ∷ (copy 1 (codes "a") (codes "b") ∷ deletion (codes "b/s") ∷ []) ∷ []
@@ -147,7 +147,7 @@ nothing_back b =
     absurd (let bad : true ≡ false
     = subst (λ p. keeps (excluding (codes "b/s")) (p ++ b.rest) ≡ false) (sym source) b.left in cc)
 
--- a change that stays, and has nothing behind it
+-- a change that stays, and has nothing after it
 stays_alone : (history : History) (before : Tree) (c : Change) → is_quiet (excluding (codes "b/s")) c ≡ true
     → is_over (excluding (codes "b/s")) before c ≡ false → IsTrimmed (excluding (codes "b/s")) history before c []
 stays_alone history before c quiet over =

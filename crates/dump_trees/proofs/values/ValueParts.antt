@@ -1,4 +1,4 @@
--- Parts of the worked values: options, changes, and what stands in a loaded dump.
+-- Parts of the examples: options, changes, and what exists in a loaded dump.
 use Rattle.dump_trees.proofs.Prelude.{◌≡◌, refl, ap, slice_get, Property, Include, Exclude, DropEmptied, Settings, path_of, keeps, Node, Tree, root_alone, Made, PropertyChange, TextChange, Change, NewProperty, KeepsEntries, IsNewChange, IsMade, loaded_over, EmptyRule}
 use Rattle.std.specs.Prelude.{ℕ, Bool, true, false, ◌&&◌, List, [], ◌∷◌, ◌++◌, length, Option, Some, None, option_and_then, is_some, is_none}
 
@@ -37,7 +37,7 @@ as_it_was = IsMade (λ p. p)
 abbrev pub change : List ℕ → Change
 change path = record { path = path_of path; deletes = false; made = None; props = None; text = None }
 
--- a new folder
+-- a new directory
 abbrev pub folder : List ℕ → Change
 folder path = record { path = path_of path; deletes = false; made = Some Made.NewFolder; props = None; text = None }
 
@@ -66,7 +66,7 @@ copy number source path = record {
 abbrev pub deletion : List ℕ → Change
 deletion path = record { path = path_of path; deletes = true; made = None; props = None; text = None }
 
--- the change, which also deletes what stands at its path
+-- the change, which also deletes what exists at its path
 abbrev pub replacing : Change → Change
 replacing c = record c { deletes = true }
 
@@ -90,17 +90,17 @@ patching patch c = record c { text = Some (TextChange.Patched patch) }
 abbrev pub property : List ℕ → List ℕ → Property
 property name value = record { name = name; value = Some value }
 
--- an entry that takes the property of this name away
+-- an entry that removes the property of this name
 abbrev pub removal : List ℕ → Property
 removal name = record { name = name; value = None }
 
--- the filter keeps entries where it leaves properties as they are
+-- the filter keeps entries if it leaves properties as they are
 pub entries_stay : KeepsEntries as_it_was
 entries_stay old new same = (ap (λ (p : Property). p.name) same, ap (λ (p : Property). is_some p.value) same)
 
 -- what is written of changes
 
--- a new folder is written as it stands
+-- a new directory is written as it is
 pub same_folder : (settings : Settings) (number : ℕ → ℕ → Type 0) (path : List ℕ)
     → IsNewChange settings as_it_was number (folder path) (folder path)
 same_folder settings number path = record { path = refl; deletes = refl; made = tt; props = tt; text = refl }
@@ -119,16 +119,16 @@ same_copy settings number old new source path kept is =
 
 -- loaded dumps
 
--- what stands at a path in a revision
+-- what exists at a path in a revision
 abbrev pub node_at : Option (List Tree) → ℕ → List ℕ → Option Node
 node_at trees number path =
     option_and_then (λ tree. tree (path_of path)) (option_and_then (λ ts. slice_get ts number) trees)
 
--- what stands at a path once these revisions are loaded into a new repository
+-- what exists at a path after these revisions are loaded into a new repository
 abbrev pub stands : List (List Change) → List ℕ → Option Node
 stands revisions path = node_at (loaded_over root_alone revisions) (length revisions) path
 
--- whether these revisions load, and one more with this change alone is refused
+-- whether these revisions load, and one more that has only this change is rejected
 abbrev pub is_refused : List (List Change) → Change → Bool
 is_refused revisions c =
     is_some (loaded_over root_alone revisions) && is_none (loaded_over root_alone (revisions ++ (c ∷ []) ∷ []))

@@ -1,4 +1,4 @@
--- Worked values of the definitions, computed and proved by the kernel.
+-- Examples for the definitions; the checker computes and proves them.
 use Rattle.dump_trees.proofs.Prelude.{◌≡◌, codes, refl, image, path_text, path_of, keeps, below, parent_of, Node, Tree, root_alone, Change, given, loaded_over, kept_of, AreFiltered, ImagesRestrict, is_quiet, are_quiet}
 use Rattle.std.proofs.Common.{true, false, List, [], ◌∷◌, Some, None, length}
 use Rattle.dump_trees.proofs.quiet.QuietLemmas.{quiet_history}
@@ -27,7 +27,7 @@ no_rest = refl
 parent : parent_of (path_of (codes "trunk/a/b")) ≡ Some (path_of (codes "trunk/a"))
 parent = refl
 
--- a history that is kept in part, with a dropped revision and a copy from behind it
+-- a history that is kept in part, with a dropped revision and a copy from after it
 
 abbrev pub whole : List (List Change)
 whole = (folder (codes "a") ∷ folder (codes "a/b") ∷ folder (codes "c") ∷ [])
@@ -61,7 +61,7 @@ dropped_image = refl
 all_quiet : are_quiet (including (codes "a/b")) whole ≡ true
 all_quiet = refl
 
--- the part is what the filter writes of the whole
+-- the part is what the filter writes of the whole history
 is_part : AreFiltered (including (codes "a/b")) as_it_was none_more whole part
 is_part = (
   folder (codes "a/b") ∷ [],
@@ -89,7 +89,7 @@ is_part = (
   ),
 )
 
--- so the law tells of the two loads, whatever their trees
+-- so the law says this of the two loads, whatever their trees
 the_law : (trees : List Tree) → loaded_over root_alone whole ≡ Some trees
     → (others : List Tree) × (loaded_over (given (including (codes "a/b"))) part ≡ Some others) × (length others ≡ 4)
     × ImagesRestrict (including (codes "a/b")) as_it_was
@@ -97,7 +97,7 @@ the_law : (trees : List Tree) → loaded_over root_alone whole ≡ Some trees
 the_law trees at =
     quiet_history (including (codes "a/b")) as_it_was entries_stay none_more whole part trees refl at refl refl is_part
 
--- what gives an alarm, and what it warns of
+-- changes that give an alarm, and what the alarm warns of
 
 -- a copy that loses what is excluded below its source: it is there in the whole load, at a kept path
 loses : is_quiet (excluding (codes "trunk/big")) (copy 1 (codes "trunk") (codes "branch")) ≡ false
@@ -116,11 +116,11 @@ not_there : node_at (loaded_over (given (excluding (codes "trunk/big")))
     ((folder (codes "trunk") ∷ []) ∷ (copy 1 (codes "trunk") (codes "branch") ∷ []) ∷ [])) 2 (codes "branch/big") ≡ None
 not_there = refl
 
--- a copy that lets in what is to be left out
+-- a copy that lets in what is excluded
 lets_in : is_quiet (excluding (codes "branch/secret")) (copy 1 (codes "trunk") (codes "branch")) ≡ false
 lets_in = refl
 
--- a folder that is deleted or copied as a whole, above an included prefix
+-- a directory above an included prefix is deleted or copied as a whole
 deletes_above : is_quiet (including (codes "a/b")) (deletion (codes "a")) ≡ false
 deletes_above = refl
 
