@@ -52,12 +52,12 @@ first_parts_go_on settings others number dump text first part records firsts cle
 
 -- cuts that don't differ
 
--- lists that are nothing together are nothing each
+-- if two lists joined are empty, each of them is empty
 both_none : {A : Type 0} (xs ys : List A) → [] ≡ xs ++ ys → (xs ≡ []) × (ys ≡ [])
 both_none [] ys none = (refl, sym none)
 both_none (x ∷ xs) ys none = absurd (let bad : [] ≡ x ∷ xs ++ ys = none in cc)
 
--- what passes a test isn't in a list of which nothing does
+-- an element that passes a test isn't in a list of which no element does
 none_passes : {A : Type 0} (f : A → Bool) (xs : List A) (x : A) → filter f xs ≡ [] → Contains xs x → f x ≡ false
 none_passes f xs x none there = cases (f x) refl
   where
@@ -65,7 +65,7 @@ none_passes f xs x none there = cases (f x) refl
     cases false is = refl
     cases true is = absurd (contains_none x (subst (λ l. Contains l x) none (filter_has f xs x there is)))
 
--- neither excludes a path alone at which something exists, or that is named
+-- if only one of the two excludes a path, nothing exists at it, and nothing names it
 record Agree (dump_names : List NodePath) (listed : List Listed) (paths others : List NodePath) : Type 0 where
   one : covered_alone listed others paths ≡ []
   other : covered_alone listed paths others ≡ []
@@ -99,7 +99,7 @@ once_above revisions path rest once = record {
       (loaded_folders (once.front ++ once.changes ∷ []) once.trees _ once.tree once.loads once.last) path rest once.exists;
 }
 
--- what exists once and these paths cover, the others cover too, if these don't exclude a path alone
+-- the others cover what exists once and these paths cover, if these paths exclude no path alone
 covered_too : (listed : List Listed) (revisions : List (List Change)) (paths others : List NodePath)
     → ((path : NodePath) → ExistsOnce revisions path → exists_ever listed path ≡ true)
     → covered_alone listed others paths ≡ [] → (path : NodePath) → ExistsOnce revisions path
@@ -221,7 +221,7 @@ node_makes patched records revisions makes r there node =
 
 -- filters that exclude the paths of such cuts
 
--- a text is kept the same where its path is covered the same
+-- both filters treat a text in the same way if both cover its path or neither does
 kept_alike : (settings others : Settings) (paths theirs : List NodePath) → ExcludesPaths settings paths
     → list_all has_node_names paths ≡ true → ExcludesPaths others theirs → list_all has_node_names theirs ≡ true
     → (text : List ℕ) → is_short text ≡ true → is_covered paths (path_of text) ≡ is_covered theirs (path_of text)
@@ -234,7 +234,7 @@ kept_alike settings others paths theirs excludes names exclude_too names_too tex
     ∙ (sym (excluded_match others theirs (path_of text) exclude_too names_too named)
     ∙ keeps_text others text)))
 
--- tests neither of which holds alone are the same
+-- two tests are the same if neither is true without the other
 by_none : (a b : Bool) → ((a && not b) || (b && not a)) ≡ false → a ≡ b
 by_none true true none = refl
 by_none true false none = none
@@ -268,14 +268,15 @@ line_named dump records r ps p lines line has among properties there merges read
       names = refl;
     }
 
--- these paths cover the same of the lines of mergeinfo in the records, as a load reads them
+-- both lists of paths cover the same lines of mergeinfo in the records, as a load reads them
 abbrev pub CoverLinesAlike : List NodePath → List NodePath → List DumpRecord → Type 0
 CoverLinesAlike paths theirs records = (r : DumpRecord) (ps : List Property) (p : Property) (lines : List MergeLine)
     (line : MergeLine) → Contains records r → HasPropertyList r ps → Contains ps p → is_mergeinfo p ≡ true
     → IsMergeinfo (value_of p) lines → Contains lines line
     → is_covered paths (canonical_path line.path) ≡ is_covered theirs (canonical_path line.path)
 
--- filters that exclude paths which cover the same of what exists once, and of the lines of mergeinfo, keep the same of the dump
+-- filters keep the same of the dump if the paths that they exclude cover the same of what exists once, and of the
+-- lines of mergeinfo
 pub covers_filter_alike : (patched : Patching) (settings others : Settings) (records : List DumpRecord)
     (revisions : List (List Change)) (trees : List Tree) (paths theirs : List NodePath)
     → LoadsAs patched root_alone records revisions trees → list_all (list_all does_something) revisions ≡ true

@@ -1,4 +1,4 @@
--- What filters write of a dump that they treat alike.
+-- What filters write of a dump whose records they treat in the same way.
 use Rattle.std.proofs.Common.{◌≡◌, ◌⊎◌, ℕ, ◌<◌, ◌==◌, Bool, true, false, not, ◌&&◌, ◌||◌, cond, List, [], ◌∷◌, ◌++◌, map, filter, codes, if◌then◌else◌, All, Contains, Some, None, MatchBool, IsTrue, refl, sym, ap, ◌∙◌, subst}
 use Rattle.std.proofs.lemmas.List.Elements.{All-cons, All-contains, All-contains_itself, All-head, All-nil, All-tail, All-take, All-weaker, Contains-push}
 use Rattle.std.specs.List.{AllZip, list_any, prefix_len}
@@ -41,7 +41,7 @@ filter_same p q (x ∷ xs) all =
     let this = All-head (λ x. p x ≡ q x) x xs all in
     let more = filter_same p q xs (All-tail (λ x. p x ≡ q x) x xs all) in λ i. cond (this i) (x ∷ more i) (more i)
 
--- a relation of two lists that the elements of the first carry over
+-- a relation of two lists that each element of the first list carries over
 zip_each : {A B : Type 0} (P Q : A → B → Type 0) (xs : List A) (ys : List B) → All (λ x. (y : B) → P x y → Q x y) xs
     → AllZip P xs ys → AllZip Q xs ys
 zip_each P Q [] [] each all = all
@@ -51,7 +51,7 @@ zip_each {A} {B} P Q (x ∷ xs) (y ∷ ys) each all =
 zip_each P Q [] (y ∷ ys) each all = absurd all
 zip_each P Q (x ∷ xs) [] each all = absurd all
 
--- what holds of a list holds of it up to one of its elements
+-- what is true of a list is true of its elements before one of them
 up_to : {X : Type 0} (P : X → Type 0) (before after : List X) (x : X) → All P (before ++ x ∷ after)
     → All P (before ++ x ∷ [])
 up_to P [] after x all = All-cons P x [] (All-head P x after all) (All-nil P)
@@ -63,7 +63,7 @@ module _ (settings others : Settings) (records : List DumpRecord) (alike : AreFi
   abbrev Among : List DumpRecord → Type 0
   Among rs = All (Contains records) rs
 
-  -- the same of a group's nodes is kept
+  -- both filters keep the same of a group's nodes
 
   same_kept_node : (g : Group) → Among g.nodes → has_kept_node settings g ≡ has_kept_node others g
   same_kept_node g among = any_same (is_kept_node settings) (is_kept_node others) g.nodes
@@ -93,7 +93,7 @@ module _ (settings others : Settings) (records : List DumpRecord) (alike : AreFi
       cases true own more = All-cons (λ (g : Group). Among g.nodes) (group_of r rs) (groups rs) own more
       cases false own more = more
 
-  -- so the same revisions are kept
+  -- so both keep the same revisions
   same_revisions : (rs : List DumpRecord) → Among rs → kept_revisions settings rs ≡ kept_revisions others rs
   same_revisions rs among =
       ap (λ (gs : List Group). record { first = first_number (revision_numbers rs); numbers = map group_number gs })
@@ -101,7 +101,7 @@ module _ (settings others : Settings) (records : List DumpRecord) (alike : AreFi
       (All-weaker (λ (g : Group). Among g.nodes) (λ g. keeps_group settings g ≡ keeps_group others g) same_keeps (groups rs)
       (groups_among rs among)))
 
-  -- the same of these lines is kept
+  -- both filters keep the same of these lines
   abbrev AreKeptAlike : List MergeLine → Type 0
   AreKeptAlike lines = (line : MergeLine) → Contains lines line → keeps_path settings line.path ≡ keeps_path others line.path
 
@@ -226,7 +226,7 @@ module _ (settings others : Settings) (records : List DumpRecord) (alike : AreFi
         cases there behind true written out = same_output r after front there behind written out
         cases there behind false left none = none
 
-  -- a fault of one filter is one of the other
+  -- a fault of one filter is a fault of the other
 
   own_value : (r : DumpRecord) (value : List ℕ) → Contains records r → IsMergeinfoValueOf others r value
       → IsMergeinfoValueOf settings r value
@@ -294,7 +294,7 @@ module _ (settings others : Settings) (records : List DumpRecord) (alike : AreFi
         ),
       )
 
--- filters that treat a dump's records alike write the same of it
+-- filters that treat a dump's records in the same way write the same of the dump
 pub filters_alike : FiltersWriteAlike
 filters_alike settings others dump text records alike clean = record {
   whole = clean.whole;

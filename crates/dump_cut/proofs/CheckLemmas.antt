@@ -24,7 +24,7 @@ named_at (change ∷ changes) (suc place) d named low =
     named_at changes place d (and_parts (has_named_paths (listed_of change)) (list_all has_named_paths (map listed_of changes)) named).1
     (omega (arith, low))
 
--- the change of the repository that the one at a place stands for
+-- the change of the repository that the change at a place represents
 pub record Stands (changes : List NodeChange) (placed : List Placed) (place : ℕ) (d : NodeChange) : Type 0 where
   pub p : Placed
   pub there : slice_get placed place ≡ Some p

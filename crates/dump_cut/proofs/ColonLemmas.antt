@@ -12,7 +12,7 @@ use Rattle.dump_rules.proofs.reading.MergeinfoLemmas.{colon_end_is}
 abbrev pub HasLastColon : List ℕ → Type 0
 HasLastColon line = (text ranges : List ℕ) × (line ≡ (text ++ 58 ∷ []) ++ ranges) × (has_byte 58 ranges ≡ false)
 
--- each line with a colon is
+-- each line with a colon has this form
 pub last_colon : (line : List ℕ) → has_byte 58 line ≡ true → HasLastColon line
 last_colon [] some = absurd (let bad : false ≡ true = some in cc)
 last_colon (c ∷ line) some = cases (has_byte 58 line) refl (last_colon line)

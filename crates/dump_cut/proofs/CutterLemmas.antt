@@ -13,7 +13,7 @@ use Rattle.dump_records.proofs.CutLemmas.{count_fits}
 use Rattle.dump_records.proofs.ListLaw.{each_dump_has_one_list}
 use Rattle.dump_records.proofs.Prefixes.{begins_prefix, is_front, one_more, whole_list}
 
--- the records that the cutter has given
+-- the records that the cutter has returned
 pub record ReadSoFar (dump : List ℕ) (cutter : CutterState) : Type 0 where
   pub dump_is : cutter.dump ≡ dump
   pub before : List DumpRecord
@@ -57,7 +57,7 @@ module _ (dump : List ℕ) (cutter after : CutterState) (read : ReadSoFar dump c
           ∙ (ap (λ n. n + 1) read.count ∙ sym (ap (λ (c : CutterState). c.number) step.3));
     }
 
-    -- the records of a whole dump go on after it
+    -- the records of a whole dump continue after these
     pub goes_on : (records : List DumpRecord) → HasRecords dump records Ending.Whole
         → (rest : List DumpRecord) × (records ≡ read.before ++ record_item item ∷ rest)
     goes_on records has =
@@ -69,7 +69,7 @@ module _ (dump : List ℕ) (cutter after : CutterState) (read : ReadSoFar dump c
               ∙ append_assoc read.before (record_item item ∷ []) (drop (length all) records),
         )
 
-  -- where the records end
+  -- the state when the records end
   pub read_ends : (ending : Ending) → EndsAfter cutter.dump cutter.number ending → HasRecords dump read.before ending
   read_ends ending ends = whole_list dump read.before ending read.begins
       (subst (λ d. EndsAfter d (length read.before) ending) read.dump_is

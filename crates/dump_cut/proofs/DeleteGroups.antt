@@ -16,20 +16,20 @@ use Rattle.dump_history.specs.TrimmedDumps.{node_parts, part_groups}
 use Rattle.dump_history.specs.WrittenNodes.{WrittenNode}
 use Rattle.dump_cut.specs.TrimmedCopies.{delete_nodes, deletes_behind}
 
--- a list, cut into parts of these lengths
+-- the parts of a list that have these lengths
 abbrev pub parts_of : {A : Type 0} → List ℕ → List A → List (List A)
 parts_of [] xs = []
 parts_of (n ∷ lengths) xs = take n xs ∷ parts_of lengths (drop n xs)
 
--- with how many nodes the records begin
+-- the number of nodes at the beginning of the records
 abbrev pub front_nodes : List DumpRecord → ℕ
 front_nodes records = length (take_while is_node records)
 
--- how many nodes each revision has
+-- the number of nodes of each revision
 abbrev pub group_sizes : List Group → List ℕ
 group_sizes gs = map (λ (g : Group). length g.nodes) gs
 
--- how many nodes there are
+-- the number of all nodes
 abbrev pub all_sizes : List ℕ → ℕ
 all_sizes [] = 0
 all_sizes (n ∷ lengths) = n + all_sizes lengths
@@ -61,7 +61,7 @@ front_other : (r : DumpRecord) (records : List DumpRecord) → is_node r ≡ fal
 front_other r records isnt =
     ap length (take_while-cons is_node r records ∙ ap (λ b. cond b (r ∷ take_while is_node records) []) isnt)
 
--- no node comes first, where none may
+-- no node comes first if none may
 pub none_first : (records : List DumpRecord) → has_ordered_nodes false records ≡ true → front_nodes records ≡ 0
 none_first [] order = refl
 none_first (r ∷ records) order = cases (is_node r) refl
@@ -73,7 +73,7 @@ none_first (r ∷ records) order = cases (is_node r) refl
         (has_ordered_nodes (is_revision_record r || is_node r) records) order).0 in
         absurd (let bad : false ≡ true = sym (ap (λ b. not b || false) is) ∙ first in cc)
 
--- the nodes with which the records begin have the first deletes
+-- the nodes at the beginning of the records have the first deletes
 front_parts : (records : List DumpRecord) (deletes : List (List (List ℕ))) → front_nodes records ≤ length deletes
     → node_parts records (deletes_behind records deletes) ≡ map delete_nodes (take (front_nodes records) deletes)
 front_parts [] deletes low = refl

@@ -1,4 +1,4 @@
--- Paths that one cut excludes alone.
+-- Paths that only one of two cuts excludes.
 use Rattle.std.proofs.Common.{◌≡◌, ℕ, zero, suc, ◌<◌, true, false, Bor, List, [], ◌∷◌, length, map, get_or, ap, ◌∙◌, arith}
 use Rattle.std.specs.List.{list_all}
 use Rattle.std.proofs.lemmas.Bool.{and_parts}
@@ -27,7 +27,7 @@ pub bare_text : (texts : List (Bor (List ℕ))) (n : ℕ) (d : Bor (List ℕ))
     → ends_in_slash (get_or texts n d).now ≡ false
 bare_text texts n d all low = ends_named (get_or texts n d).now (named_text texts n d all low)
 
--- the paths of texts that are lent
+-- the paths of borrowed texts
 pub seen_paths : (texts lent : List (Bor (List ℕ))) (paths : List (List ℕ)) → texts ≡ lent
     → map (λ text. text.now) lent ≡ paths → map (λ text. names_of text.now) texts ≡ paths_of paths
 seen_paths texts lent paths same are =

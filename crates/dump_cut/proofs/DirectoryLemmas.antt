@@ -21,7 +21,7 @@ use Rattle.dump_cut.specs.steps.ExcludedPaths.{paths_of}
 use Rattle.dump_cut.specs.steps.ExcludedTexts.{is_text_below}
 use Rattle.dump_cut.proofs.RangeLemmas.{below_goes_on}
 
--- names that are sorted, each once
+-- names that are sorted and without duplicates
 pub once_ordered : (sorted once : List (Bor (List ℕ))) → IsSorted (λ one two. slice_cmp nat_cmp one.now two.now) sorted
     → once ≡ dedup same_texts sorted → IsStrictlySortedBy (slice_cmp nat_cmp) (texts_of once)
 once_ordered sorted once up is =
@@ -29,14 +29,14 @@ once_ordered sorted once up is =
     (λ (ns : List (Bor (List ℕ))). IsStrictlySortedBy (λ one two. slice_cmp nat_cmp one.now two.now) ns) (sym is)
     (IsStrictlySortedBy-dedup (on_texts (λ (text : Bor (List ℕ)). text.now)) (λ one two. texts_ties one.now two.now) sorted up))
 
--- whether the text is the part of a path before a slash that comes before this place
+-- whether the text is the part of the path before a slash at an index below this one
 abbrev pub is_front_within : ℕ → List ℕ → List ℕ → Bool
 is_front_within k path front = goes_on front path && nat_lt (length front) k
 
 same_flipped : (one other : List ℕ) → bytes_eq one other ≡ true → bytes_eq other one ≡ true
 same_flipped one other is = (bytes_eq-Decides other one).1 (sym ((bytes_eq-Decides one other).0 is))
 
--- none at the start
+-- there is none at the beginning
 pub no_front : (path front : List ℕ) → is_front_within 0 path front ≡ false
 no_front path front =
     false_from_ne_true (is_front_within 0 path front) (λ is.
@@ -77,7 +77,7 @@ front_more path front k low slash = both_ways _ _ up down
               (same_flipped front (take k path) (subst (λ n. bytes_eq front (take n path) ≡ true) same cut.1))
         ]
 
--- or another one
+-- one more byte that is no slash
 pub front_same : (path front : List ℕ) (k : ℕ) → (get_or path k 0 ≡ 47 → ⊥)
     → is_front_within k path front ≡ is_front_within (k + 1) path front
 front_same path front k other = both_ways _ _ up down
@@ -100,13 +100,13 @@ front_same path front k other = both_ways _ _ up down
               absurd (other (eqb-true (get_or path k 0) 47 (subst (λ n. nat_eq (get_or path n 0) 47 ≡ true) same cut.2)))
         ]
 
--- all of them
+-- all parts of the path
 pub front_all : (path front : List ℕ) (k : ℕ) → length path ≤ k → is_front_within k path front ≡ goes_on front path
 front_all path front k low = both_ways _ _ (λ is. (and_parts (goes_on front path) (nat_lt (length front) k) is).0) (λ is.
     let cut = goes_on_cut front path is in let less = cut.0 in
     and_from (goes_on front path) (nat_lt (length front) k) is (lt-ltb (length front) k (omega (arith, low, less))))
 
--- the directories above paths are those that the texts of the paths go on after, and the root
+-- a directory is above paths if it is the root, or if a path's text begins with the directory's text and a slash
 
 below_text : (top text : List ℕ) → has_name_behind (below (names_of top) (names_of text)) ≡ is_text_below top text
 below_text top text = cases (bytes_eq top text) (stands_over text top) refl refl

@@ -28,7 +28,7 @@ fates_by settings present [] = ended_fates settings present
 fates_by settings present (r ∷ records) =
     fates_before settings present r ++ fates_by settings (open_after settings present r) records
 
--- what becomes of the open revision, where these nodes follow
+-- the fate of the open revision, if these nodes follow
 abbrev closed_fates : Settings → Option OpenRevision → List DumpRecord → List RevisionFate
 closed_fates settings None ns = []
 closed_fates settings (Some p) ns = record {
@@ -37,7 +37,7 @@ closed_fates settings (Some p) ns = record {
       || keeps_empty settings.empty (p.bare && length ns == 0);
 } ∷ []
 
--- no node is a revision
+-- no record is both a node and a revision
 abbrev pub AreOfOneKind : List DumpRecord → Type 0
 AreOfOneKind [] = ⊤
 AreOfOneKind (r ∷ records) = (is_node r ≡ true → is_revision_record r ≡ false) × AreOfOneKind records
@@ -51,7 +51,7 @@ kinds_of_cut number place text rest (r ∷ records) (lfs, front, after, is, at, 
 kinds_begun : (dump : List ℕ) (records : List DumpRecord) → BeginsWithRecords dump records → AreOfOneKind records
 kinds_begun dump records (rest, cut, versions) = kinds_of_cut 0 0 dump rest records cut
 
--- the nodes that follow
+-- the nodes at the beginning of the records
 nodes_more : (r : DumpRecord) (records : List DumpRecord) → is_node r ≡ true
     → take_while is_node (r ∷ records) ≡ r ∷ take_while is_node records
 nodes_more r records is =
@@ -124,7 +124,7 @@ module _ (settings : Settings) (present : Option OpenRevision) (r : DumpRecord) 
   fates_step false true node other alone = of_node node
   fates_step false false other no_revision alone = of_other other
 
--- the fates that are added are those of the open revision and of the groups
+-- the added fates are those of the open revision and of the groups
 fates_are_by : (settings : Settings) (present : Option OpenRevision) (records : List DumpRecord) → AreOfOneKind records
     → fates_by settings present records
     ≡ closed_fates settings present (take_while is_node records) ++ fates_of_groups settings records
@@ -133,7 +133,7 @@ fates_are_by settings present (r ∷ records) kinds =
     fates_step settings present r records (λ next. fates_are_by settings next records kinds.1) (is_revision_record r)
     (is_node r) refl refl kinds.0
 
--- what is known after the records that the cutter has given
+-- what is known after the records that the cutter has returned
 pub record FatesSoFar (settings : Settings) (dump : List ℕ) (cutter : CutterState) (present : Option OpenRevision)
     (fates : List RevisionFate) : Type 0 where
   pub read : ReadSoFar dump cutter
@@ -163,7 +163,7 @@ module _ (settings : Settings) (dump : List ℕ) (cutter after : CutterState) (p
         ∙ ap₂ (λ (fs : List RevisionFate) (o : Option OpenRevision). fs ++ fates_by settings o rest) (sym are) (sym is);
   }
 
-  -- where the records end
+  -- the fates when the records end
   ended_with : (ending : Ending) → EndsAfter cutter.dump cutter.number ending → (all : List RevisionFate)
       → all ≡ fates ++ ended_fates settings present → AreFatesIn settings dump all
   ended_with ending ends all are = record {

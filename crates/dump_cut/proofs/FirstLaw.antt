@@ -37,10 +37,10 @@ use Rattle.dump_cut.specs.FirstParts.{FirstPartsAreFiltered}
 use Rattle.dump_cut.specs.LaterParts.{is_later_revision, place_of_first}
 use Rattle.dump_cut.proofs.LaterRecords.{BeginsGroup, before_first, begins_group, both_parts, first_is_dump, from_first, later_revision, same_later}
 
--- where numbers stay, what is written is the same for all kept revisions
+-- if the numbers don't change, what is written is the same for all kept revisions
 
 module _ (settings : Settings) (stays : settings.renumber ≡ false) (k l : KeptRevisions) where
-  -- what is so without renumbering
+  -- what is true without renumbering
   unnumbered : (A B C : Type 0) → MatchBool settings.renumber A C → MatchBool settings.renumber B C
   unnumbered A B C is = subst (λ b. MatchBool b B C) (sym stays) (MatchBool-at_false A C stays is)
 
@@ -101,7 +101,7 @@ module _ (settings : Settings) (stays : settings.renumber ≡ false) (k l : Kept
       )
       cases false false same = same
 
-  -- and by it the record is written or not
+  -- and by its group the record is written or not
   same_written : (r : DumpRecord) (after before : List DumpRecord) (text : List ℕ) → group_of r after ≡ group_of r before
       → MatchBool (is_written settings true r after) (IsOutput settings k r after text) (text ≡ [])
       → MatchBool (is_written settings true r before) (IsOutput settings l r before text) (text ≡ [])
@@ -129,7 +129,7 @@ record IsFirst (place n : ℕ) (s : DumpRecord) (after : List ℕ) (again : List
   headers : s.headers ≡ x.headers
   cut : IsCutInto (n + 1) (place + length (record_text s)) after more []
 
--- no record is in an empty text
+-- an empty text has no record
 no_record : (n : ℕ) (text : List ℕ) (r : DumpRecord) (after : List ℕ) → BeginsWithRecord n text r after → text ≡ [] → ⊥
 no_record n text r after b none = block_some r.headers (unique.content r after)
     (subst (λ t. BeginsWithBlock t r.headers (unique.content r after)) none (unique.begins n text r after b))
@@ -157,7 +157,7 @@ first_of_cut m n place pending text after s (x ∷ more) b (lfs, front, behind, 
           (subst (λ k. IsCutInto (n + 1) k behind more []) (λ i. place_is i + length (sym texts i)) cut);
     }
 
--- where the first record of a kind begins, it being this one or not
+-- where the first record of a kind begins, whether it is this one or not
 
 first_place : (is_such : DumpRecord → Bool) (place n size : ℕ) (s : DumpRecord) (after : List ℕ) (again : List DumpRecord)
     (f : IsFirst place n s after again) → is_such f.x ≡ true → place ≡ place_of_first is_such size again
@@ -176,7 +176,7 @@ group_join : (x : DumpRecord) (xs ys : List DumpRecord) → BeginsGroup ys → g
 group_join x xs [] begins = ap (group_of x) (append-nil xs)
 group_join x xs (y ∷ ys) begins = group_before x xs ys y begins
 
--- so it is the same in the first part
+-- so the group is the same in the first part
 group_stays : (number : ℕ) (r : DumpRecord) (rest : List DumpRecord) → AllFit rest
     → group_of r rest ≡ group_of r (before_first (is_later_revision number) rest)
 group_stays number r rest fit =
@@ -196,7 +196,7 @@ module _ (settings : Settings) (k l : KeptRevisions) (number : ℕ) (stays : set
       rw revision (ap (λ b. b && true) (or_right (revision_number r == 0 || has_kept_node settings g)
       (keeps_empty settings.empty (is_bare g)) (ap (λ e. keeps_empty e (is_bare g)) pad)))
 
-  -- what is read again of a record is such a revision where the record is
+  -- what is read again of a record is such a revision exactly if the record is
   again_later : (r s : DumpRecord) (after : List DumpRecord) (front : List ℕ) → IsReadAgain settings k r after front s
       → is_later_revision number s ≡ is_later_revision number r
   again_later r s after front read = cases (is_revision_record r) refl
@@ -210,7 +210,7 @@ module _ (settings : Settings) (k l : KeptRevisions) (number : ℕ) (stays : set
           λ i. read.revision i && nat_lt number (number_is i)
       cases false other = rw (read.revision, other) refl
 
-  -- what is written of a record is the first record again
+  -- the first record that is read again is what is written of the record
   record FirstRead (n place : ℕ) (r : DumpRecord) (rest : List DumpRecord) (front behind : List ℕ) (again : List DumpRecord)
       : Type 0 where
     s : DumpRecord
@@ -328,7 +328,8 @@ module _ (settings : Settings) (k l : KeptRevisions) (number : ℕ) (stays : set
           (further n place pending again (subst (λ t. IsCutInto n place (line_feeds pending ++ t) again []) same cut)
           (omega (arith, total, empty, fits)))
 
--- where each revision is written under its own number, the first part of what is written is what is written of the first part
+-- if each revision is written under its own number, the first part of what is written is what is written of the first
+-- part
 pub first_parts_are_filtered : FirstPartsAreFiltered
 first_parts_are_filtered settings number dump text first part records clean fit stays pad is_first is_part =
     let is_later = is_later_revision number in

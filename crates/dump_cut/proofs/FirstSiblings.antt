@@ -40,7 +40,7 @@ use Rattle.dump_cut.proofs.LaterRecords.{before_first, both_parts, first_is_dump
 
 -- the changes of the first revisions
 
--- all of one revision are in one up to a number that isn't lower
+-- the changes of one revision are in a revision up to a number that isn't lower
 one_up_to : (bound number : ℕ) (changes : List Change) → number ≤ bound
     → list_all (λ (p : Placed). nat_le p.revision bound) (of_one number changes) ≡ true
 one_up_to bound number [] low = refl
@@ -48,7 +48,7 @@ one_up_to bound number (c ∷ changes) low =
     and_from (nat_le number bound) (list_all (λ (p : Placed). nat_le p.revision bound) (of_one number changes))
     (le-leb number bound low) (one_up_to bound number changes low)
 
--- as many as the first revisions have are in revisions up to the number of their last one
+-- the revisions up to the number of the last of some first revisions have as many changes as these
 end_is : (n start bound : ℕ) (revisions : List (List Change)) → start + n ≡ suc bound
     → end_of (placed_from start revisions) bound ≡ length (placed_from start (take n revisions))
 end_is zero start bound revisions same =
@@ -64,7 +64,7 @@ end_is (suc n) start bound (changes ∷ revisions) same =
     (end_is n (suc start) bound revisions (omega (arith, same)))
     ∙ sym (length-append (of_one start changes) (placed_from (suc start) (take n revisions))))
 
--- so they are the first ones, this many
+-- so this many first changes are those of the first revisions
 placed_taken : (number : ℕ) (revisions : List (List Change))
     → take (end_of (placed_from 1 revisions) number) (placed_from 1 revisions) ≡ placed_from 1 (take number revisions)
 placed_taken number revisions =
@@ -85,7 +85,7 @@ zip_take R (suc n) [] (y ∷ ys) all = absurd all
 zip_take R (suc n) (x ∷ xs) [] all = absurd all
 zip_take R (suc n) (x ∷ xs) (y ∷ ys) (one, all) = (one, zip_take R n xs ys all)
 
--- siblings that are found in them are all that exist in the first revisions
+-- siblings that are found in the first changes are all siblings that exist in the first revisions
 first_are_all : (changes : List NodeChange) (revisions : List (List Change)) (number : ℕ) (included siblings : List NodePath)
     → AreListed changes (placed_from 1 revisions)
     → AreFoundSiblings (take (end_of (placed_from 1 revisions) number) (map listed_of changes)) included siblings
@@ -119,7 +119,7 @@ once_in_all number revisions path once = record {
   exists = once.exists;
 }
 
--- what exists once and siblings cover, those cover that are found among it: the sibling above exists too
+-- if siblings cover what exists once, so do the siblings that are found there: the sibling above exists too
 covered_in : (included : List NodePath) (revisions : List (List Change)) (siblings others : List NodePath)
     → list_all (is_sibling included) siblings ≡ true → AreEverSiblings included revisions others → (path : NodePath)
     → ExistsOnce revisions path → is_covered siblings path ≡ true → is_covered others path ≡ true
@@ -132,7 +132,7 @@ covered_in included revisions siblings others each all path once is =
     (are.all (length (above.front ++ above.changes ∷ [])) above.tree top above.last above.exists
     (all_has (is_sibling included) siblings top each among)))
 
--- siblings that are found in the whole and in the first part cover the same of that
+-- siblings that are found in the whole dump and in its first part cover the same of that part
 pub first_siblings_cover_the_same : FirstSiblingsCoverTheSame
 first_siblings_cover_the_same changes revisions number included siblings first_siblings listed found first_found path once =
     same_answer (is_covered siblings path) (is_covered first_siblings path)
@@ -143,7 +143,7 @@ first_siblings_cover_the_same changes revisions number included siblings first_s
 
 -- filters that exclude them
 
--- what siblings cover isn't in the cut: they aren't, and nothing below them is
+-- what siblings cover isn't in the cut, since neither they nor paths below them are
 covered_outside : (included siblings : List NodePath) (path : NodePath) → list_all (is_sibling included) siblings ≡ true
     → is_covered siblings path ≡ true → is_in_cut included path ≡ false
 covered_outside included siblings path each is =

@@ -18,7 +18,7 @@ use Rattle.dump_cut.specs.TrimmedCopies.{delete_nodes, deletes_behind}
 use Rattle.dump_cut.proofs.LaterRecords.{before_first, both_parts, first_is_dump, from_first, same_later, zip_parts}
 use Rattle.dump_cut.proofs.TrimmedTextLemmas.{cut_texts}
 
--- the same records at other places have the same texts
+-- records that are the same at other places have the same texts
 same_texts : (xs ys : List DumpRecord) (text : List ℕ) → AllZip IsSameRecord xs ys → AreRecordTexts ys text
     → AreRecordTexts xs text
 same_texts [] [] text same texts = texts
@@ -32,7 +32,7 @@ same_texts (x ∷ xs) (y ∷ ys) text (one, same) (lfs, rest, is, texts) = (
 )
 
 module _ (number : ℕ) where
-  -- those before the first revision above a number are the same
+  -- the records before the first revision above a number are the same
   same_firsts : (xs ys : List DumpRecord) → AllZip IsSameRecord xs ys
       → AllZip IsSameRecord (before_first (is_later_revision number) xs) (before_first (is_later_revision number) ys)
   same_firsts [] [] same = tt
@@ -50,7 +50,7 @@ module _ (number : ℕ) where
       cases true more = tt
       cases false more = (one, more)
 
-  -- no node that is written is such a revision
+  -- no written node is such a revision
   nodes_pass : (place version : ℕ) (nodes : List WrittenNode) (rest : List DumpRecord)
       → before_first (is_later_revision number) (map (node_record place version) nodes ++ rest)
       ≡ map (node_record place version) nodes ++ before_first (is_later_revision number) rest
@@ -59,7 +59,7 @@ module _ (number : ℕ) where
       rw (written_node place version w).no_revision
       (ap (λ (rs : List DumpRecord). node_record place version w ∷ rs) (nodes_pass place version nodes rest))
 
-  -- after the records before it are the nodes that follow them
+  -- with the nodes that follow them, the records before it are those before it with their nodes
   firsts_behind : (records : List DumpRecord) (behind : List (List WrittenNode))
       → before_first (is_later_revision number) (records_behind records behind)
       ≡ records_behind (before_first (is_later_revision number) records)
@@ -106,7 +106,8 @@ deletes_front (x ∷ xs) ys (paths ∷ deletes) =
 abbrev HasTexts : List DumpRecord → List ℕ → Type 0
 HasTexts records text = (lfs : ℕ) × (front : List ℕ) × (text ≡ line_feeds lfs ++ front) × AreRecordTexts records front
 
--- if records are those of a dump with these deletes, the text of the first ones is that of the dump's first ones with them
+-- if records are those of a dump with these deletes, the text of the first ones is that of the dump's first ones with
+-- the deletes
 texts_trimmed : (number : ℕ) (deletes : List (List (List ℕ))) (part : List ℕ) (records parts : List DumpRecord)
     → AllZip (λ r nodes. IsTrue (may_stand_behind r nodes)) records (deletes_behind records deletes)
     → AllZip IsSameRecord (records_behind records (deletes_behind records deletes)) parts

@@ -33,7 +33,7 @@ use Rattle.dump_cut.specs.FollowedCopies.{ComeByFollowing, IsIndexOf}
 use Rattle.dump_cut.specs.steps.FollowedPaths.{AddsOne, AddsPath, AreFollowedTo, ArePlaced, IsFollowedTo, IsIdle, KeepsFollowing, LeadsTo, paths_made, place_at_turn}
 use Rattle.dump_cut.proofs.GrowingLemmas.{added_covers}
 
--- the rest of the copy at a place is among all rests
+-- a place below a count is the last one, or below the last one
 
 last_or_before : (place count : ℕ) → place < suc count → (place ≡ count → ⊥) → place < count
 last_or_before place count low other = omega (arith, low, other)
@@ -71,7 +71,7 @@ at_listed way tops told placed (suc count) place rest low there =
         (map (λ r. record { place = count; rest = r }) (rests_at way tops told placed (slice_get placed count)))
         (record { place = place; rest = rest }) (further less there)
 
--- a copy that an index lists is followed to what it says
+-- a copy that an index lists is followed to the paths that the index gives
 
 pub followed_at : (way : Way) (tops : List NodePath) (listed : List Listed) (place : ℕ) (l : Listed) (number : ℕ)
     (source : NodePath) (revisions : List (List Change)) (trees : List Tree) (rest : NodePath)
@@ -125,7 +125,7 @@ followed_at way tops listed place l number source revisions trees rest there mad
         let same : k ≡ l = cc in
         found p at (subst (λ (m : Listed). IsListed m p) same its)
 
--- one addition more
+-- one more addition
 
 followed_more : (way : Way) (trees : List Tree) (revisions : List (List Change)) (additions : List NodePath)
     (tops mid : List NodePath) (added : NodePath) (more : List NodePath)
@@ -256,7 +256,7 @@ map_contains to (rest ∷ rests) path there =
           let (found, among, same) = map_contains to rests path later in (found, contains_later rest rests found among, same)
     ]
 
--- the paths to which the copies of a change are followed, from the rests that are given
+-- the paths to which the copies of a change are followed, from the given rests
 pub paths_followed : (way : Way) (tops : List NodePath) (listed : List Listed) (l : Listed) (number : ℕ) (source : NodePath)
     (paths : List NodePath) (to : NodePath) (rests : List NodePath) → l.made ≡ Some (Made.Copied number source)
     → to ≡ to_of way (names_of l.path) source → paths ≡ map (λ rest. to ++ rest) rests
@@ -269,7 +269,7 @@ paths_followed way tops listed l number source paths to rests made goes are told
     (followed_at way tops listed place l number source revisions trees rest there made index
     (subst (λ rs. Contains rs rest) (told (placed_from 1 revisions) index.lists) its))
 
--- what is kept by one step, and then by another
+-- what one step and then another one keep
 pub keeps_both : (way : Way) (listed : List Listed) (old before mid adds new after : List NodePath)
     → KeepsFollowing way listed old before mid adds → KeepsFollowing way listed mid adds new after
     → KeepsFollowing way listed old before new after
@@ -299,7 +299,7 @@ none_placed way listed revisions trees index = All-nil _
 
 -- what adds nothing
 
--- where there is no addition more, the path was covered, and the paths are the same
+-- if there is no further addition, the path was covered, and the paths are the same
 pub unadded : (old before : List NodePath) (added : NodePath) (new after : List NodePath)
     → AddsPath old before added new after → length after ≡ length before
     → (new ≡ old) × (is_covered old added ≡ true)
@@ -323,7 +323,7 @@ not_shorter place path before after (inl same) =
 not_shorter place path before after (inr (added, more, at, is)) =
     let longer : length after ≡ length before + 1 = ap length more ∙ length-append before (added ∷ []) in omega (arith, longer)
 
--- one path more adds nothing
+-- one more path that adds nothing
 pub idle_more : (first : List NodePath) (paths : List NodePath) (mid new : List NodePath) (path : NodePath)
     → IsIdle first paths mid → (new ≡ mid) × (is_covered mid path ≡ true) → IsIdle first (paths ++ path ∷ []) new
 idle_more first paths mid new path (same, covered) (next, its) = (
@@ -333,7 +333,7 @@ idle_more first paths mid new path (same, covered) (next, its) = (
       (and_from (is_covered first path) true (ap (λ tops. is_covered tops path) (sym same) ∙ its) refl),
 )
 
--- where all paths to which a change is followed are covered, it isn't followed
+-- if all paths to which a change is followed are covered, it isn't followed
 pub nothing_made : (way : Way) (tops : List NodePath) (told : ToldKinds) (placed : List Placed) (path : NodePath)
     (made : Option Made) → list_all (is_covered tops) (paths_made way tops told placed path made) ≡ true
     → rests_made way tops told placed path made ≡ []
@@ -363,7 +363,7 @@ pub none_there : (way : Way) (tops : List NodePath) (told : ToldKinds) (placed :
 none_there way tops told placed place p path made there at makes none =
     ap (rests_at way tops told placed) there ∙ ap₂ (λ here m. rests_made way tops told placed here m) at makes ∙ none
 
--- one turn more
+-- one more turn
 pub turn_more : (way : Way) (tops : List NodePath) (told : ToldKinds) (placed : List Placed) (count turn : ℕ)
     → ((k : ℕ) → k < turn → rests_at way tops told placed (slice_get placed (place_at_turn way k count)) ≡ [])
     → rests_at way tops told placed (slice_get placed (place_at_turn way turn count)) ≡ []
@@ -376,7 +376,7 @@ turn_more way tops told placed count turn before own k low =
           subst (λ t. rests_at way tops told placed (slice_get placed (place_at_turn way t count)) ≡ []) same own
     ]
 
--- after all turns there is none
+-- after all turns there is no addition
 pub all_turns : (way : Way) (tops : List NodePath) (told : ToldKinds) (placed : List Placed) (count : ℕ) → length placed ≡ count
     → ((k : ℕ) → k < count → rests_at way tops told placed (slice_get placed (place_at_turn way k count)) ≡ [])
     → all_rests way tops told placed (length placed) ≡ []

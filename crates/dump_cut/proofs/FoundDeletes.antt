@@ -52,7 +52,7 @@ lost_told excluded told placed p path made paths at makes named lost =
     ∙ (lost
     ∙ sym (ap₂ (λ to m. map (λ rest. to ++ rest) (rests_made Way.ToSources excluded told placed to m)) at makes))
 
--- the texts of paths are asked one by one
+-- the texts of paths are tested one by one
 pub one_shown : (paths : List (Vec ℕ))
     → list_all (λ path. is_plain_path path.items) paths ≡ list_all is_plain_path (map (λ path. path.items) paths)
 one_shown [] = refl
@@ -67,7 +67,7 @@ pub plain_shown : (deletes : List (Vec (Vec ℕ))) → are_plain (delete_texts_o
     → list_all (λ paths. list_all (λ path. is_plain_path path.items) paths.items) deletes ≡ true
 plain_shown deletes are = all_shown deletes ∙ are
 
--- with one more
+-- the texts of one more list of paths
 pub plain_more : (deletes all : List (Vec (Vec ℕ))) (paths : Vec (Vec ℕ)) → all ≡ deletes ++ paths ∷ []
     → are_plain (delete_texts_of deletes) ≡ true → list_all is_plain_path (map (λ text. text.items) paths.items) ≡ true
     → are_plain (delete_texts_of all) ≡ true
@@ -104,7 +104,7 @@ module _ (excluded : List NodePath) (told : ToldKinds) (placed : List Placed) (p
       ∙ (filter-append (λ (q : Placed). not (is_covered excluded q.change.path)) (take place placed) (p ∷ [])
       ∙ ap (λ c. kept_changes excluded (take place placed) ++ cond (not c) (p ∷ []) []) is)
 
-  -- a change at an excluded path has none
+  -- a change at an excluded path has no deletes
   pub none_there : is_covered excluded p.change.path ≡ true → AreDeletesUpTo excluded told placed (place + 1) deletes
   none_there is = record {
     paths = so_far.paths
@@ -113,7 +113,7 @@ module _ (excluded : List NodePath) (told : ToldKinds) (placed : List Placed) (p
     plain = so_far.plain;
   }
 
-  -- another one has these
+  -- another change has these deletes
   pub some_there : is_covered excluded p.change.path ≡ false → (paths : Vec (Vec ℕ)) (all : List (Vec (Vec ℕ)))
       → all ≡ deletes ++ paths ∷ []
       → map path_of (map (λ text. text.items) paths.items) ≡ lost_paths excluded told placed p
@@ -128,7 +128,7 @@ module _ (excluded : List NodePath) (told : ToldKinds) (placed : List Placed) (p
     plain = plain_more deletes all paths joined so_far.plain plain;
   }
 
--- those of all changes
+-- the deletes of all changes
 pub all_deletes : (excluded : List NodePath) (told : ToldKinds) (placed : List Placed) (count : ℕ)
     (deletes : List (Vec (Vec ℕ))) → length placed ≡ count → AreDeletesUpTo excluded told placed count deletes
     → AreDeletes excluded told placed (delete_texts_of deletes)

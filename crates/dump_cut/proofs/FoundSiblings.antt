@@ -44,7 +44,7 @@ pub root_text : (path : List ℕ) → (length path == 0) ≡ false → is_root (
 root_text [] some = absurd (let bad : true ≡ false = some in cc)
 root_text (b ∷ path) some = ap is_root (split_some (b ∷ path)).2
 
--- an included path is below this one, where it has a rest
+-- an included path is below this one, if it has a rest
 any_below : (path : NodePath) (paths : List NodePath)
     → list_any (λ top. has_name_behind (below path top)) paths ≡ not (length (rests_below path paths) == 0)
 any_below path [] = refl
@@ -75,7 +75,7 @@ cut_below texts path rests named some outside are =
     ∙ sym (ap₂ (λ a b. a || (b || list_any (λ top. has_name_behind (below (names_of path) top)) (paths_of texts))) outside
     (root_text path some))
 
--- what is said of all paths, once one is added
+-- what is true of all paths after one is added
 
 pub grown_all : (test : NodePath → Bool) (old new : List NodePath) (added : NodePath)
     (is_new : Bool) → IsGrownIf old added new is_new
@@ -165,7 +165,7 @@ sibling_covered included siblings path all is covered =
                 let (more, is) = shorter top next rest directory name tails in
                 (more, ap₂ (λ (n : List ℕ) (p : NodePath). n ∷ p) (sym heads) is)
 
--- one child more
+-- one more child
 
 abbrev pub child : List ℕ → List ℕ → NodePath
 child directory name = names_of directory ++ name ∷ []
@@ -219,7 +219,7 @@ adds_none included old new path same inside = record {
   own = λ is. absurd (let bad : true ≡ false = sym inside ∙ sibling_outside included path is in cc);
 }
 
--- what is said of the first names is said of one name more
+-- what is true of the first names is true of one more name
 pub one_more : (P : List ℕ → Type 0) (names : List (Bor (List ℕ))) (k : ℕ) (d : Bor (List ℕ)) → k < length names
     → ((name : List ℕ) → is_child_named (texts_of (take k names)) name ≡ true → P name) → P (get_or names k d).now
     → (name : List ℕ) → is_child_named (texts_of (take (k + 1) names)) name ≡ true → P name

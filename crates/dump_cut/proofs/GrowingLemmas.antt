@@ -1,4 +1,4 @@
--- One path more among excluded ones, without those below it.
+-- One more excluded path, without the paths below it.
 use Rattle.std.proofs.Common.{◌≡◌, ℕ, Bool, true, false, not, ◌&&◌, ◌||◌, cond, List, [], ◌∷◌, ◌++◌, map, filter, bytes_eq, refl, sym, ap, ap₂, ◌∙◌, subst}
 use Rattle.std.proofs.lemmas.Bool.{and_parts, and_right, or_parts, or_from, false_from_ne_true}
 use Rattle.std.proofs.lemmas.Map.Text.{is_eq-slice_cmp}
@@ -23,7 +23,7 @@ use Rattle.dump_cut.specs.steps.ExcludedPaths.{IsGrownIf, paths_of}
 use Rattle.dump_cut.specs.steps.ExcludedTexts.{AreExcluded, is_text_below, texts_below}
 use Rattle.dump_cut.proofs.ExcludedLemmas.{is_text_above, covered_texts, within_texts}
 
--- a key that is put in among others
+-- a key that is added to others
 
 split_inserted : {V : Type 0} (items : V → List ℕ) (k : V) (keys : List V)
     → list_any (λ other. bytes_eq (items k) other) (map items keys) ≡ false
@@ -66,7 +66,7 @@ pub map_joined : {A B : Type 0} (f : A → B) (one other : List A) → map f (on
 map_joined f [] other = refl
 map_joined f (x ∷ one) other = ap (λ rest. f x ∷ rest) (map_joined f one other)
 
--- those that stay
+-- the texts that stay
 
 abbrev stays : List ℕ → List ℕ → Bool
 stays path text = not (is_text_below path text)
@@ -76,7 +76,7 @@ stays_itself path =
     ap (λ b. not (stands_over path path && not b)) ((bytes_eq-Decides path path).1 refl)
     ∙ ap not (and_right (stands_over path path) false refl)
 
--- a text that isn't the path stays exactly where the path isn't at or above it
+-- a text that isn't the path stays exactly if the path isn't at or above it
 stays_outside : (path text : List ℕ) → bytes_eq path text ≡ false
     → stays path text ≡ not (is_within (names_of path) (names_of text))
 stays_outside path text other =
@@ -168,7 +168,7 @@ module _ {V : Type 0} (items : V → List ℕ) (k : V) (keys : List V)
   pub grown : IsGrown (paths_of (map items keys)) (names_of path) (paths_of (filter (stays path) (map items inserted)))
   grown = grown_by parted
 
-  -- where none is below the path all stay
+  -- if none is below the path, all stay
   all_by : Split → filter (is_text_below path) (map items keys) ≡ []
       → filter (stays path) (map items inserted) ≡ map items inserted
   all_by (front, behind, same, put) none =
@@ -200,7 +200,7 @@ module _ {V : Type 0} (items : V → List ℕ) (k : V) (keys : List V)
       → filter (stays path) (map items inserted) ≡ map items inserted
   all_stay none = all_by parted none
 
--- no text is below the top, where no rest is
+-- if there is no rest, no text is below the top
 pub none_below : (top : List ℕ) (texts : List (List ℕ)) → texts_below top texts ≡ [] → filter (is_text_below top) texts ≡ []
 none_below top texts none = unmapped (filter (is_text_below top) texts) none
   where
@@ -208,7 +208,7 @@ none_below top texts none = unmapped (filter (is_text_below top) texts) none
     unmapped [] is = refl
     unmapped (text ∷ others) is = absurd (cc)
 
--- the texts of the grown paths, and what is said of them
+-- the texts of the grown paths, and what is true of them
 
 pub grown_texts : {V : Type 0} (items : V → List ℕ) (k : V) (keys : List V) (path : List ℕ) (texts : List (List ℕ))
     → items k ≡ path → is_covered (paths_of (map items keys)) (names_of path) ≡ false
@@ -237,7 +237,7 @@ grown_excluded old new path are named outside grows =
     let cover = grown_paths_cover (paths_of old) (paths_of new) (names_of path) grows in
     (cover.2 are.0 named, cover.1 outside are.1)
 
--- what the paths cover, once one is added
+-- what the paths cover after one is added
 
 pub added_covers : (old new : List NodePath) (added : NodePath) (is_new : Bool) → is_new ≡ not (is_covered old added)
     → IsGrownIf old added new is_new → (path : NodePath) → is_covered new path ≡ (is_covered old path || is_within added path)
@@ -280,7 +280,7 @@ pub canonical_named : (prefix : List ℕ) → has_node_names (canonical_path pre
 canonical_named prefix =
     (and_parts (has_node_names (canonical_path prefix)) true (canonical_have_names (prefix ∷ []))).0
 
--- one prefix more
+-- one more prefix
 pub prefix_more : (texts : List (List ℕ)) (text : List ℕ) (path : NodePath)
     → is_covered (canonical_paths (texts ++ text ∷ [])) path
     ≡ (is_covered (canonical_paths texts) path || is_within (canonical_path text) path)

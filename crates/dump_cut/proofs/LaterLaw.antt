@@ -31,7 +31,7 @@ use Rattle.dump_cut.proofs.LaterRecords.{BeginsGroup, CutBefore, before_first, b
 
 -- a load in two parts
 
--- the first revisions load to these trees, and the others load on over them
+-- the first revisions load to these trees, and then the others load over them
 record LoadedParts (trees : List Tree) (youngest : Tree) (number : ℕ) (front rest : List (List Change)) (all : List Tree)
     : Type 0 where
   first : List Tree

@@ -20,7 +20,7 @@ use Rattle.dump_cut.specs.LaterParts.{place_of_first}
 use Rattle.dump_cut.specs.steps.CountedRevisions.{counted_from}
 use Rattle.dump_cut.proofs.CutterLemmas.{ReadSoFar, goes_on, none_read, not_broken, read_ends, read_more}
 
--- no such record is among those that the cutter has given
+-- the records that the cutter has returned contain no such record
 pub record NoneSoFar (is_such : DumpRecord → Bool) (dump : List ℕ) (cutter : CutterState) : Type 0 where
   pub read : ReadSoFar dump cutter
   pub none : (end : ℕ) (rest : List DumpRecord) → place_of_first is_such end (read.before ++ rest) ≡ place_of_first is_such end rest
@@ -47,7 +47,7 @@ module _ (is_such : DumpRecord → Bool) (dump : List ℕ) (cutter after : Cutte
         ∙ known.none (length dump) (record_item item ∷ rest)
         ∙ ap (λ b. if b then (record_item item).place else place_of_first is_such (length dump) rest) such)
 
-  -- there is none where the records end
+  -- there is none if the records end
   pub is_none : (found : Cut) → CutStep cutter found after → ((item : Record) → found ≡ cuts.Item item → ⊥)
       → (records : List DumpRecord) → HasRecords dump records Ending.Whole
       → length dump ≡ place_of_first is_such (length dump) records
@@ -62,7 +62,7 @@ module _ (is_such : DumpRecord → Bool) (dump : List ℕ) (cutter after : Cutte
       absurd (not_broken dump records cutter.number kind place has
       (subst (λ d. EndsAfter d cutter.number (Ending.Broken kind place)) known.read.dump_is step.0))
 
--- the revisions that the cutter has given are numbered 0, 1, 2 and so on, and there are this many
+-- the revisions that the cutter has returned are numbered 0, 1, 2 and so on, and there are this many
 pub record CountedSoFar (dump : List ℕ) (cutter : CutterState) (count : ℕ) : Type 0 where
   pub read : ReadSoFar dump cutter
   pub counted : (rest : List DumpRecord) → counted_from 0 (revision_numbers (read.before ++ rest))
@@ -131,7 +131,7 @@ module _ (dump : List ℕ) (cutter after : CutterState) (count : ℕ) (known : C
       absurd (not_broken dump records cutter.number kind place has
       (subst (λ d. EndsAfter d cutter.number (Ending.Broken kind place)) known.read.dump_is step.0))
 
--- what the count says of the numbers
+-- the numbers, as the count says
 
 count_is : (count : ℕ) (numbers : List ℕ) (all : ℕ) → Some all ≡ counted_from count numbers
     → (counts_from count numbers ≡ true) × (all ≡ count + length numbers)
@@ -157,7 +157,7 @@ no_count count (n ∷ numbers) is = by_first (no_count (suc count) numbers) (n =
     by_first rest true same more = ap (λ b. b && counts_from (suc count) numbers) same ∙ rest more
     by_first rest false other more = ap (λ b. b && counts_from (suc count) numbers) other
 
--- a dump has a revision if it has a number of one
+-- a dump has a revision exactly if it has a revision number
 some_revision : (records : List DumpRecord) → 0 < length (revision_numbers records) → list_any is_revision_record records ≡ true
 some_revision [] some = absurd (omega arith)
 some_revision (r ∷ records) some = by_first (some_revision records) (is_revision_record r) refl

@@ -29,7 +29,7 @@ use Rattle.dump_cut.proofs.TrimmedTextLemmas.{cut_texts}
 
 -- lists in two parts
 
--- of two lists that are zipped with one, each is zipped with its part of that
+-- if two lists joined are zipped with a third one, each is zipped with its part of that
 pub zip_parts : {A B : Type 0} (R : A → B → Type 0) (xs ys : List A) (zs : List B) → AllZip R (xs ++ ys) zs
     → AllZip R xs (take (length xs) zs) × AllZip R ys (drop (length xs) zs)
 zip_parts R [] ys zs all = (tt, all)
@@ -37,7 +37,7 @@ zip_parts R (x ∷ xs) ys [] all = absurd all
 zip_parts R (x ∷ xs) ys (z ∷ zs) (one, all) =
     let parts = zip_parts R xs ys zs all in ((one, parts.0), parts.1)
 
--- numbers that count on, in two parts
+-- consecutive numbers, in two parts
 pub counted_parts : (n : ℕ) (xs ys : List ℕ) → counts_from n (xs ++ ys) ≡ true
     → (counts_from n xs ≡ true) × (counts_from (n + length xs) ys ≡ true)
 counted_parts n [] ys all =
@@ -72,17 +72,17 @@ first_no_revision r lawful =
     not_so (is_revision_record r) (λ revision. keeps.version
     (rw ((no_others r.headers (not_so _ keeps.kind) (ap (λ b. b || is_node r) revision)).0) refl))
 
--- records that are no nodes, or none, are first
+-- the first record, if there is one, is no node
 abbrev pub BeginsGroup : List DumpRecord → Type 0
 BeginsGroup [] = Unit {0}
 BeginsGroup (r ∷ records) = is_node r ≡ false
 
--- the groups before them end there
+-- the groups before such records end there
 pub groups_join : (xs ys : List DumpRecord) → BeginsGroup ys → groups (xs ++ ys) ≡ groups xs ++ groups ys
 groups_join xs [] begins = ap groups (append-nil xs) ∙ sym (append-nil (groups xs))
 groups_join xs (y ∷ ys) begins = groups_before xs ys y begins
 
--- so order is asked of each part
+-- so each part is in order by itself
 pub ordered_join : (may : Bool) (xs ys : List DumpRecord) → BeginsGroup ys
     → has_ordered_nodes may (xs ++ ys) ≡ (has_ordered_nodes may xs && has_ordered_nodes false ys)
 ordered_join may [] [] begins = refl
@@ -97,18 +97,18 @@ ordered_join may (x ∷ xs) ys begins =
 
 -- the records before the first one of a kind
 
--- those before the first such record
+-- the records before the first such record
 abbrev pub before_first : (DumpRecord → Bool) → List DumpRecord → List DumpRecord
 before_first is_such [] = []
 before_first is_such (r ∷ records) = if is_such r then [] else r ∷ before_first is_such records
 
--- those from there on
+-- the records from the first such record on
 abbrev pub from_first : (DumpRecord → Bool) → List DumpRecord → List DumpRecord
 from_first is_such [] = []
 from_first is_such (r ∷ records) = if is_such r then r ∷ records else from_first is_such records
 
 module _ (is_such : DumpRecord → Bool) where
-  -- both are all of them
+  -- both parts together are all records
   pub both_parts : (records : List DumpRecord) → before_first is_such records ++ from_first is_such records ≡ records
   both_parts [] = refl
   both_parts (r ∷ records) = cases (is_such r) (both_parts records)
@@ -119,7 +119,7 @@ module _ (is_such : DumpRecord → Bool) where
       cases true more = refl
       cases false more = ap (λ (rs : List DumpRecord). r ∷ rs) more
 
-  -- the version in force after the first ones
+  -- the version in force after the first records
   pub version_before : (version : ℕ) (records : List DumpRecord)
       → last_version version (before_first is_such records) ≡ version_before_first is_such version records
   version_before version [] = refl
@@ -132,7 +132,7 @@ module _ (is_such : DumpRecord → Bool) where
       cases true more = refl
       cases false more = more
 
-  -- where they are revisions, the others begin with no node
+  -- if they are revisions, the other records begin with no node
   pub begins_group : ((r : DumpRecord) → is_such r ≡ true → is_revision_record r ≡ true) → (records : List DumpRecord)
       → AllFit records → BeginsGroup (from_first is_such records)
   begins_group revision [] fit = tt
@@ -213,7 +213,7 @@ module _ (is_such : DumpRecord → Bool) where
             texts = rw other behind.texts;
           }
 
-  -- what ends where the first such record begins, and what begins there
+  -- the bytes before the first such record, and the bytes from it on
   pub cut_at : (dump : List ℕ) (records : List DumpRecord) (c : CutBefore 0 0 (length dump) dump records)
       → (take (place_of_first is_such (length dump) records) dump ≡ c.front)
       × (drop (place_of_first is_such (length dump) records) dump ≡ c.after)
@@ -223,7 +223,7 @@ module _ (is_such : DumpRecord → Bool) where
         (λ i. drop (at i) (c.is i)) ∙ drop-append_seam c.front c.after,
       )
 
-  -- where they are revisions, the bytes before the first one are a dump
+  -- if they are revisions, the bytes before the first one are a dump
   before_is_dump : ((r : DumpRecord) → is_such r ≡ true → is_revision_record r ≡ true) → (dump : List ℕ)
       (records : List DumpRecord) → HasRecords dump records Ending.Whole
       → HasRecords (take (place_of_first is_such (length dump) records) dump) (before_first is_such records) Ending.Whole
@@ -240,7 +240,7 @@ module _ (is_such : DumpRecord → Bool) where
         (refl, subst (λ b. 0 < length (if b then [] else r ∷ before_first is_such records)) (sym other) (omega arith)),
       )
 
--- before the first revision is no group
+-- there is no group before the first revision
 pub no_groups_before : (records : List DumpRecord) → groups (before_first is_revision_record records) ≡ []
 no_groups_before [] = refl
 no_groups_before (r ∷ records) = cases (is_revision_record r) refl (no_groups_before records)
@@ -250,17 +250,17 @@ no_groups_before (r ∷ records) = cases (is_revision_record r) refl (no_groups_
     cases true is more = refl
     cases false is more = rw is more
 
--- a revision above a number is one
+-- a revision above a number is a revision
 pub later_revision : (number : ℕ) (r : DumpRecord) → is_later_revision number r ≡ true → is_revision_record r ≡ true
 later_revision number r later = (and_parts (is_revision_record r) _ later).0
 
--- the lines of a record say whether it is one
+-- the lines of a record say whether it is such a revision
 pub same_later : (number : ℕ) (r s : DumpRecord) → s.headers ≡ r.headers
     → is_later_revision number s ≡ is_later_revision number r
 same_later number r s same =
     ap (λ lines. has_header revision_name lines && nat_lt number (unwrap_or (header_number revision_name lines) 0)) same
 
--- what a dump has up to a revision is a dump, with the records before the first one above it
+-- what a dump has up to a revision is a dump, whose records are those before the first revision above it
 pub first_is_dump : (number : ℕ) (dump first : List ℕ) (records : List DumpRecord) → HasRecords dump records Ending.Whole
     → first ≡ part_up_to number dump records
     → HasRecords first (before_first (is_later_revision number) records) Ending.Whole
@@ -268,7 +268,7 @@ first_is_dump number dump first records has is =
     subst (λ t. HasRecords t (before_first (is_later_revision number) records) Ending.Whole) (sym is)
     (before_is_dump (is_later_revision number) (later_revision number) dump records has)
 
--- how many groups are before the first revision above a number
+-- the number of groups before the first revision above a number
 pub groups_up_to : (number n : ℕ) (records : List DumpRecord) → counts_from n (map group_number (groups records)) ≡ true
     → n ≤ suc number → number < n + length (groups records)
     → n + length (groups (before_first (is_later_revision number) records)) ≡ suc number
@@ -301,7 +301,7 @@ groups_up_to number n (r ∷ records) counts low high =
 
 -- texts that are a dump
 
--- the texts of a first record and of others are
+-- the texts of a first record and of others are a dump
 pub texts_are_dump : (text front : List ℕ) (r : DumpRecord) (rest : List DumpRecord) (lfs : ℕ) → AllFit (r ∷ rest)
     → is_lawful 0 r.headers ≡ true → HaveVersions 0 (r ∷ rest) → text ≡ line_feeds lfs ++ front
     → AreRecordTexts (r ∷ rest) front

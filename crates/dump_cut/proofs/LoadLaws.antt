@@ -1,4 +1,4 @@
--- What is decided by the first change that a load rejects.
+-- What the first change that a load rejects decides.
 use Rattle.std.proofs.Common.{◌≡◌, ℕ, zero, suc, ◌<◌, Bool, true, false, not, ◌&&◌, ◌||◌, ◌≤◌, List, [], ◌∷◌, length, map, Option, Some, None, is_some, is_none, option_and_then, refl, sym, ap, ap₂, ◌∙◌, arith}
 use Rattle.std.proofs.lemmas.Bool.{and_from}
 use Rattle.std.specs.List.{slice_get}
@@ -16,7 +16,7 @@ use Rattle.dump_cut.specs.LoadChecks.{NoneRefused, reason_there, RefusedIsFirst,
 use Rattle.dump_cut.specs.Refusals.{first_reason, deletion_refused, parent_refused, new_refused, copying_refused, making_refused, props_refused, text_refused, RefusedIsNotAllowed}
 use Rattle.dump_cut.specs.declared.refusal.Refusal.{Refusal}
 
--- no reason comes of two where none does of each
+-- two checks together give no reason exactly if neither gives one
 first_none : (one other : Option Refusal) → is_none (first_reason one other) ≡ (is_none one && is_none other)
 first_none None other = refl
 first_none (Some reason) other = refl
@@ -101,7 +101,7 @@ below_some [] place p there = absurd (let bad : None ≡ Some p = there in cc)
 below_some (q ∷ placed) zero p there = omega arith
 below_some (q ∷ placed) (suc place) p there = let low = below_some placed place p there in omega (arith, low)
 
--- above the root nothing is given
+-- no parent exists above the root
 none_above : (told : ToldKinds) (placed : List Placed) (place : ℕ) (p : Placed) → is_root p.change.path ≡ true
     → (kinds_told told placed place p).parent ≡ None
 none_above told placed place p root = cases p.change.path root

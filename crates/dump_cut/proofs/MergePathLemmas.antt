@@ -1,4 +1,4 @@
--- The paths that mergeinfo names, as they are collected.
+-- The paths that mergeinfo names, in the order in which they are collected.
 use Rattle.std.proofs.Common.{◌≡◌, ℕ, ◌+◌, ◌<◌, ◌⊎◌, Bool, true, false, cond, List, [], ◌∷◌, ◌++◌, length, map, filter, take, get_or, refl, sym, ap, ◌∙◌, subst, inl, inr, append_assoc}
 use Rattle.std.proofs.lemmas.Bool.{and_parts}
 use Rattle.std.proofs.lemmas.List.{take_more}
@@ -78,7 +78,7 @@ added_same old new These Those adds back forth = record {
   ];
 }
 
--- a key that is put in among others; where one with the same text is there, it stays
+-- a key that is added to others; if a key with the same text exists, that one stays
 pub key_added : {V : Type 0} (items : V → List ℕ) (k : V) (keys : List V)
     → AddsPaths (map (λ key. names_of (items key)) keys)
     (map (λ key. names_of (items key)) (insert_key (λ a b. slice_cmp nat_cmp (items a) (items b)) keys k))
@@ -140,7 +140,7 @@ key_added {V} items k (x ∷ keys) = cases (key_added items k keys) (slice_cmp n
 pub no_lines : (path : NodePath) → IsInLines [] path → ⊥
 no_lines path (line, there, is) = contains_none line there
 
--- one line more
+-- one more line
 pub line_added : (one two three : List NodePath) (lines : List (List ℕ)) (k : ℕ) (line : List ℕ) → k < length lines
     → line ≡ get_or lines k line → AddsPaths one two (IsInLines (take k lines))
     → AddsPaths two three (IsInLine line) → AddsPaths one three (IsInLines (take (k + 1) lines))
@@ -168,7 +168,7 @@ colon_line_adds old new line some adds =
     (λ path (front, list, is, none, names). names ∙ ap canonical_path (sym (path_of_parted line front list is none)))
     (λ path names. (text, ranges, parted, last, names ∙ ap canonical_path (path_of_parted line text ranges parted last)))
 
--- and one without a colon none
+-- a line without a colon names no path
 pub bare_line_adds : (paths : List NodePath) (line : List ℕ) → has_byte 58 line ≡ false → AddsPaths paths paths (IsInLine line)
 bare_line_adds paths line none =
     none_added paths (IsInLine line) (λ path (text, ranges, parted, last, names).
@@ -179,7 +179,7 @@ bare_line_adds paths line none =
 pub no_properties : (path : NodePath) → IsInProperties [] path → ⊥
 no_properties path (p, there, merges, in_value) = contains_none p there
 
--- one property more, whose value is read where it is mergeinfo
+-- one more property, whose value is read if it is mergeinfo
 pub property_added : (one two three : List NodePath) (done : List Property) (p : Property)
     → AddsPaths one two (IsInProperties done)
     → AddsPaths two three (λ path. (is_mergeinfo p ≡ true) × IsInValue (value_of p) path)
@@ -255,7 +255,7 @@ record_added one two three before r early own =
           | inr same ↦ inr (subst (λ (x : DumpRecord). IsInRecord x path) (sym same) is)
         ]
 
--- those of all records of the dump are the paths that it names
+-- the collected paths of all records are the paths that the dump names
 pub all_collected : (dump : List ℕ) (before : List DumpRecord) (ending : Ending) (paths : List NodePath)
     → HasRecords dump before ending → AddsPaths [] paths (IsInRecords before) → AreMergePaths dump paths
 all_collected dump before ending paths has adds = record {
@@ -302,7 +302,7 @@ all_collected dump before ending paths has adds = record {
   ];
 }
 
--- where the records end, these are read
+-- what is read when the records end
 pub all_read : (dump : List ℕ) (cutter after : CutterState) (paths : List NodePath) (read : ReadSoFar dump cutter)
     → AddsPaths [] paths (IsInRecords read.before) → (found : Cut) → CutStep cutter found after
     → ((item : Record) → found ≡ cuts.Item item → ⊥) → AreMergePaths dump paths
@@ -312,7 +312,7 @@ all_read dump cutter after paths read adds cuts.Finished step other =
 all_read dump cutter after paths read adds (cuts.Fault kind place) step other =
     all_collected dump read.before (Ending.Broken kind place) paths (read_ends dump cutter after read (Ending.Broken kind place) step.0) adds
 
--- they have names of nodes
+-- the collected paths have names of nodes
 pub merge_paths_named : (dump : List ℕ) (paths : List NodePath) → AreMergePaths dump paths → list_all has_node_names paths ≡ true
 merge_paths_named dump paths are =
     list_all_of has_node_names paths (λ path there.

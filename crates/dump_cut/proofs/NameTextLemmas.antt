@@ -18,7 +18,7 @@ one_name : (name : List ℕ) → is_node_name name ≡ true → names_of name �
 one_name [] is = absurd (let bad : false ≡ true = is in cc)
 one_name (b ∷ name) is = split_name (b ∷ name) (name_parts (b ∷ name) is)
 
--- the names of a text after which a name is written
+-- the names of a text to which a name is added
 pub first_pushed : (text name : List ℕ) → (length text == 0) ≡ true → is_node_name name ≡ true
     → names_of (text ++ name) ≡ names_of text ++ name ∷ []
 first_pushed [] name none is = one_name name is
@@ -33,7 +33,7 @@ next_pushed (b ∷ text) name some is =
     ap names_of (Rattle.std.proofs.Common.append_assoc (b ∷ text) (47 ∷ []) name)
     ∙ split_joined (b ∷ text) name ∙ ap (λ names. split (b ∷ text) ++ names) (split_name name (name_parts name is))
 
--- one more name, of those that pass a test
+-- one more name, in the list of the names that pass a test
 pub filter_more : (test : List ℕ → Bool) (names : List (List ℕ)) (n : ℕ) (name : List ℕ) (kept : Bool)
     → n < length names → name ≡ get_or names n name → test name ≡ kept
     → filter test (take (n + 1) names) ≡ filter test (take n names) ++ cond kept (name ∷ []) []

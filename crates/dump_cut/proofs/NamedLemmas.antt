@@ -1,4 +1,4 @@
--- The changes that are read of a dump have paths with names of nodes.
+-- The changes that are read from a dump have paths with names of nodes.
 use Rattle.std.proofs.Common.{◌≡◌, ℕ, Bool, true, false, not, ◌&&◌, cond, List, [], ◌∷◌, map, Some, None, codes, refl, sym, ap, ◌∙◌, subst, Option, ap₂}
 use Rattle.std.proofs.lemmas.Bool.{and_parts, and_from}
 use Rattle.std.specs.List.{AllZip, list_all}
@@ -19,7 +19,7 @@ use Rattle.dump_index.specs.declared.change.NodeChange.{NodeChange}
 use Rattle.dump_changes.specs.ListedDumps.{AreListedIn, NodesMake, NoRecord, RevisionRecord, NodeRecord, OtherRecord, without_number}
 use Rattle.dump_cut.specs.NamedPaths.{has_named_paths, has_named_source}
 
--- the same of a change of the repository
+-- the same for a change of the repository
 abbrev is_named : Change → Bool
 is_named c = has_node_names c.path && has_named_source c.made
 
@@ -97,7 +97,7 @@ listed_in_named records changes listed =
     let its = listed patched in
     listed_named (map listed_of changes) its.0 its.2 (nodes_make_named patched None records its.0 its.1)
 
--- whatever the numbers of the revisions of which they copy
+-- this doesn't depend on the number of the revision of which a change makes a copy
 number_unnamed : (l : Listed) → has_named_paths (without_number l) ≡ has_named_paths l
 number_unnamed l = ap (λ b. has_node_names (names_of l.path) && b) (cases l.made)
   where

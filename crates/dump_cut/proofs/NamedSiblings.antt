@@ -48,7 +48,7 @@ left_more included old new more path is =
       | inr covered ↦ or_right (is_in_cut included path) (is_covered new path) (more.kept path covered)
     ]
 
--- those that are found are among more
+-- the siblings that are found are among more siblings
 pub found_more : (listed : List Listed) (included old new : List NodePath) → AreFoundSiblings listed included old
     → AreMore included old new → AreFoundSiblings listed included new
 found_more listed included old new found more = record {
@@ -58,7 +58,7 @@ found_more listed included old new found more = record {
       (more.kept (path ++ name ∷ []) (covered_itself old (path ++ name ∷ []) (found.all path name above can sibling)));
 }
 
--- on the way to a path
+-- the paths on the way to a path
 
 above_there : (included : List NodePath) (top : NodePath) (name : List ℕ) → is_in_cut included top ≡ true
     → is_in_cut included (top ++ name ∷ []) ≡ false → is_above_included included top ≡ true
@@ -70,7 +70,7 @@ above_there included top name inside outside =
           (covered_more included top (name ∷ []) within)) ∙ outside in cc)
     ]
 
--- the names of nodes are names of nodes
+-- names that are filtered by being names of nodes are names of nodes
 all_named : (names : List (List ℕ)) → has_node_names (filter is_node_name names) ≡ true
 all_named [] = refl
 all_named (name ∷ names) = cases (is_node_name name) refl (all_named names)
@@ -95,7 +95,7 @@ pub next_names : (prefix : List ℕ) (k : ℕ) (top : NodePath) (name : List ℕ
 next_names prefix k top name are low is named =
     ap (λ names. names ++ name ∷ []) are ∙ sym (filter_more is_node_name (slice_split (λ c. nat_eq c 47) prefix) k name true low is named)
 
--- what is canonical begins with the first names
+-- a canonical path begins with the first names
 canonical_front : (prefix : List ℕ) (k : ℕ) → (rest : NodePath)
     × (canonical_path prefix ≡ filter is_node_name (take k (slice_split (λ c. nat_eq c 47) prefix)) ++ rest)
 canonical_front prefix k =
@@ -104,7 +104,7 @@ canonical_front prefix k =
       ap (filter is_node_name) (sym (take-append-drop k names)) ∙ filter-append is_node_name (take k names) (drop k names),
     )
 
--- a first path that isn't in the cut is added, and covers the whole
+-- a first path that isn't in the cut is added, and covers the whole path
 pub added_on_way : (included old new : List NodePath) (prefix top name : List ℕ) (k : ℕ) (is_new : Bool)
     → names_of top ++ name ∷ [] ≡ filter is_node_name (take k (slice_split (λ c. nat_eq c 47) prefix))
     → has_node_names (names_of top ++ name ∷ []) ≡ true → is_in_cut included (names_of top) ≡ true
@@ -145,7 +145,7 @@ zip_there (text ∷ texts) (l ∷ lines) all line there =
           (found, contains_later text texts found among, is)
     ]
 
--- an LF at the end is one more cut
+-- an LF at the end adds one more text
 split_ended : (front : List ℕ)
     → slice_split (λ c. nat_eq c 10) (front ++ 10 ∷ []) ≡ slice_split (λ c. nat_eq c 10) front ++ [] ∷ []
 split_ended [] = refl
@@ -166,7 +166,7 @@ split_ended (c ∷ front) = cases (nat_eq c 10) (split_ended front)
     cases true later = ap (λ (l : List (List ℕ)). [] ∷ l) later
     cases false later = ap (onto_first c) later ∙ onto (parts front) refl
 
--- the texts of the lines are among those at whose LFs the value is cut
+-- the texts of the lines are among the texts between the value's LFs
 texts_there : (texts : List (List ℕ)) (lines : List MergeLine) → AllZip IsMergeLine texts lines → (value text : List ℕ)
     → (value ≡ join_with_byte 10 texts) ⊎ (value ≡ join_with_byte 10 texts ++ 10 ∷ []) → Contains texts text
     → Contains (slice_split (λ c. nat_eq c 10) value) text
@@ -195,7 +195,7 @@ text_of_line value lines line (texts, all, is) there =
       last = list_lacks 58 its.spelled.0 line.ranges refl refl refl its.spelled.1;
     }
 
--- the siblings cover the mergeinfo of the dump, where each path that it names is left by them
+-- the siblings cover the mergeinfo of the dump, if they leave each path that it names
 pub mergeinfo_covered : (included siblings : List NodePath) (dump : List ℕ) (paths : List NodePath) → AreMergePaths dump paths
     → ((path : NodePath) → Contains paths path → is_left_by included siblings path ≡ true)
     → CoverMergeinfo included siblings dump

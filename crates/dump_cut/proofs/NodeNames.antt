@@ -1,4 +1,4 @@
--- Each name that can be in a directory is the name of a node, where the paths of the changes have such names.
+-- Each name that can be in a directory is the name of a node, if the paths of the changes have such names.
 use Rattle.std.proofs.Common.{◌≡◌, ℕ, zero, suc, true, false, List, [], ◌∷◌, Option, Some, None, bytes_eq, refl, sym, ap, ◌∙◌, inl, inr}
 use Rattle.std.specs.Prelude.{slice_get, option_map}
 use Rattle.std.specs.List.{list_all}
@@ -17,7 +17,7 @@ use Rattle.dump_index.specs.Listed.{Listed, all_placed, placed_of}
 use Rattle.dump_index.proofs.KeyLemmas.{get-map}
 use Rattle.dump_cut.specs.NamedPaths.{has_named_paths}
 
--- what is after the top has the names of the path
+-- what follows the top has names of the path
 rest_named : (top path rest : NodePath) → below top path ≡ Some rest → has_node_names path ≡ true → has_node_names rest ≡ true
 rest_named top path rest is named = rest_names top rest (ap has_node_names (sym (below_rest top path rest is)) ∙ named)
 

@@ -13,7 +13,7 @@ use Rattle.dump_trees.proofs.paths.SiblingLemmas.{front_names, rest_names}
 use Rattle.dump_index.specs.InOrder.{ends_in_slash}
 use Rattle.dump_cut.specs.steps.ParentTexts.{after_slash, parent_text}
 
--- a text has no slash, or is what comes before its last one, the slash, and a name
+-- a text has no slash, or it is the part before its last slash, the slash, and a name
 data Parted (text : List ℕ) : Type 0 where
   Whole : has_no_slash text ≡ true → Parted text
   Joined : (front name : List ℕ) → text ≡ front ++ 47 ∷ name → has_no_slash name ≡ true → Parted text
@@ -30,7 +30,7 @@ parted (b ∷ text) = cases (parted text) (nat_eq b 47) refl
     cases (Whole none) true same = Joined [] text (ap (λ c. c ∷ text) (eq47 same)) none
     cases (Whole none) false same = Whole (and_from (not (nat_eq b 47)) (has_no_slash text) (ap not same) none)
 
--- the other way round it is so too
+-- the reversed text has no slash either
 reversed : (text : List ℕ) → has_no_slash text ≡ true → has_no_slash (reverse text) ≡ true
 reversed [] none = refl
 reversed (b ∷ text) none =

@@ -22,7 +22,7 @@ use Rattle.dump_cut.proofs.ParentLemmas.{ends_named}
 use Rattle.dump_cut.specs.steps.ExcludedPaths.{paths_of}
 use Rattle.dump_cut.specs.steps.ExcludedTexts.{is_text_below, texts_below}
 
--- whether a text is in the range that begins with the one text, and ends before the other
+-- whether a text is in the range that begins with the first text and ends before the second
 abbrev pub is_between : List ℕ → List ℕ → List ℕ → Bool
 is_between start end text = is_le (slice_cmp nat_cmp start text) && not (is_le (slice_cmp nat_cmp end text))
 
@@ -57,7 +57,7 @@ slash_between c text = cases (sides 47 c) (sides 48 c)
         ap (λ o. test o (nat_cmp 48 c)) is
         ∙ sym (false_from_ne_true (nat_eq c 47) (λ eq. let e = eqb-true c 47 eq in absurd (omega arith)))
 
--- between a top and a slash, and the top and the next byte, are the texts that go on after the top
+-- the texts from the top with a slash, and before the top with the next byte, are the texts that go on after the top
 pub between_goes_on : (top text : List ℕ) → is_between (top ++ 47 ∷ []) (top ++ 48 ∷ []) text ≡ goes_on top text
 between_goes_on [] [] = refl
 between_goes_on [] (c ∷ text) = slash_between c text
@@ -94,7 +94,7 @@ goes_on_other (b ∷ top) (c ∷ text) is =
     none true = refl
     none false = refl
 
--- so those are the texts below the top
+-- so they are the texts below the top
 pub between_below : (b : ℕ) (top text : List ℕ)
     → is_between ((b ∷ top) ++ 47 ∷ []) ((b ∷ top) ++ 48 ∷ []) text ≡ is_text_below (b ∷ top) text
 between_below b top text = between_goes_on (b ∷ top) text ∙ cases (goes_on (b ∷ top) text) refl
@@ -103,7 +103,7 @@ between_below b top text = between_goes_on (b ∷ top) text ∙ cases (goes_on (
     cases true is = sym (ap not (goes_on_other (b ∷ top) text is))
     cases false is = refl
 
--- tests of texts and of what has them
+-- tests of texts, and of the values that have the texts
 pub filter_items : {V : Type 0} (items : V → List ℕ) (one : V → Bool) (two : List ℕ → Bool)
     → ((v : V) → one v ≡ two (items v)) → (keys : List V) → map items (filter one keys) ≡ filter two (map items keys)
 filter_items items one two same [] = refl
@@ -136,7 +136,7 @@ range_texts items (b ∷ top) start end some from to keys =
     (λ key. ap₂ (λ (one : List ℕ) (other : List ℕ). is_between one other (items key)) from to
     ∙ between_below b top (items key)) keys)
 
--- the range isn't turned round
+-- the beginning of the range isn't after its end
 pub forward : (top : List ℕ) → is_gt (slice_cmp nat_cmp (top ++ 47 ∷ []) (top ++ 48 ∷ [])) ≡ false
 forward [] = refl
 forward (b ∷ top) = cases (forward top) (sides b b)
@@ -226,7 +226,7 @@ below_named top (text ∷ texts) named =
         ∙ sym (ap (λ rests. rests ++ rests_below (names_of top) (paths_of texts)) own)
     cases false own others = others ∙ sym (ap (λ rests. rests ++ rests_below (names_of top) (paths_of texts)) own)
 
--- what the texts go on with doesn't end in a slash, where they have names
+-- what follows in the texts doesn't end in a slash, if the texts have names
 pub below_bare : (top : List ℕ) (texts : List (List ℕ)) → list_all has_node_names (paths_of texts) ≡ true
     → list_all (λ rest. not (ends_in_slash rest)) (texts_below top texts) ≡ true
 below_bare top [] named = refl
@@ -241,7 +241,7 @@ below_bare top (text ∷ texts) named =
     cases true own others = ap (λ b. b && list_all (λ rest. not (ends_in_slash rest)) (texts_below top texts)) own ∙ others
     cases false own others = others
 
--- of the root, which isn't one of them, all are below it
+-- all texts are below the root, if it isn't one of them
 pub all_below_root : (texts : List (List ℕ)) → list_any (λ text. bytes_eq [] text) texts ≡ false → texts_below [] texts ≡ texts
 all_below_root [] none = refl
 all_below_root ([] ∷ texts) none = absurd (let bad : true ≡ false = none in cc)

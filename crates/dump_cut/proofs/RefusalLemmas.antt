@@ -13,7 +13,7 @@ use Rattle.dump_cut.specs.Refusals.{first_reason, deletion_refused, making_refus
 use Rattle.dump_cut.specs.steps.KindViews.{sets_some}
 use Rattle.dump_cut.specs.declared.refusal.Refusal.{Refusal}
 
--- what holds of a value, if there is one, holds in other words
+-- what is true of a value, if there is one, is true in other words
 pub in_ok : {A E : Type 0} (r : Result A E) (P Q : A → Type 0) → IfOk r P → ((a : A) → P a → Q a) → IfOk r Q
 in_ok (Ok a) P Q holds more = more a holds
 in_ok (Err e) P Q holds more = holds

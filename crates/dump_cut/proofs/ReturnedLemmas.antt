@@ -22,17 +22,17 @@ pub in_both : {A E : Type 0} (r : Result A E) (P Q : A → Type 0) (R : Type 0) 
 in_both (Ok a) P Q R one other then = then a one other
 in_both (Err e) P Q R one other then = tt
 
--- and one clause that follows from another
+-- a clause that follows from another one
 pub ok_then : {A E : Type 0} (r : Result A E) (P Q : A → Type 0) → IfOk r P → ((a : A) → P a → Q a) → IfOk r Q
 ok_then (Ok a) P Q one then = then a one
 ok_then (Err e) P Q one then = tt
 
--- what holds whatever comes
+-- a clause that is true of each result
 pub ok_always : {A E P : Type 0} (r : Result A E) → P → OnOk r P
 ok_always (Ok a) it = it
 ok_always (Err e) it = tt
 
--- the paths are the rests, after the top
+-- the paths are the rests after the top
 pub paths_behind : (top : NodePath) (shown : List (Bor (List ℕ))) (rests : List (Bor (List ℕ))) (paths : List NodePath)
     → shown ≡ rests → paths ≡ map (λ rest. top ++ names_of rest.now) shown
     → paths ≡ map (λ rest. top ++ rest) (map (λ rest. names_of rest.now) rests)

@@ -1,4 +1,4 @@
--- What an index finds before a change is what the laws of loading ask for, and the directory that was seen last stays.
+-- What an index finds before a change is what the laws of loading need, and the last directory that was seen stays.
 use Rattle.std.proofs.Common.{◌≡◌, ℕ, suc, ◌+◌, ◌<◌, ◌≤◌, Bool, true, false, cond, List, [], ◌∷◌, ◌++◌, length, length-append, map, get_or, reverse, nat_eq, nat_lt, Option, Some, None, option_map, option_and_then, refl, sym, ap, ap₂, subst, ◌∙◌, arith}
 use Rattle.std.specs.Prelude.{slice_get, IfSome, MatchOption}
 use Rattle.std.specs.List.{AllZip}
@@ -30,7 +30,7 @@ use Rattle.dump_cut.specs.steps.KindsBefore.{AreKindsBefore, AreSeen, IsParentOf
 use Rattle.dump_cut.specs.steps.ParentTexts.{after_slash, parent_text}
 use Rattle.dump_cut.proofs.ParentLemmas.{parent_named}
 
--- ---- what the laws ask for
+-- ---- what the laws need
 
 meant_then : (f : NodePath → Option NodeKind) (o : Option NodePath)
     → option_map kind_meant (option_and_then f o) ≡ option_and_then (λ path. option_map kind_meant (f path)) o
@@ -68,7 +68,7 @@ module _ (listed : List Listed) (placed : List Placed) (all : AllZip IsListed li
       (ap (option_map kind_meant) are.source ∙ source_meant l.revision l.made
       ∙ ap₂ (λ (n : ℕ) (made : Option Made). source_told (kinds_told_by listed) placed n made) (sym is.revision) (sym is.made))
 
--- ---- the directory that was seen last
+-- ---- the last directory that was seen
 
 after_less : (text : List ℕ) → length (after_slash text) ≤ length text
 after_less [] = omega arith
@@ -118,7 +118,7 @@ seen_next listed count next one_more c kinds (Some seen) named are stays is =
     ∙ sym (stays (parent_text c.path.now) (parent_shorter c.path.now is.below))
     ∙ ap₂ (λ (n : ℕ) (text : List ℕ). kind_look listed n (names_of text)) (sym one_more) (sym is.path)
 
--- and the other one too, whose path is shorter
+-- and it leaves the other directory too, whose path is shorter
 other_next : (listed : List Listed) (count next : ℕ) → next ≡ suc count → (c : NodeChange) (seen : Option SeenParent)
     → ((path : List ℕ) → length path < length c.path.now
     → kind_look listed (suc count) (names_of path) ≡ kind_look listed count (names_of path))

@@ -1,4 +1,4 @@
--- What the filter writes of a dump that it takes as it is, is the dump of the repository that is meant.
+-- What the filter writes of a dump that it takes as it is, is the dump of the intended repository.
 use Rattle.std.proofs.Common.{◌≡◌, ℕ, suc, true, List, [], ◌∷◌, map, refl, sym, ap, ◌∙◌}
 use Rattle.std.proofs.lemmas.Bool.{and_parts, and_from}
 use Rattle.std.proofs.lemmas.List.Folds.{list_all-append, list_all-map}

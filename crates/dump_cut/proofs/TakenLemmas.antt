@@ -1,4 +1,4 @@
--- Where the copies of a dump that loads are taken as they are, the filter's cut separates each change.
+-- If the copies of a dump that loads are taken as they are, the filter's cut separates each change.
 use Rattle.std.proofs.Common.{◌≡◌, ℕ, Bool, true, false, not, ◌&&◌, ◌||◌, ◌==◌, List, [], ◌∷◌, ◌++◌, length, Some, option_and_then, is_some, refl, sym, ap, ◌∙◌, subst, append-nil, append_assoc, arith, Contains}
 use Rattle.std.specs.Prelude.{slice_get}
 use Rattle.std.specs.List.{list_all}
@@ -30,7 +30,7 @@ both_ways : (b : Bool) → b ≡ false → b ≡ true → ⊥
 both_ways true is isnt = let bad : true ≡ false = is in cc
 both_ways false is isnt = let bad : false ≡ true = isnt in cc
 
--- where a copy isn't followed anywhere, the paths cover what it is followed to
+-- if a copy isn't followed anywhere, the paths cover what it would be followed to
 reached : (way : Way) (tops : List NodePath) (old : Tree) (path source rest : NodePath)
     → followed way tops old path source ≡ [] → HasFolders old → is_some (old (source ++ rest)) ≡ true
     → is_covered tops (from_of way path source ++ rest) ≡ true → is_covered tops (to_of way path source ++ rest) ≡ true
@@ -53,7 +53,7 @@ reached way tops old path source rest none folders exists covered =
         (subst (λ p. is_covered tops p ≡ false)
         (ap (λ r. to_of way path source ++ r) same ∙ sym (append_assoc (to_of way path source) first more)) at)))))))
 
--- a list of no length
+-- a list of length 0 is empty
 no_length : {A : Type 0} (xs : List A) → (length xs == 0) ≡ true → xs ≡ []
 no_length [] is = refl
 no_length (x ∷ xs) is = let none : length (x ∷ xs) ≡ 0 = eqb-true (length (x ∷ xs)) 0 is in absurd (omega arith)
@@ -66,7 +66,7 @@ module _ (settings : Settings) (excluded : List NodePath) (told : ToldKinds) (re
   abbrev here : List Placed
   here = placed_from 1 revisions
 
-  -- a copy to a path that isn't covered isn't followed, neither way
+  -- a copy to a path that isn't covered is followed in neither way
   neither : (path source : NodePath) (old : Tree) → Copies trees revisions path source old
       → is_covered excluded path ≡ false
       → (followed Way.ToCopies excluded old path source ≡ []) × (followed Way.ToSources excluded old path source ≡ [])
@@ -102,7 +102,7 @@ module _ (settings : Settings) (excluded : List NodePath) (told : ToldKinds) (re
       tree = ap (λ ts. slice_get ts number) joined ∙ get_before older more number old early;
     }
 
-    -- what exists at the source is kept on both sides or on none
+    -- what exists at the source is kept both there and at the copy, or at neither
     alike : (number : ℕ) (source : NodePath) (old : Tree) (rest : NodePath) → c.made ≡ Some (Made.Copied number source)
         → slice_get older number ≡ Some old → is_some (old (source ++ rest)) ≡ true
         → keeps settings (c.path ++ rest) ≡ keeps settings (source ++ rest)

@@ -30,7 +30,7 @@ use Rattle.dump_cut.proofs.DeleteGroups.{all_sizes, front_nodes, group_sizes, gr
 use Rattle.dump_cut.proofs.TakenLaw.{placed_named, revisions_named}
 use Rattle.dump_cut.proofs.TrimLemmas as trims
 
--- where each revision stays, each has its deletes
+-- if each revision stays, each has its deletes
 all_trimming : (settings : Settings) → ((changes : List Change) → keeps_revision settings (stays_empty settings) changes ≡ true)
     → (older : List Tree) (youngest : Tree) (revisions : List (List Change)) (groups : List (List (List WrittenNode)))
     → AreFilteredTrimming settings older youngest revisions groups → AreAllTrimming settings older youngest revisions groups

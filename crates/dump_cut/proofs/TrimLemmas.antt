@@ -1,4 +1,4 @@
--- What is deleted after the copies of a dump that loads is just what they take to excluded paths.
+-- What is deleted after the copies of a dump that loads is exactly what they take to excluded paths.
 use Rattle.std.proofs.Common.{◌≡◌, ℕ, suc, ◌+◌, cond, take, drop, Bool, true, false, not, List, [], ◌∷◌, ◌++◌, length, map, filter, Option, Some, None, option_and_then, refl, sym, ap, ap₂, ◌∙◌, subst, Contains, inl, inr, MatchBool}
 use Rattle.std.specs.Prelude.{slice_get}
 use Rattle.std.specs.List.{list_all, list_any}
@@ -54,7 +54,7 @@ at_true A B b is a = subst (λ c. MatchBool c A B) (sym is) a
 at_false : (A B : Type 0) (b : Bool) → b ≡ false → B → MatchBool b A B
 at_false A B b is a = subst (λ c. MatchBool c A B) (sym is) a
 
--- where the changes don't keep their revision, none of them is kept
+-- if the changes don't keep their revision, none of them is kept
 not_kept_by : (settings : Settings) (changes : List Change) → keeps_revision settings (stays_empty settings) changes ≡ false
     → list_any (λ (c : Change). keeps settings c.path) changes ≡ false
 not_kept_by settings changes dropped =
@@ -97,7 +97,7 @@ module _ (settings : Settings) (excluded : List NodePath) (told : ToldKinds) (re
   abbrev pub lost_rests : Change → List NodePath
   lost_rests c = rests_made Way.ToSources excluded told here c.path c.made
 
-  -- and the paths
+  -- the paths that it takes to excluded paths
   abbrev pub lost : Change → List NodePath
   lost c = map (λ rest. c.path ++ rest) (lost_rests c)
 
@@ -162,7 +162,7 @@ module _ (settings : Settings) (excluded : List NodePath) (told : ToldKinds) (re
             (deletes_are_found settings excluded (slice_get trees) early.0 c source over is_apart kept),
       )
 
-    -- another change is separated
+    -- a change that is no copy is separated
     apart_alone : ((number : ℕ) (source : NodePath) → c.made ≡ Some (Made.Copied number source) → ⊥)
         → (later : Tree) → step (slice_get older) before c ≡ Some later
         → Separates settings (slice_get older) before c later
@@ -209,7 +209,7 @@ module _ (settings : Settings) (excluded : List NodePath) (told : ToldKinds) (re
   lost_behind : (c : Change) (changes : List Change) → stays c ≡ false → lost_of (c ∷ changes) ≡ lost_of changes
   lost_behind c changes gone = ap (λ b. map lost (cond b (c ∷ filter stays changes) (filter stays changes))) gone
 
-  -- and those of all revisions
+  -- the paths that the changes of all revisions take to excluded ones
   abbrev pub all_lost : List (List Change) → List (List NodePath)
   all_lost [] = []
   all_lost (changes ∷ left) = lost_of changes ++ all_lost left
@@ -273,7 +273,7 @@ module _ (settings : Settings) (excluded : List NodePath) (told : ToldKinds) (re
                   ts others,
             )
 
-  -- as many changes are written of a revision as stay
+  -- of a revision, as many changes are written as stay
   as_many : (IsNew : NewProperty) (IsNumber : NewNumber) (changes new : List Change)
       → list_all (λ (c : Change). has_node_names c.path) changes ≡ true
       → AreNewChanges settings IsNew IsNumber changes new → length new ≡ length (lost_of changes)
@@ -296,7 +296,7 @@ module _ (settings : Settings) (excluded : List NodePath) (told : ToldKinds) (re
           further new (MatchBool-at_false _ _ left_out are)
           ∙ sym (ap length (lost_behind c changes (sym (stays_kept c parts.0) ∙ left_out)))
 
-  -- where none of the changes is kept, none stays
+  -- if none of the changes is kept, none stays
   none_lost : (changes : List Change) → list_all (λ (c : Change). has_node_names c.path) changes ≡ true
       → list_any (λ (c : Change). keeps settings c.path) changes ≡ false → lost_of changes ≡ []
   none_lost [] have none_kept = refl

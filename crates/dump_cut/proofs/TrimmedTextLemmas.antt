@@ -39,7 +39,7 @@ deletion_bytes path =
     (append_assoc (path ++ 10 ∷ []) (codes "Node-action: delete\n") (10 ∷ [])
     ∙ append_assoc path (10 ∷ []) (codes "Node-action: delete\n\n"))
 
--- one more of them is written
+-- one more deletion is written
 pub one_deleted : (text more path : List ℕ) (paths : List (List ℕ))
     → more ≡ ((text ++ codes "\nNode-path: ") ++ path) ++ codes "\nNode-action: delete\n\n"
     → more ++ delete_texts paths ≡ text ++ delete_texts (path ∷ paths)
@@ -56,7 +56,7 @@ one_deleted text more path paths is =
 abbrev pub path_texts : List (Vec (Vec ℕ Global) Global) → List (List (List ℕ))
 path_texts deletes = map (λ paths. map (λ path. path.items) paths.items) deletes
 
--- the first ones and the others
+-- the first paths and the others
 pub first_texts : (left : List (Vec (Vec ℕ Global) Global)) (paths : Vec (Vec ℕ Global) Global) → 1 ≤ length left
     → paths ≡ get_or left 0 paths
     → path_texts left ≡ map (λ path. path.items) paths.items ∷ path_texts (take (length left - 1) (drop 1 left))
@@ -76,7 +76,7 @@ plain_texts deletes plain =
 
 -- texts that join
 
--- texts of these records join those of others after them, whatever line feeds are between
+-- the texts of these records join those of others after them, whatever line feeds are between
 abbrev pub Joins : List DumpRecord → List ℕ → Type 0
 Joins records text = (lfs : ℕ) (behind : List ℕ) (rest : List DumpRecord) → AreRecordTexts rest behind
     → (more : ℕ) × (front : List ℕ) × (text ++ (line_feeds lfs ++ behind) ≡ line_feeds more ++ front)
@@ -110,7 +110,7 @@ deletes_join place version (path ∷ paths) =
 
 -- a text that is cut
 
--- up to the end of this record, and from there on
+-- the text up to the end of this record, and the text from there on
 record CutBehind (place : ℕ) (text : List ℕ) (rs : List DumpRecord) (r : DumpRecord) (rest : List DumpRecord)
     (end : List ℕ) : Type 0 where
   front : List ℕ
@@ -154,7 +154,7 @@ cut_behind number place text (s ∷ rs) r rest end (lfs, front, after, is, at, b
       cut = left.cut;
     }
 
--- records to the end
+-- the records up to the end of the text
 pub cut_texts : (number place : ℕ) (text : List ℕ) (records : List DumpRecord) → IsCutInto number place text records []
     → (lfs : ℕ) × (front : List ℕ) × (text ≡ line_feeds lfs ++ front) × AreRecordTexts records front
 cut_texts number place text [] (lfs, is, stop) = (lfs, [], is, refl)
@@ -175,24 +175,24 @@ behind_is r =
 abbrev pub with_deletes : List DumpRecord → List (List (List ℕ)) → List DumpRecord
 with_deletes records deletes = records_behind records (deletes_behind records deletes)
 
--- where none are left the records stay as they are
+-- if no deletes remain, the records stay as they are
 none_left : (records : List DumpRecord) → with_deletes records [] ≡ records
 none_left [] = refl
 none_left (r ∷ records) = ap (λ (rs : List DumpRecord). r ∷ rs) (none_left records)
 
--- after a record that is no node there are none
+-- after a record that is no node there are no deletes
 pub other_passes : (r : DumpRecord) (left : List (List (List ℕ))) → is_node r ≡ false → (rest : List DumpRecord)
     → with_deletes (r ∷ rest) left ≡ r ∷ with_deletes rest left
 other_passes r [] other rest = refl
 other_passes r (paths ∷ left) other rest = rw other refl
 
--- after a node are the next ones
+-- the next deletes are after a node
 node_takes : (r : DumpRecord) (paths : List (List ℕ)) (left : List (List (List ℕ))) → is_node r ≡ true
     → (rest : List DumpRecord) → with_deletes (r ∷ rest) (paths ∷ left)
     ≡ r ∷ (map (node_record r.place r.version) (delete_nodes paths) ++ with_deletes rest left)
 node_takes r paths left node rest = rw node refl
 
--- after a node where the next ones are none there are none
+-- after a node whose next list is empty, there are no deletes
 pub none_taken : (r : DumpRecord) (left later : List (List (List ℕ))) → is_node r ≡ true → left ≡ [] ∷ later
     → (rest : List DumpRecord) → with_deletes (r ∷ rest) left ≡ r ∷ with_deletes rest later
 none_taken r left later node is rest = ap (with_deletes (r ∷ rest)) is ∙ node_takes r [] later node rest
@@ -231,8 +231,8 @@ may_all (r ∷ records) (paths ∷ deletes) plain =
 
 -- what is written so far
 
--- the records up to the byte `from`, the done ones, are written, as these texts; the pending ones after them have no
--- deletes after them
+-- The records up to the byte `from` are done: they are written, and these are their texts. No deletes follow the
+-- records that are pending after them.
 pub record TrimmedSoFar (deletes : List (List (List ℕ))) (dump : List ℕ) (cutter : CutterState) (piece : List ℕ)
     (left : List (List (List ℕ))) (from : ℕ) : Type 0 where
   pub dump_is : cutter.dump ≡ dump
@@ -323,7 +323,7 @@ module _ (deletes : List (List (List ℕ))) (dump : List ℕ) (cutter after : Cu
           (sym (append_assoc so_far.pending (given ∷ []) (with_deletes rest later)));
     }
 
-    -- the dump after the done records is cut up to after the record
+    -- the dump after the done records is split after the record
     cut_here : (rest : List DumpRecord) (end : List ℕ)
         → IsCutInto 0 0 dump (so_far.done ++ (so_far.pending ++ given ∷ rest)) end
         → CutBehind from (drop from dump) so_far.pending given rest end
@@ -351,7 +351,7 @@ module _ (deletes : List (List (List ℕ))) (dump : List ℕ) (cutter after : Cu
           let inside = so_far.inside in
           omega arith
 
-      -- what the part of the dump up to there is
+      -- the part of the dump up to there
       lent : take (place - from) (drop from dump) ≡ here.front
       lent =
           let at = place_at in
@@ -418,7 +418,7 @@ module _ (deletes : List (List (List ℕ))) (dump : List ℕ) (cutter after : Cu
   -- the end
 
   module _ (records : List DumpRecord) (has : HasRecords dump records Ending.Whole) where
-    -- the records that the cutter has given are the first ones
+    -- the records that the cutter has returned are the first ones
     all_before : (rest : List DumpRecord) × (records ≡ so_far.done ++ (so_far.pending ++ rest))
     all_before =
         let before = so_far.done ++ so_far.pending in (
@@ -429,7 +429,7 @@ module _ (deletes : List (List (List ℕ))) (dump : List ℕ) (cutter after : Cu
               ∙ append_assoc so_far.done so_far.pending (drop (length before) records),
         )
 
-    -- where no deletes follow the rest, all is written with the rest of the dump
+    -- if no deletes follow the rest, everything is written with the rest of the dump
     with_rest : (rest : List DumpRecord) → records ≡ so_far.done ++ (so_far.pending ++ rest)
         → with_deletes rest left ≡ rest → list_all (λ texts. list_all is_plain_path texts) deletes ≡ true
         → IsTrimmedText records (deletes_behind records deletes) (piece ++ drop from dump)
@@ -457,7 +457,7 @@ module _ (deletes : List (List (List ℕ))) (dump : List ℕ) (cutter after : Cu
         let (rest, is) = all_before in
         with_rest rest is (ap (with_deletes rest) none ∙ none_left rest) plain
 
-    -- the cutter gives no record
+    -- the cutter returns no record
     ends_as : (ending : Ending) → EndsAfter cutter.dump cutter.number ending
         → HasRecords dump (so_far.done ++ so_far.pending) ending
     ends_as ending ends =

@@ -1,11 +1,11 @@
--- Worked values of the definitions, computed by the kernel.
+-- Examples for the definitions; the checker computes them.
 use Rattle.std.proofs.Common.{◌≡◌, ℕ, List, [], ◌∷◌, codes, refl}
 use Rattle.dump_text.specs.Names.{revision_name, version_name}
 use Rattle.dump_records.specs.RecordText.{DumpRecord}
 use Rattle.dump_digest.specs.RecordParts.{is_revision_record}
 use Rattle.dump_cut.specs.LaterParts.{is_later_revision, place_of_first, version_before_first}
 
--- LaterParts
+-- laterParts
 
 -- a record with one line
 abbrev one_line : ℕ → List ℕ → List ℕ → DumpRecord

@@ -9,7 +9,7 @@ use Rattle.dump_cut.specs.declared.refusal.Refusal.{Refusal}
 use Rattle.dump_cut.proofs.RefusalLemmas.{listed_refused}
 use Rattle.dump_cut.proofs.refusal.refusal_of.Goals as goal
 
--- where there is no first reason, the other one counts
+-- if there is no first reason, the other one counts
 goes_on : (one other : Option Refusal) → one ≡ None → first_reason one other ≡ other
 goes_on one other none = ap (λ reason. first_reason reason other) none
 
