@@ -1,4 +1,4 @@
--- The laws of expanded dumps, as the contracts state them.
+-- The laws of expanded dumps, in the form of the contracts.
 use Rattle.std.proofs.Common.{◌≡◌, ℕ, zero, suc, true, List, [], ◌∷◌, map, Some, None, refl, sym, ap, ◌∙◌, subst}
 use Rattle.std.specs.Prelude.{slice_get}
 use Rattle.std.proofs.lemmas.Simd.{map-map}

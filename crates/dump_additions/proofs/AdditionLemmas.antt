@@ -58,7 +58,7 @@ use Rattle.dump_additions.specs.steps.WrittenParts.{AreChangesFor, AreEntriesAt,
 use Rattle.dump_additions.proofs.CopyLemmas.{WritesRoot, copy_expands, early, in_trees}
 use Rattle.dump_additions.proofs.EntryLemmas.{set_again}
 
--- the properties of a node of a finite tree make themselves
+-- the properties of a node of a finite tree, set as entries, make the same properties
 own_again : (tree : Tree) → IsFinite tree → (path : NodePath) (node : Node) → tree path ≡ Some node
     → edited_with (properties_of node) [] ≡ properties_of node
 own_again tree finite path node at = cases (s.branch) (s.whole.entries) (sym (s.has []) ∙ (ap tree (append-nil path) ∙ at))
@@ -87,7 +87,7 @@ some_kind None (Some node) is = absurd (cc)
 some_kind (Some kind) None is = absurd (cc)
 some_kind (Some kind) (Some node) is = refl
 
--- a copy without deleting, over something, does the same once this is deleted
+-- a copy over something, without deleting it, does the same after a deletion of this
 
 module _ (history : History) (c : Change) (stays : c.deletes ≡ false) (copies : is_copied c.made ≡ true) where
   -- what a copy needs above its path
@@ -117,7 +117,7 @@ module _ (history : History) (c : Change) (stays : c.deletes ≡ false) (copies 
           (sym (parent_directory before (parent_of c.path))
           ∙ (and_parts (is_some kinds.source) (is_directory kinds.parent) is).1)
 
-  -- it doesn't see what is deleted
+  -- it doesn't depend on what is deleted
   copy_after_deletion : (before : Tree) → step history (grafted c.path empty_tree before) c ≡ step history before c
   copy_after_deletion before =
       let (number, source, is) = copy_parts c.made copies in
@@ -143,8 +143,8 @@ module _ (history : History) (c : Change) (stays : c.deletes ≡ false) (copies 
       (each_change_stays history (grafted c.path empty_tree before) c after (copy_after_deletion before ∙ at))
 
 module _ (blocks : List (List ℕ)) (texts : List ToldText) (listed : List Listed) (excluded : List NodePath) where
-  -- what is in place of the change at a place: the change alone, if it doesn't copy over something; a deletion of what exists
-  -- there and the change, if it does; or an addition
+  -- What is in place of the change at a place. If the change doesn't copy over something, it is the change itself. If
+  -- it does, it is a deletion of what exists there, and then the change. It may also be an addition.
   pub data IsSteadAt (place : ℕ) (l : Listed) (s : Stead) : Type 0 where
     LeftAlone : s ≡ left_alone → copies_over listed place l ≡ false → IsSteadAt place l s
     ClearedFirst : (w : WrittenNode) → s ≡ record { nodes = w ∷ []; own = OwnForm.AsItIs }
@@ -153,13 +153,13 @@ module _ (blocks : List (List ℕ)) (texts : List ToldText) (listed : List Liste
     InPlace : (g : GivenStead) → IsAddition blocks texts listed excluded place l g
         → s ≡ record { nodes = g.nodes; own = OwnForm.LeftOut } → IsSteadAt place l s
 
-  -- so of the changes from this place on
+  -- the same for the changes from this place on
   abbrev pub AreSteadsFrom : ℕ → List Listed → List Stead → Type 0
   AreSteadsFrom place [] steads = steads ≡ []
   AreSteadsFrom place (l ∷ ls) [] = ⊥
   AreSteadsFrom place (l ∷ ls) (s ∷ steads) = IsSteadAt place l s × AreSteadsFrom (suc place) ls steads
 
-  -- a change, before which this is the tree, and what is in its place
+  -- a change, the tree before it, and what is in its place
   pub record IsKnown (history : History) (before : Tree) (c : Change) (s : Stead) : Type 0 where
     pub place : ℕ
     pub number : ℕ
@@ -170,7 +170,7 @@ module _ (blocks : List (List ℕ)) (texts : List ToldText) (listed : List Liste
     pub folders : HasFolders before
     pub expands : Expands keep_all history before c (changes_for s c)
 
-  -- so of the changes of a revision, and of those of each revision
+  -- the same for the changes of a revision, and for those of each revision
   abbrev pub AllKnown : History → Tree → List Change → List Stead → Type 0
   AllKnown history before [] steads = ⊤
   AllKnown history before (c ∷ cs) [] = ⊥
@@ -228,7 +228,7 @@ module _ (patched : Patching) (records : List DumpRecord) (changes : List NodeCh
   abbrev Addition : ℕ → Listed → GivenStead → Type 0
   Addition = IsAddition blocks texts listed excluded
 
-  -- what is found in the past
+  -- the properties found in an earlier revision
   properties_found : (text : List ℕ) (count : ℕ) (props : List Property) → ArePropertiesAt blocks listed text count props
       → (node : Node) → look root_alone here count (names_of text) ≡ Some node → properties_of node ≡ props
   properties_found text count props are node at = are patched records changes here node refl refl lists ordered at
@@ -240,7 +240,7 @@ module _ (patched : Patching) (records : List DumpRecord) (changes : List NodeCh
       whole_is_of_file texts listed text count its stored patched records changes here props found refl refl lists ordered at
 
   module _ (number : ℕ) (old : Tree) (there : slice_get trees number ≡ Some old) (finite : IsFinite old) where
-    -- what is looked up there is in the tree
+    -- what is looked up there is in that tree
     looked_there : (source rest : NodePath) (text : List ℕ) → names_of text ≡ source ++ rest
         → look root_alone here (end_of (all_placed listed) number) (names_of text) ≡ old (source ++ rest)
     looked_there source rest text text_is =

@@ -1,4 +1,4 @@
--- In place of a copy of a dump that loads, its parts do the same.
+-- The parts in place of a copy of a dump that loads do the same as the copy.
 use Rattle.std.proofs.Common.{◌≡◌, ℕ, true, List, [], ◌∷◌, ◌++◌, map, Option, Some, None, option_map, is_some, refl, sym, ap, ap₂, ◌∙◌, subst, append-nil, inr}
 use Rattle.std.specs.Prelude.{slice_get}
 use Rattle.dump_text.specs.PropertyList.{Property}
@@ -126,7 +126,7 @@ module _ (changes : List NodeChange) (revisions : List (List Change)) (trees : L
           directory_expands (slice_get older) before early.0 c number source own inner (finite_folders before finite) makes early.1
           none w (own_made none w)
 
-      -- nothing is in a file
+      -- a file has nothing below it
       no_changes : parts ≡ [] → inner ≡ []
       no_changes none = cases inner (subst (λ ps. AreChangesFor early.0 number c.path source ps inner) none writes)
         where

@@ -60,7 +60,7 @@ held : (b x : Bool) → b ≡ true → (not b || x) ≡ true → x ≡ true
 held true x holds is = is
 held false x holds is = absurd (let bad : false ≡ true = holds in cc)
 
--- where the kinds allow a change, and it changes what exists at its path, something exists there after it
+-- if the kinds allow a change, and it changes what exists at its path, something exists there after it
 allowed_exists : (c : Change) (kinds : Kinds) (changed : Bool) → (changed ≡ true → is_some kinds.here ≡ true)
     → kinds_allow c kinds ≡ true → is_changed_after (Some []) c changed ≡ true
     → is_some (kind_made c.made (kind_left c.deletes kinds.here) kinds.source) ≡ true
@@ -135,7 +135,7 @@ changed_exists history before after c path changed was at = cases (below c.path 
         (λ d. absurd (both_ways c.deletes quiet.0 d)) (λ d. absurd (both_ways (is_some c.made) quiet.1 (copied_some c.made d))) at)
         ∙ was parts.0
 
--- and several
+-- several changes
 steps_exist : (history : History) (path : NodePath) (cs : List Change) (before after : Tree) (changed : Bool)
     → (changed ≡ true → is_some (before path) ≡ true) → steps history before cs ≡ Some after
     → changed_after path changed cs ≡ true → is_some (after path) ≡ true
@@ -178,11 +178,11 @@ all_weaker : (P Q : PartMeant → Type 0) → ((x : PartMeant) → P x → Q x) 
 all_weaker P Q more [] all = tt
 all_weaker P Q more (x ∷ xs) (here, all) = (more x here, all_weaker P Q more xs all)
 
--- none has this rest
+-- no part has this rest
 abbrev NoneAt : NodePath → List PartMeant → Type 0
 NoneAt rest parts = AllByRecursion (λ (part : PartMeant). part.rest ≡ rest → ⊥) parts
 
--- each has another one
+-- each part has another rest
 abbrev AllApart : List PartMeant → Type 0
 AllApart [] = ⊤
 AllApart (part ∷ parts) = NoneAt part.rest parts × AllApart parts
@@ -269,7 +269,7 @@ module _ (listed : List Listed) (excluded : List NodePath) (number : ℕ) (path 
 
 -- the changes that write parts
 
--- each is at the path of its part
+-- each change is at the path of its part
 abbrev AreAtParts : NodePath → List PartMeant → List Change → Type 0
 AreAtParts top parts changes = AllZip (λ (part : PartMeant) (c : Change). c.path ≡ top ++ part.rest) parts changes
 
@@ -295,7 +295,7 @@ module _ (top path : NodePath) where
     not_at_outside parts xs outside are,
   )
 
-  -- one after the other
+  -- one part after the other
   none_apart : (parts : List PartMeant) (xs : List Change) → AllApart parts → AreAtParts top parts xs
       → copies_over_changed path false xs ≡ false
   none_apart [] [] apart are = refl
@@ -464,7 +464,7 @@ module _ (blocks : List (List ℕ)) (texts : List ToldText) (listed : List Liste
       (λ holds. steps_exist history path (changes_for s c) before middle changed was (own.expands middle first).same holds)
       (more middle first) rest)
 
-  -- and those of each revision
+  -- the same for each revision
   pub revisions_none : (left : List (List Change)) (older : List Tree) (youngest : Tree) (steads : List Stead)
       (trees : List Tree) → AllRevisionsKnown blocks texts listed excluded older youngest left steads
       → loaded older youngest left ≡ Some trees → some_copies_over path (expanded_by steads left) ≡ false

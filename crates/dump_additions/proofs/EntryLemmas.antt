@@ -1,4 +1,4 @@
--- The properties of a node, set as entries, make just these properties.
+-- If the properties of a node are set as entries, the result is exactly these properties.
 use Rattle.std.proofs.Common.{◌≡◌, Bool, true, false, not, ◌&&◌, ◌||◌, cond, List, [], ◌∷◌, ◌++◌, ℕ, is_some, bytes_eq, refl, sym, ap, ap₂, ◌∙◌, append_assoc, append-nil}
 use Rattle.std.specs.List.{filter, list_any}
 use Rattle.std.proofs.lemmas.Bool.{and_from, and_parts, false_from_ne_true, not-true, or_parts}
@@ -10,7 +10,7 @@ use Rattle.dump_trees.specs.Changes.{edited_with, with_entry}
 abbrev is_set : List ℕ → List Property → Bool
 is_set name props = list_any (λ (p : Property). bytes_eq p.name name) props
 
--- whether each has a value, and a name of its own
+-- whether each property has a value and a name of its own
 abbrev are_set : List Property → Bool
 are_set [] = true
 are_set (p ∷ props) = is_some p.value && (not (is_set p.name props) && are_set props)
@@ -20,7 +20,7 @@ apart one other isnt =
     false_from_ne_true (bytes_eq other one) (λ same.
     let bad : true ≡ false = sym ((bytes_eq-Decides one other).1 (sym ((bytes_eq-Decides other one).0 same))) ∙ isnt in cc)
 
--- properties without those of a name
+-- the properties without those of one name
 
 fewer_set : (name other : List ℕ) (props : List Property) → is_set other props ≡ false
     → is_set other (filter (λ (p : Property). not (bytes_eq p.name name)) props) ≡ false
@@ -111,9 +111,9 @@ edited_are_set : (entries props : List Property) → are_set props ≡ true → 
 edited_are_set [] props all = all
 edited_are_set (e ∷ entries) props all = edited_are_set entries (with_entry e props) (entry_are_set e props all)
 
--- set again
+-- setting the properties again
 
--- in front of a property none has its name
+-- no property before a property has its name
 front_apart : (done : List Property) (p : Property) (rest : List Property) → are_set (done ++ p ∷ rest) ≡ true
     → filter (λ (q : Property). not (bytes_eq q.name p.name)) done ≡ done
 front_apart [] p rest all = refl
@@ -148,7 +148,7 @@ set_behind (p ∷ props) done all =
     ∙ (set_behind props (done ++ p ∷ []) (ap are_set (append_assoc done (p ∷ []) props) ∙ all)
     ∙ append_assoc done (p ∷ []) props)
 
--- what entries have made is made by itself
+-- if entries have made some properties, these properties make themselves
 pub set_again : (entries props : List Property) → edited_with entries [] ≡ props → edited_with props [] ≡ props
 set_again entries props made =
     set_behind props [] (ap are_set (sym made) ∙ edited_are_set entries [] refl)

@@ -1,4 +1,4 @@
--- A copy in whose place parts are written: they do the same.
+-- The parts that are written in place of a copy do the same as the copy.
 use Rattle.std.proofs.Common.{◌≡◌, ℕ, true, false, List, [], ◌∷◌, ◌++◌, Option, Some, None, is_some, refl, sym, ap, ◌∙◌, subst}
 use Rattle.std.specs.Prelude.{if◌then◌else◌}
 use Rattle.dump_text.specs.PropertyList.{Property}
@@ -15,8 +15,8 @@ use Rattle.dump_history.proofs.expanded.ReplacingLemmas.{kept_copy_replaces}
 use Rattle.dump_trees.proofs.expansions.CaseLemmas.{kept_copy}
 use Rattle.dump_additions.specs.steps.WrittenParts.{IsDirectoryWritten, props_made}
 
--- what writes out what the change makes of what it copies is an expansion of it: the first replaces what exists at the path,
--- if something does
+-- The changes that write out what the change makes of its copy are an expansion of the change. The first of them
+-- replaces what exists at the path, if something does.
 pub written_expands : (history : History) (before old : Tree) (c : Change) (number : ℕ) (source : NodePath)
     (branch made : Branch) (first : Change) (changes : List Change) → HasFolders before
     → c.made ≡ Some (Made.Copied number source) → history number ≡ Some old → HasBranch old source branch
@@ -50,7 +50,7 @@ made_of c none props inside =
     cases None = refl
     cases (Some change) = refl
 
--- so does a directory, with what is in it
+-- the same for a directory, with what is in it
 pub directory_expands : (history : History) (before old : Tree) (c : Change) (number : ℕ) (source : NodePath)
     (own : List Property) (changes : List Change) → HasFolders before
     → c.made ≡ Some (Made.Copied number source) → history number ≡ Some old → c.text ≡ None

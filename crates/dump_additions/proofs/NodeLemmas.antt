@@ -61,7 +61,7 @@ module _ (text top rest : List ℕ) (is : text ≡ joined_text top rest) (top_na
   pub joined_bare : ends_in_slash text ≡ false
   joined_bare = ends_named text joined_named
 
--- a copy says the kind that it is given, or another one if there is none
+-- a copy names the given kind, or another one if no kind is given
 pub says_kind : (here : Option NodeKind) (other : NodeKind) (number : ℕ) (source path : List ℕ)
     → SaysKind here (WrittenNode.Copy (written_kind (unwrap_or here other)) number source path)
 says_kind None other number source path = tt
@@ -94,7 +94,7 @@ module _ (blocks : List (List ℕ)) (texts : List ToldText) (listed : List Liste
         (nodes_pushed (map part_meant (take k parts)) more (part_meant (get_or parts k d)) w are is),
   )
 
-  -- where no delta is found, the nodes are added
+  -- if no delta is found, the nodes are added
   pub all_added : (parts : List PartMeant) (old new : List WrittenNode) (found : Option ℕ)
       → ((at : ℕ) → found ≡ Some at → ⊥)
       → AddsNodes blocks texts listed excluded number path source parts old new found
@@ -153,7 +153,7 @@ module _ (blocks : List (List ℕ)) (texts : List ToldText) (listed : List Liste
     root_refused NoLoad (is, text) = refused NoLoad (inr (folder_there is, text))
     root_refused NotWritable is = absurd is
 
-    -- nor can a file in it
+    -- nor can a file below it
     pub inside_refused : (at : ℕ) → HasDelta blocks texts listed excluded number (names_of l.path) source inside at
         → CannotBeAdded blocks texts listed excluded place l (Delta at)
     inside_refused at has = refused (Delta at) (form, inside, refl, inr has)
@@ -196,7 +196,7 @@ module _ (blocks : List (List ℕ)) (texts : List ToldText) (listed : List Liste
     top : (rest ≡ []) × IsFormAt listed excluded number (names_of l.path) source [] (Some form)
     top = first_form listed excluded number (names_of l.path) source [] parts inside (record { form = form; rest = rest }) are same
 
-    -- these are the parts of which nodes are made
+    -- nodes are made of these parts
     pub parts_apart : Parts (record { form = form; rest = [] } ∷ inside)
     parts_apart = subst Parts (same ∙ ap (λ r. record { form = form; rest = r } ∷ inside) top.0) are
 
@@ -211,7 +211,7 @@ module _ (blocks : List (List ℕ)) (texts : List ToldText) (listed : List Liste
         by Directory isnt is = is.0
         by File isnt is = is.0
 
-    -- or nothing does, and it may be over something
+    -- or nothing comes back, and it may be over something
     pub stays : form ≡ Copy → (found : Result (Option code.Stead) Reason) → IsClearingOr listed place l found
         → IsAdditionOr blocks texts listed excluded place l found
     stays is found clears =

@@ -74,7 +74,7 @@ later_number n (m ∷ numbers) g given are all =
         let at = eqb-true g.number m same in
         false_from_ne_true (g.number == n) (λ bad. let both = eqb-true g.number n bad in absurd (omega arith))
 
--- what is given for it isn't given for later ones
+-- what is given for this node isn't given for later ones
 head_other : (n : ℕ) (numbers : List ℕ) (g : GivenStead) (given : List GivenStead) → (g.number == n) ≡ false
     → steads_for (n ∷ numbers) (g ∷ given) ≡ left_alone ∷ steads_for numbers (g ∷ given)
 head_other n numbers g given other = rw other refl
@@ -99,7 +99,7 @@ module _ (blocks : List (List ℕ)) (texts : List ToldText) (listed : List Liste
   abbrev Steads : ℕ → List Listed → List Stead → Type 0
   Steads = AreSteadsFrom blocks texts listed excluded
 
-  -- for the first change nothing is given
+  -- nothing is given for the first change
   alone_stead : (place : ℕ) (l : Listed) (more : List Listed) (given : List GivenStead)
       → copies_over listed place l ≡ false
       → list_all (λ m. nat_lt l.record_number m) (numbers_of more) ≡ true

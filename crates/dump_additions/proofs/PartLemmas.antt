@@ -1,4 +1,4 @@
--- Parts of what a copy takes, and the rests that are left.
+-- Parts of what a copy takes, and the rests that remain.
 use Rattle.std.proofs.Common.{◌≡◌, ℕ, true, false, List, [], ◌∷◌, ◌++◌, map, reverse, Option, Some, None, Bor, bytes_eq, length, ◌==◌, ◌<◌, ◌↔◌, arith, refl, sym, ap, ap₂, ◌∙◌, subst, append_assoc, append-nil}
 use Rattle.std.specs.Global.{Vec}
 use Rattle.std.specs.Prelude.{IsSome, OnOk, Result, Ok, Err, option_to_list}
@@ -28,11 +28,11 @@ use Rattle.dump_additions.specs.declared.parts.Form.TheVariants.{Copy, Directory
 use Rattle.dump_additions.specs.steps.Parts.{AddsInside, AreAllParts, children_of, form_of, pending}
 use Rattle.dump_additions.specs.Parts.{ArePartsIn, ArePartsOf, Copied, IsFormAt, NoName, NoPart, Named, Opened, PartMeant, TakesSomeBack, kind_in, WrittenFile}
 
--- the rests that are left, with one more
+-- the remaining rests, with one more
 pub pending_pushed : (left : List (Vec ℕ)) (rest : Vec ℕ) → pending (left ++ rest ∷ []) ≡ names_of rest.items ∷ pending left
 pending_pushed left rest = ap (map (λ (r : Vec ℕ). names_of r.items)) (reverse-append left (rest ∷ []))
 
--- one child more
+-- one more child
 pub children_joined : (rest : NodePath) (paths more : List NodePath)
     → children_of rest (paths ++ more) ≡ children_of rest paths ++ children_of rest more
 children_joined rest paths more = map-append (λ (path : NodePath). rest ++ path) paths more
@@ -111,7 +111,7 @@ module _ (listed : List Listed) (excluded : List NodePath) (number : ℕ) (path 
         (subst (λ (ps : List PartMeant). Parts [] (done ++ own ∷ ps)) (sym same)
         (goes (own ∷ first ++ more) (own ∷ first, more, refl, Opened rest names first form are inside, left)))
 
--- nothing is left
+-- no rest remains
 pub none_left : (listed : List Listed) (excluded : List NodePath) (number : ℕ) (path source : NodePath)
     (done : List PartMeant)
     → ((others : List PartMeant) → AreAllParts listed excluded number path source [] others
@@ -150,7 +150,7 @@ module _ (listed : List Listed) (excluded : List NodePath) (number : ℕ) (path 
       formed (Some kinds.Folder) is = (back, is)
       formed (Some kinds.File) is = (back, is)
 
--- a list that is empty, or isn't
+-- whether a list is empty
 pub shown_none : {A B : Type 0} (f : A → B) (xs : List A) → (length xs == 0) ≡ true → map f xs ≡ []
 shown_none f [] is = refl
 shown_none f (x ∷ xs) is = let none : length (x ∷ xs) ≡ 0 = eqb-true (length (x ∷ xs)) 0 is in absurd (omega arith)
@@ -174,7 +174,7 @@ inside_added listed named number source rest names old new (Ok _) are is =
     )
 inside_added listed named number source rest names old new (Err _) are is = tt
 
--- one name more
+-- one more name
 pub child_pushed : (rest : NodePath) (left new : List (Vec ℕ)) (child : Vec ℕ) (yielded : List (Bor (Bor (List ℕ))))
     (name : Bor (Bor (List ℕ))) (old : List NodePath) → new ≡ left ++ child ∷ []
     → names_of child.items ≡ rest ++ names_of name.now.now
@@ -216,7 +216,7 @@ inside_named listed number source rest old new (names, are, named, is) own all =
     ∙ and_from _ _ (children_named rest names own named) all)
 
 module _ (listed : List Listed) (excluded : List NodePath) (number : ℕ) (path source : NodePath) where
-  -- what the loop knows
+  -- the state of the loop
   pub record IsGoing (left : List NodePath) (done : List PartMeant) : Type 0 where
     pub named : list_all has_node_names left ≡ true
     pub done_named : list_all (λ (part : PartMeant). has_node_names part.rest) done ≡ true

@@ -16,7 +16,7 @@ props_root None branch = refl
 props_root (Some change) (Branch.Folder props inside) = refl
 props_root (Some change) (Branch.File props text) = refl
 
--- and with the text
+-- the root of a branch with the text that a change sets
 text_root : (text : Option TextChange) (branch made : Branch) → branch_with_text text branch ≡ Some made
     → node_with_text text (tree_of branch []) ≡ tree_of made []
 text_root None branch made is =

@@ -21,7 +21,7 @@ use Rattle.dump_additions.specs.FirstNotAdded.{CannotStay, IsFirstNotAdded}
 use Rattle.dump_additions.specs.steps.Nodes.{IsAdditionOr}
 use Rattle.dump_additions.specs.declared.not_added.Reason.{Reason}
 
--- a change that makes no copy brings nothing
+-- a change that is no copy brings nothing
 pub no_copy : (blocks : List (List ℕ)) (texts : List ToldText) (listed : List Listed) (excluded : List NodePath)
     (path : NodePath) (made : Option Made) → is_copied made ≡ false → BringsNone blocks texts listed excluded path made
 no_copy blocks texts listed excluded path None isnt = tt
@@ -30,7 +30,7 @@ no_copy blocks texts listed excluded path (Some Made.NewFile) isnt = tt
 no_copy blocks texts listed excluded path (Some (Made.Copied number source)) isnt = absurd (let bad : true ≡ false = isnt in cc)
 
 module _ (blocks : List (List ℕ)) (texts : List ToldText) (listed : List Listed) (excluded : List NodePath) where
-  -- what the loop knows
+  -- the state of the loop
   pub record IsGoingOn (place : ℕ) (done : List GivenStead) : Type 0 where
     pub goes_on : (rest : List Listed) (more : List GivenStead) → AreAdditionsFrom blocks texts listed excluded place rest more
         → AreAdditionsFrom blocks texts listed excluded 0 (take place listed ++ rest) (done ++ more)
@@ -39,7 +39,7 @@ module _ (blocks : List (List ℕ)) (texts : List ToldText) (listed : List Liste
   pub going_on : IsGoingOn 0 []
   going_on = record { goes_on = λ rest more are. are; written = refl }
 
-  -- where nothing is in place of the change, nothing comes back with it, and it is over nothing
+  -- if nothing is in place of the change, nothing comes back with it, and it is over nothing
   pub nothing_back : (at : ℕ) (l : Listed) (found : Option code.Stead) → ((s : code.Stead) → found ≡ Some s → ⊥)
       → IsAdditionOr blocks texts listed excluded at l (Ok found) → IsAdditionOr blocks texts listed excluded at l (Ok None)
   nothing_back at l None none is = is
@@ -137,7 +137,7 @@ module _ (blocks : List (List ℕ)) (texts : List ToldText) (listed : List Liste
           append-nil (take place listed)
           ∙ take_all place listed (subst (λ n. n ≤ place) (sym (length-map xs listed_of) ∙ ap length xs_are) low)
 
--- a change that isn't there
+-- the change that is used if there is none
 abbrev pub no_change : NodeChange
 no_change = record {
   path = record { ref_ptr = (0, 0); now = [] };

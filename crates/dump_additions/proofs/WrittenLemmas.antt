@@ -1,4 +1,4 @@
--- Parts that are written out make just what exists at the source.
+-- Parts that are written out make exactly what exists at the source.
 use Rattle.std.proofs.Common.{◌≡◌, ℕ, Bool, true, false, not, ◌||◌, cond, List, [], ◌∷◌, ◌++◌, Option, Some, None, option_map, is_some, bytes_eq, refl, sym, ap, ap₂, ◌∙◌, subst, append_assoc, append-nil, inl, inr}
 use Rattle.std.specs.Prelude.{⊤}
 use Rattle.std.specs.List.{AllByRecursion}
@@ -31,7 +31,7 @@ use Rattle.dump_additions.specs.steps.WrittenParts.{AreChangesFor, AreEntriesAt,
 
 -- branches in a directory
 
--- each of them is what exists by its name
+-- each branch is what exists below its name
 abbrev AreAt : Tree → NodePath → Branches → Type 0
 AreAt tree top Branches.NoMore = ⊤
 AreAt tree top (Branches.Named name branch others) = HasBranch tree (top ++ name ∷ []) branch × AreAt tree top others
@@ -50,7 +50,7 @@ found_at tree top (Branches.Named first branch others) (here, more) name rest so
         ∙ (ap tree (sym (append_assoc top (first ∷ []) rest)) ∙ here rest)
     either further false apart some = further some
 
--- below what doesn't exist nothing does
+-- if something doesn't exist, nothing exists below it
 none_below : (tree : Tree) → HasFolders tree → (top : NodePath) (name : List ℕ) (rest : NodePath)
     → tree (top ++ name ∷ []) ≡ None → tree (top ++ name ∷ rest) ≡ None
 none_below tree folders top name [] none = none
@@ -62,7 +62,7 @@ none_below tree folders top name (next ∷ rest) none = cases (tree (top ++ name
         absurd (let bad : false ≡ true = sym (ap Rattle.dump_trees.specs.Trees.is_folder none)
         ∙ folders (top ++ name ∷ []) next rest node (ap tree (append_assoc top (name ∷ []) (next ∷ rest)) ∙ at) in cc)
 
--- so a directory with all that exists in it
+-- so a directory is a branch with all that exists in it
 directory_at : (tree : Tree) → HasFolders tree → (top : NodePath) (props : List Property) (inside : Branches)
     → tree top ≡ Some (Node.Folder props) → AreAt tree top inside
     → ((name : List ℕ) → is_some (tree (top ++ name ∷ [])) ≡ has_name name inside)
@@ -79,7 +79,7 @@ directory_at tree folders top props inside at are all (name ∷ rest) = by_name 
     by_name false none =
         none_below tree folders top name rest (missing _ (all name ∙ none)) ∙ sym (not_found inside name rest None none)
 
--- a name comes once
+-- a name occurs once
 once : (name : List ℕ) (names : List (List ℕ)) → AllByRecursion (λ other. slice_cmp nat_cmp name other ≡ Less) names
     → is_child_named names name ≡ false
 once name [] all = refl
@@ -249,7 +249,7 @@ module _ (listed : List Listed) (excluded : List NodePath) (number : ℕ) (path 
     );
   }
 
-  -- a directory, whose own entries can be others
+  -- a directory, whose own entries may differ
   directory_written : (rest : NodePath) (names : List (List ℕ)) (own : List Property) (changes : List Change)
       → Stands old (source ++ rest)
       → kind_look listed (end_of (all_placed listed) number) (source ++ rest) ≡ Some kinds.Folder
@@ -272,7 +272,7 @@ module _ (listed : List Listed) (excluded : List NodePath) (number : ℕ) (path 
         out = λ new made. inr (own, changes, refl, made, i.out);
       }
 
-  -- with the properties that it has at the source
+  -- a directory with the properties that it has at the source
   as_it_is : (rest : NodePath) (own : List Property) (changes : List Change)
       → AreEntriesAt old number path source rest own
       → IsDirectoryWritten history old (path ++ rest) (source ++ rest) own changes
@@ -306,7 +306,7 @@ module _ (listed : List Listed) (excluded : List NodePath) (number : ℕ) (path 
         (inside_written rest names parts changes inside children.ordered
         (λ name here. sym (names_are (source ++ rest) names children name) ∙ here) are)))
 
-    -- and what is in a directory
+    -- what is in a directory
     inside_written : (rest : NodePath) (names : List (List ℕ)) (parts : List PartMeant) (changes : List Change)
         → ArePartsIn listed excluded number path source rest names parts
         → IsStrictlySortedBy (slice_cmp nat_cmp) names
@@ -323,7 +323,7 @@ module _ (listed : List Listed) (excluded : List NodePath) (number : ℕ) (path 
         (inside_written rest names others its.back more (tail_ordered name names ordered)
         (λ other is. exist other (or_right (bytes_eq name other) _ is)) its.of_others)
 
-  -- all that is copied, if it is a directory; its own entries can be others
+  -- all that is copied, if it is a directory; its own entries may differ
   pub top_written : (parts : List PartMeant) (own : List Property) (changes : List Change)
       → ArePartsOf listed excluded number path source [] (record { form = Directory; rest = [] } ∷ parts)
       → is_some (old source) ≡ true → Changes parts changes
