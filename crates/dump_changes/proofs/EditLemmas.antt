@@ -16,7 +16,7 @@ use Rattle.dump_changes.specs.steps.ChangedProperties.{as_property}
 abbrev pub has_other_name : List ℕ → NodeProperty → Bool
 has_other_name name p = not (bytes_eq p.name.now name)
 
--- those of other names
+-- the properties with other names
 others : (name : List ℕ) (props : List NodeProperty) → map as_property (filter (has_other_name name) props)
     ≡ filter (λ (p : Property). not (bytes_eq p.name name)) (map as_property props)
 others name [] = refl
@@ -31,7 +31,7 @@ others name (p ∷ props) = cases (has_other_name name p) (others name props)
     cases false same = same
 
 module _ (entry : Entry) (props kept : List NodeProperty) (kept_are : kept ≡ filter (has_other_name entry.name.now) props) where
-  -- an entry that takes its property away
+  -- an entry that removes its property
   pub taken_away : entry.gone ≡ true → map as_property kept ≡ with_entry (entry_property entry) (map as_property props)
   taken_away gone =
       ap (map as_property) kept_are ∙ others entry.name.now props ∙ sym (append-nil _)

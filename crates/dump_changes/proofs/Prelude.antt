@@ -1,4 +1,4 @@
--- The words of std, of the definitions and of the lemmas below, for the proofs of this crate.
+-- The names of std, of the definitions and of the lemmas below, for the proofs of this crate.
 pub use Rattle.std.proofs.Common.{Bool, Bor, List, None, Option, Some, [], ap, ap₂, append-nil, append_assoc, arith, bytes_eq, codes, cond, false, if◌then◌else◌, inl, inr, is_none, is_some, length, length-append, map, nat_eq, not, option_copied, option_map, refl, subst, suc, sym, true, zero, ℕ, ◌&&◌, ◌++◌, ◌+◌, ◌-◌, ◌<◌, ◌==◌, ◌||◌, ◌∙◌, ◌∷◌, ◌≡◌, ◌≤◌, ◌⊎◌}
 pub use Rattle.std.proofs.Math.Bool.{or-false}
 pub use Rattle.std.proofs.lemmas.Bool.{and_from, and_parts, not-true}

@@ -68,7 +68,8 @@ changed_by patched r c (ps, has, plain, is) setting says old new made =
     subst (λ (change : Option PropertyChange). props_by change old ≡ Some new) same
     (made ps has.0 (subst (λ (change : Option PropertyChange). HasProps setting change) (sym same) says))
 
--- the listed change describes the change of a repository that a record makes, which comes this many records after the first
+-- the listed change describes the change of a repository that a record makes; this many records are between it and the
+-- first
 pub record IsMadeBy (patched : Patching) (records : List DumpRecord) (number : ℕ) (l : Listed) (p : Placed) : Type 0 where
   pub further : ℕ
   pub number_is : l.record_number ≡ number + further
@@ -78,7 +79,7 @@ pub record IsMadeBy (patched : Patching) (records : List DumpRecord) (number : �
   pub says : IsListed l p
 
 module _ (patched : Patching) where
-  -- with one more record before it
+  -- the same with one more record before it
   with_record : (r : DumpRecord) (records : List DumpRecord) (number : ℕ) (l : Listed) (p : Placed)
       → IsMadeBy patched records (suc number) l p → IsMadeBy patched (r ∷ records) number l p
   with_record r records number l p made =
@@ -139,7 +140,7 @@ module _ (patched : Patching) where
       let its = made_by (Some revision) (suc number) records placed listed rest zip.1 (ap (drop 1) numbers) place l is in
       (its.0, its.1, with_record r records number l its.0 its.2)
 
--- where no change is listed, none is
+-- if one list has no change at a place, the other list has none there
 none_placed : (listed : List Listed) (placed : List Placed) → AllZip IsListed listed placed → (place : ℕ)
     → slice_get listed place ≡ None → slice_get placed place ≡ None
 none_placed [] [] zip place none = refl
@@ -157,7 +158,7 @@ AreSetAt blocks listed places props =
 
 module _ (blocks : List (List ℕ)) (listed : List Listed) (places : List ℕ) (old : List Property)
     (so_far : AreSetAt blocks listed places old) (place : ℕ) where
-  -- with one more place
+  -- the properties after one more place
   after_place : (placed : List Placed) (new : List Property) → props_after placed (reverse places) ≡ Some old
       → props_there (slice_get placed place) old ≡ Some new
       → props_after placed (reverse (places ++ place ∷ [])) ≡ Some new
@@ -195,7 +196,7 @@ pub of_trail : (blocks : List (List ℕ)) (listed : List Listed) (path : List �
     → AreMadeOnTrail blocks listed path count props
 of_trail blocks listed path count places props is set = (reverse places, is, set)
 
--- those of a trail are the node's
+-- the properties of a trail are the node's properties
 pub of_node : (blocks : List (List ℕ)) (listed : List Listed) (path : List ℕ) (count : ℕ) (props : List Property)
     → AreMadeOnTrail blocks listed path count props → ArePropertiesAt blocks listed path count props
 of_node blocks listed path count props (trail, is, set) patched records changes placed node are listed_is nodes ordered
@@ -204,7 +205,7 @@ of_node blocks listed path count props (trail, is, set) patched records changes 
     (subst (λ ls. IsTrail Props ls count path trail) listed_is is) there in
     ap (λ o. unwrap_or o []) (sym found ∙ set patched records changes placed are listed_is nodes)
 
--- where a record is a group of its own, there is a revision
+-- without a revision record there are no groups
 some_group : (records : List DumpRecord) → list_any is_revision_record records ≡ false → groups records ≡ []
 some_group [] none = refl
 some_group (r ∷ records) none =

@@ -22,7 +22,7 @@ abbrev of_one : ℕ → List Change → List Placed
 of_one number changes = map (λ (c : Change). record { revision = number; change = c }) changes
 
 module _ (patched : Patching) where
-  -- what the records make, where nodes of the revision with this number may come first
+  -- what the records make, if nodes of the revision with this number may come first
   record OpenParts (number : ℕ) (records : List DumpRecord) (placed : List Placed) : Type 0 where
     own : List Change
     revisions : List (List Change)
@@ -33,7 +33,7 @@ module _ (patched : Patching) where
     ordered : has_ordered_nodes true records ≡ true
     none : number ≡ 0 → own ≡ []
 
-  -- and where none may
+  -- what the records make, if no node may come first
   record ClosedParts (next : ℕ) (records : List DumpRecord) (placed : List Placed) : Type 0 where
     revisions : List (List Change)
     others : AllZip (MakeChanges patched) (groups records) revisions
@@ -47,7 +47,7 @@ module _ (patched : Patching) where
   Parts (Some number) next records placed = next ≡ suc number → OpenParts number records placed
 
   module _ (r : DumpRecord) (records : List DumpRecord) where
-    -- none of the nodes is at the front, where this record is none
+    -- no node is at the front if this record is none
     no_front : is_node r ≡ false → take_while is_node (r ∷ records) ≡ []
     no_front isnt =
         take_while-cons is_node r records ∙ ap (λ b. cond b (r ∷ take_while is_node records) []) isnt
@@ -176,7 +176,7 @@ module _ (patched : Patching) where
   parts next (Some number) _ placed (Other _ _ r records _ one two rest) = λ follows.
       open_other r records next placed one two (parts next None records placed rest) number follows
 
-  -- where no revision comes, one came before
+  -- if no revision follows, one came before
   no_groups : (next : ℕ) (present : Option ℕ) (records : List DumpRecord) (placed : List Placed)
       → Reads patched next present records placed → groups records ≡ [] → next ≡ 0 → ⊥
   no_groups _ present _ _ (NoMore next _) none zero_is = let bad : suc next ≡ 0 = zero_is in absurd (omega arith)
@@ -208,7 +208,7 @@ module _ (patched : Patching) where
         all.placed_is ∙ ap (placed_from 0) is,
       )
 
--- how a revision counts, and that others don't
+-- a revision counts, and other records don't
 pub counts_revision : (next : ℕ) (r : DumpRecord) (records : List DumpRecord) → is_revision_record r ≡ true
     → counts_from next (revision_numbers (r ∷ records))
     ≡ (nat_eq (revision_number r) next && counts_from (suc next) (revision_numbers records))
@@ -241,7 +241,7 @@ abbrev Fits : ℕ → Option ℕ → Type 0
 Fits next None = ⊤
 Fits next (Some number) = next ≡ suc number
 
--- what nodes make, where the revisions are numbered one by one
+-- what nodes make, if the revisions are numbered one by one
 module _ (patched : Patching) where
   a_node : (next number : ℕ) (r : DumpRecord) (records : List DumpRecord) (placed : List Placed) (c : Change)
       → is_revision_record r ≡ false → is_node r ≡ true → MakesChange patched r c → 0 < number
@@ -282,13 +282,13 @@ module _ (patched : Patching) where
       (nodes_read next None records placed rest (sym (counts_other next r records one) ∙ counts) tt
       (some_left next r records one some))
 
--- the dump is records to its end, which make revisions whose changes are these, whatever text deltas make
+-- the records reach the end of the dump, and they make revisions with these changes, whatever text deltas make
 abbrev pub MakesListed : List ℕ → List NodeChange → Type 0
 MakesListed dump changes = (records : List DumpRecord) × HasRecords dump records Ending.Whole
     × ((patched : Patching) → (revisions : List (List Change)) × MakeRevisions patched records revisions
     × AreListed changes (placed_from 1 revisions))
 
--- the changes of the nodes of a dump are those of its revisions, where these are numbered one by one
+-- the changes of a dump's nodes are those of its revisions, if these are numbered one by one
 pub numbered_makes : (dump : List ℕ) (records : List DumpRecord) (changes : List NodeChange)
     → HasRecords dump records Ending.Whole → are_numbered records ≡ true → AreListedIn records changes
     → MakesListed dump changes

@@ -1,4 +1,4 @@
--- What is read so far of a dump.
+-- What has been read of a dump so far.
 use Rattle.dump_changes.proofs.Prelude.{◌≡◌, ℕ, zero, suc, ◌+◌, ◌<◌, ◌≤◌, true, false, List, [], ◌∷◌, ◌++◌, length, length-append, map, Option, Some, None, refl, sym, ap, ◌∙◌, subst, arith, append-nil, append_assoc, AllZip, count_fits, one_more, whole_list, BeginsWithRecords, Ending, HasRecords, DumpRecord, EndsAfter, IsRecordOf, CutterState, CutStep, record_item, record_number, Record, Patching, MakesChange, is_node, is_revision_record}
 use Rattle.dump_records.proofs.ListLaw.{each_dump_has_one_list}
 use Rattle.dump_records.proofs.Prefixes.{begins_prefix}
@@ -31,7 +31,7 @@ use Rattle.dump_records.specs.declared.kind.RecordKind.TheVariants as kinds
 use Rattle.dump_filter.proofs.groups.KindLemmas.{IsOfKind}
 use Rattle.dump_changes.proofs.ReadLemmas.{counts_other, counts_revision, numbers_other, numbers_revision, rises_revision}
 
--- what the records that the cutter has given make
+-- what the records make that the cutter has returned
 pub record ReadSoFar (dump : List ℕ) (cutter : CutterState) (at : Position) (changes : List NodeChange) (numbers : List ℕ)
     : Type 0 where
   pub dump_is : cutter.dump ≡ dump
@@ -125,13 +125,13 @@ module _ (dump : List ℕ) (cutter after : CutterState) (at : Position) (changes
         let number = ap (λ (c : CutterState). c.number) step.3 in
         (number, omega arith)
 
-    -- there is no revision yet, where the record is none
+    -- there is no revision yet if the record is none
     none_next : at.next ≡ 0 → is_revision_record (record_item item) ≡ false
         → list_any is_revision_record (so_far.before ++ record_item item ∷ []) ≡ false
     none_next none other = list_any-append is_revision_record so_far.before (record_item item ∷ [])
         ∙ ap₂ (λ a b. a || (b || false)) (so_far.no_revision none) other
 
-    -- where there is no revision yet with the record, it is none, and none was before
+    -- if there is no revision even with the record, the record is none, and there was none before
     neither : list_any is_revision_record (so_far.before ++ record_item item ∷ []) ≡ false
         → (list_any is_revision_record so_far.before ≡ false) × (is_revision_record (record_item item) ≡ false)
     neither none =
@@ -139,7 +139,7 @@ module _ (dump : List ℕ) (cutter after : CutterState) (at : Position) (changes
         (sym (list_any-append is_revision_record so_far.before (record_item item ∷ [])) ∙ none) in
         (its.0, (or_parts (is_revision_record (record_item item)) false its.1).0)
 
-    -- and none out of order
+    -- and no record is out of order
     pub not_in_order : IsOutOfPlaceAt (record_item item) at → IsOutOfPlace so_far.before (record_item item)
     not_in_order (inl (node, none)) = inl (node, ap takes_nodes so_far.present ∙ none)
     not_in_order (inr (revision, below)) =
@@ -185,7 +185,7 @@ module _ (dump : List ℕ) (cutter after : CutterState) (at : Position) (changes
         present_next None so_far.before (record_item item)
         ∙ ap (revision_behind (record_item item)) so_far.present ∙ is
 
-    -- a record that makes no change, after which there are these numbers
+    -- after a record that makes no change, there are these numbers
     read_on : (next : Position) (all : List ℕ) → is_node (record_item item) ≡ false
         → GoesOnFrom (record_item item) at next → IsBeforeNext (record_item item) at next
         → CountsTo (record_item item) at next → revision_behind (record_item item) at.present ≡ next.present
@@ -235,7 +235,7 @@ module _ (dump : List ℕ) (cutter after : CutterState) (at : Position) (changes
     read_other next goes first counting there no_node =
         read_on next numbers no_node goes first counting.0 there (λ records. ap (λ ns. numbers ++ ns) (counting.1 records))
 
-    -- and one that does
+    -- a record that makes a change
     pub read_more : (c : NodeChange) (all : List NodeChange) → IsReadingStep (record_item item) at (steps.Makes c)
         → is_revision_record (record_item item) ≡ false → IsCountingStep (record_item item) at (steps.Makes c)
         → revision_behind (record_item item) at.present ≡ at.present
@@ -280,14 +280,14 @@ module _ (dump : List ℕ) (cutter after : CutterState) (at : Position) (changes
           );
     }
 
-  -- where the records end
+  -- the records when they end
   pub all_records : (ending : Ending) → EndsAfter cutter.dump cutter.number ending → HasRecords dump so_far.before ending
   all_records ending ends =
       whole_list dump so_far.before ending so_far.begins
       (subst (λ d. EndsAfter d (length so_far.before) ending) so_far.dump_is
       (subst (λ n. EndsAfter cutter.dump n ending) (sym so_far.count) ends))
 
-  -- all nodes read make these changes
+  -- all nodes that were read make these changes
   pub nodes_made : AreListedIn so_far.before changes
   nodes_made patched =
       let front = so_far.reads patched in (
@@ -298,7 +298,7 @@ module _ (dump : List ℕ) (cutter after : CutterState) (at : Position) (changes
         front.1,
       )
 
-  -- they are numbered one by one, where the position says so
+  -- they are numbered one by one if the position says so
   counted : counts_from 0 (revision_numbers so_far.before) ≡ at.numbered
   counted =
       ap (λ rs. counts_from 0 (revision_numbers rs)) (sym (append-nil so_far.before)) ∙ so_far.counts [] ∙ only at.numbered
@@ -307,7 +307,7 @@ module _ (dump : List ℕ) (cutter after : CutterState) (at : Position) (changes
       only true = refl
       only false = refl
 
-  -- and there is a revision, where the next one isn't the first
+  -- and there is a revision if the next one isn't the first
   some_revision : list_any is_revision_record so_far.before ≡ nat_lt 0 at.next
   some_revision = elim (cases_Bool (list_any is_revision_record so_far.before)) [
     | inl is ↦ is ∙ sym (positive at.next (λ none.
@@ -370,7 +370,7 @@ revision_reads patched present number r records placed is isnt its reads =
     RevisionRecord present r records placed is isnt
     (subst (λ n. NodesMake patched (Some n) records placed) (ap (λ o. unwrap_or o 0) its) reads)
 
--- it is the next one, or its number is another
+-- the revision is the next one, or it has another number
 pub revision_counts : (numbered : Bool) (next number : ℕ) (r : DumpRecord) (records : List DumpRecord)
     → is_revision_record r ≡ true → Some number ≡ header_number revision_name r.headers
     → (numbered && counts_from next (revision_numbers (r ∷ records)))
@@ -389,7 +389,7 @@ revision_counts true next number r records is its =
         let more : number + 1 ≡ suc next = omega arith in
         ap (λ n. counts_from n (revision_numbers records)) (sym more)
 
--- and it is above those before
+-- and its number is above the earlier ones
 pub revision_rises : (next number : ℕ) (r : DumpRecord) (records : List DumpRecord) → is_revision_record r ≡ true
     → Some number ≡ header_number revision_name r.headers → nat_le next number ≡ true
     → rise_from next (revision_numbers (r ∷ records)) ≡ rise_from (number + 1) (revision_numbers records)
@@ -410,7 +410,7 @@ other_counts at r isnt = (
   λ records. numbers_other r records isnt,
 )
 
--- where it is no revision, or one
+-- the record is no revision, or it is one
 pub present_other : (r : DumpRecord) (present : Option ℕ) → is_revision_record r ≡ false → is_node r ≡ false
     → revision_behind r present ≡ None
 present_other r present isnt no_node =
@@ -427,14 +427,14 @@ present_revision r present number is its =
     ap (λ a. cond a (Some (revision_number r)) (cond (is_node r) present None)) is
     ∙ ap Some (sym (ap (λ o. unwrap_or o 0) its))
 
--- its number
+-- the number of the revision
 pub own_number : (number : ℕ) (r : DumpRecord) (records : List DumpRecord) → is_revision_record r ≡ true
     → Some number ≡ header_number revision_name r.headers
     → revision_numbers (r ∷ records) ≡ number ∷ revision_numbers records
 own_number number r records is its =
     numbers_revision r records is ∙ ap (λ n. n ∷ revision_numbers records) (sym (ap (λ o. unwrap_or o 0) its))
 
--- a revision that isn't above those before
+-- a revision whose number isn't above the earlier ones
 pub below_next : (next number : ℕ) (r : DumpRecord) → is_revision_record r ≡ true
     → Some number ≡ header_number revision_name r.headers → nat_le next number ≡ false
     → rise_from next (revision_numbers (r ∷ [])) ≡ false

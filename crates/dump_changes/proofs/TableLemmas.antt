@@ -1,4 +1,4 @@
--- A part of each record that a cutter has given.
+-- A part of each record that a cutter has returned.
 use Rattle.dump_changes.proofs.Prelude.{◌≡◌, ℕ, ◌+◌, ◌≤◌, List, [], ◌∷◌, ◌++◌, length, length-append, map, refl, sym, ap, ◌∙◌, subst, arith, count_fits, one_more, whole_list, BeginsWithRecords, Ending, HasRecords, DumpRecord, EndsAfter, IsRecordOf, CutterState, CutStep, record_item, Record}
 use Rattle.std.proofs.lemmas.List.{map-append}
 use Rattle.dump_records.specs.declared.cutter.Cut.{Cut}
@@ -7,7 +7,7 @@ use Rattle.dump_records.proofs.Unique.{records_once}
 use Rattle.dump_changes.proofs.StepLemmas.{begins_with_none}
 
 module _ {A B : Type 0} (shown : A → B) (part : DumpRecord → B) (dump : List ℕ) where
-  -- these are the parts of the records that the cutter has given
+  -- these are the parts of the records that the cutter has returned
   pub record PartsSoFar (cutter : CutterState) (parts : List A) : Type 0 where
     pub dump_is : cutter.dump ≡ dump
     pub before : List DumpRecord
@@ -44,7 +44,7 @@ module _ {A B : Type 0} (shown : A → B) (part : DumpRecord → B) (dump : List
           let number = ap (λ (c : CutterState). c.number) step.3 in
           (number, omega arith)
 
-      -- with the part of one more record
+      -- the parts with that of one more record
       pub one_more_part : (own : A) (all : List A) → shown own ≡ part (record_item item) → all ≡ parts ++ own ∷ []
           → PartsSoFar after all
       one_more_part own all is all_are = record {
@@ -62,7 +62,7 @@ module _ {A B : Type 0} (shown : A → B) (part : DumpRecord → B) (dump : List
             ∙ sym (map-append part so_far.before (record_item item ∷ []));
       }
 
-    -- where the records end, these are the parts of all
+    -- when the records end, these are the parts of all records
     of_all : (end : Ending) → EndsAfter cutter.dump cutter.number end → (records : List DumpRecord) (ending : Ending)
         → HasRecords dump records ending → map shown parts ≡ map part records
     of_all end ends records ending has =

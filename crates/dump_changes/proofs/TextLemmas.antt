@@ -25,7 +25,7 @@ use Rattle.dump_changes.specs.steps.StoredTexts.{IsTextIfWhole}
 use Rattle.dump_changes.proofs.ChangeLemmas.{told_change}
 use Rattle.dump_changes.proofs.PropertyLemmas.{made_by, nodes_are}
 
--- the last of some is the first of them backwards
+-- the last element of a list is the first element of the reversed list
 get_first : {A : Type 0} (xs : List A) → slice_get (reverse xs) 0 ≡ slice_get xs (length xs - 1)
 get_first [] = refl
 get_first (x ∷ xs) =
@@ -73,7 +73,7 @@ first_listed listed count path _ (Copied _ _ at l number source rest next trail 
         (l, ap (slice_get listed) (sym same) ∙ there_is)
     cases further false is = further is
 
--- how the text is stored that is found
+-- how the text that is found is stored
 pub stored_last : (texts : List ToldText) (listed : List Listed) (path : List ℕ) (count : ℕ) (places : List ℕ) (place : ℕ)
     (stored : TextStored) → IsTrail Text listed count path (reverse places)
     → Some place ≡ slice_get places (length places - 1)
@@ -102,7 +102,7 @@ its_text patched r c (ps, has, plain, is) = cases (has_known_action r && not (ha
     cases true is = ap set is
     cases false is = absurd (let bad : None ≡ Some c = is in cc)
 
--- a change that sets a whole text sets that of its record
+-- a change that sets a whole text sets the text of its record
 whole_set : (patched : Patching) (r : DumpRecord) (s : Setting) (t : Option TextChange) → text_change_of patched r ≡ t
     → HasText s t → is_replacing s ≡ true → t ≡ Some (TextChange.Replaced r.text)
 whole_set patched r Keeps t its has whole = absurd (let bad : false ≡ true = whole in cc)
@@ -123,7 +123,7 @@ whole_set patched r Replaces (Some (TextChange.Replaced text)) its has whole =
         absurd (let bad : TextChange.Patched (patched r.text) ≡ TextChange.Replaced text =
         (let both : Some (TextChange.Patched (patched r.text)) ≡ Some (TextChange.Replaced text) = is in cc) in cc)
 
--- what a whole text leaves
+-- what remains after a whole text is set
 left_by : (o : Option (List ℕ)) (f : List ℕ → Option (List ℕ)) (text its : List ℕ) → ((old : List ℕ) → f old ≡ Some text)
     → option_and_then f o ≡ Some its → its ≡ text
 left_by None f text its makes is = absurd (let bad : None ≡ Some its = is in cc)

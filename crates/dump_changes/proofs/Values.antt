@@ -1,4 +1,4 @@
--- Worked values of the definitions, computed and proved by the kernel.
+-- Examples for the definitions; the checker computes and proves them.
 use Rattle.dump_changes.proofs.Prelude.{◌≡◌, ℕ, false, List, [], ◌∷◌, Option, Some, None, inr, refl, codes, DumpRecord}
 use Rattle.dump_trees.specs.Changes.{Made}
 use Rattle.dump_index.specs.Listed.{Listed}
@@ -24,7 +24,7 @@ revision = one_header (codes "Revision-number") (codes "1") (codes "PROPS-END\n"
 abbrev node : DumpRecord
 node = one_header (codes "Node-path") (codes "a") []
 
--- the numbers are those of the records, and not of the nodes alone
+-- the numbers count all records, not only the nodes
 numbers_of_nodes : node_numbers 5 (revision ∷ node ∷ node ∷ revision ∷ node ∷ []) ≡ 6 ∷ 7 ∷ 9 ∷ []
 numbers_of_nodes = refl
 
