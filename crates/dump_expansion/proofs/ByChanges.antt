@@ -18,13 +18,13 @@ use Rattle.dump_changes.specs.NodeProperties.{node_numbers}
 use Rattle.dump_expansion.specs.ByChanges.{SteadsAreByChanges, are_given_for, expanded_by, steads_for}
 use Rattle.dump_expansion.specs.GivenSteads.{GivenStead, left_alone, own_form, stead_at, steads_in}
 
--- the number of the next record, as the definitions spell it
+-- the number of the next record, as the definitions write it
 next_is : (number : ℕ) → suc number ≡ number + 1
 next_is number = omega arith
 
 -- what is in place of the nodes alone
 
--- what is in place of the nodes among records, of which each has something in its place
+-- what is in place of the nodes among records; each of the records has something in its place
 abbrev pub of_nodes : List DumpRecord → List Stead → List Stead
 of_nodes [] steads = []
 of_nodes (r ∷ records) [] = []
@@ -135,16 +135,16 @@ all_placed number (r ∷ records) (g ∷ given) =
 
 -- by revisions
 
--- a list, cut into parts of these lengths
+-- the parts of a list that have these lengths
 abbrev cut_by : {A : Type 0} → List ℕ → List A → List (List A)
 cut_by [] xs = []
 cut_by (n ∷ lengths) xs = take n xs ∷ cut_by lengths (drop n xs)
 
--- with how many nodes the records begin
+-- the number of nodes at the beginning of the records
 abbrev nodes_first : List DumpRecord → ℕ
 nodes_first records = length (take_while is_node records)
 
--- how many nodes each revision has
+-- the number of nodes of each revision
 abbrev sizes_of : List Group → List ℕ
 sizes_of gs = map (λ (g : Group). length g.nodes) gs
 
@@ -157,7 +157,7 @@ first_other : (r : DumpRecord) (records : List DumpRecord) → is_node r ≡ fal
 first_other r records isnt =
     ap length (take_while-cons is_node r records ∙ ap (λ b. cond b (r ∷ take_while is_node records) []) isnt)
 
--- no node comes first, where none may
+-- no node comes first if none may
 none_first : (records : List DumpRecord) → has_ordered_nodes false records ≡ true → nodes_first records ≡ 0
 none_first [] order = refl
 none_first (r ∷ records) order = cases (is_node r) refl
@@ -173,7 +173,7 @@ take_none : (n : ℕ) → [] ≡ take {A = Stead} n []
 take_none zero = refl
 take_none (suc n) = refl
 
--- the nodes with which the records begin
+-- the nodes at the beginning of the records
 front_steads : (records : List DumpRecord) (steads : List Stead)
     → node_steads records steads ≡ take (nodes_first records) (of_nodes records steads)
 front_steads [] steads = refl
@@ -277,7 +277,7 @@ sizes_made patched (g ∷ gs) (changes ∷ revisions) make =
     as_many (r ∷ nodes) [] make = absurd make
     as_many (r ∷ nodes) (c ∷ cs) make = ap suc (as_many nodes cs make.1)
 
--- parts as long as the changes of the revisions make what is made by all
+-- parts that are as long as the changes of the revisions make what all make together
 made_by_parts : (steads : List Stead) (revisions : List (List Change))
     → expanded_revisions (cut_by (map length revisions) steads) revisions ≡ expanded_by steads revisions
 made_by_parts steads [] = refl

@@ -15,7 +15,7 @@ use Rattle.dump_expansion.specs.steps.ExpandedBytes.{first_lfs, lfs_behind, unre
 
 -- line feeds
 
--- whether a byte is one, as the definitions ask it
+-- whether a byte is a line feed, as the definitions test it
 abbrev is_lf : ℕ → Bool
 is_lf byte = byte == 10
 
@@ -45,7 +45,7 @@ lfs_of (suc n) rest stop =
 drop_lfs : (n : ℕ) (rest : List ℕ) → drop n (line_feeds n ++ rest) ≡ rest
 drop_lfs n rest = ap (λ k. drop k (line_feeds n ++ rest)) (sym (lfs_length n)) ∙ drop-append_seam (line_feeds n) rest
 
--- after the line feeds with which a text begins is what it has after them
+-- the rest of a text after its first line feeds
 pub behind_gap : (text rest : List ℕ) (n : ℕ) → IsGap text n → text ≡ first_lfs text ++ rest → drop n text ≡ rest
 behind_gap text rest n gap is =
     let first : first_lfs text ≡ line_feeds n = ap first_lfs gap.spelled ∙ lfs_of n (drop n text) gap.stop in
@@ -57,13 +57,13 @@ behind_gap text rest n gap is =
 abbrev pub own_bytes : List ℕ → List DumpRecord → List ℕ
 own_bytes dump records = flat_map (λ r. record_text r ++ lfs_behind dump r) records
 
--- each of the records is in the dump at its place, with the later ones and the end after it
+-- each record is in the dump at its place, and the later ones and the end follow it
 abbrev pub AllStand : List ℕ → List ℕ → List DumpRecord → Type 0
 AllStand dump end [] = ⊤
 AllStand dump end (r ∷ records) = (r.place + length (record_text r) ≤ length dump)
     × (drop r.place dump ≡ own_bytes dump (r ∷ records) ++ end) × AllStand dump end records
 
--- a text that is cut into records has their bytes
+-- a text that is split into records has their bytes
 abbrev HasBytes : List ℕ → List ℕ → List DumpRecord → List ℕ → Type 0
 HasBytes dump text records end =
     (text ≡ first_lfs text ++ (own_bytes dump records ++ end)) × AllStand dump end records
@@ -115,7 +115,7 @@ cut_bytes dump number place text (r ∷ records) end at inside (lfs, front, afte
     (behind_is dump number place text r lfs front after at is there b)
     (fits dump number place text r lfs front after at is there b inside) more)
 
--- what is after the records is what can't be read
+-- what follows the records is what can't be read
 unread_is : (dump : List ℕ) (records : List DumpRecord) (ending : Ending) (has : HasRecords dump records ending)
     → has.0 ≡ unread_bytes dump ending
 unread_is dump records Ending.Whole (rest, cut, versions, (none, some)) = none
@@ -128,7 +128,7 @@ unread_is dump records (Ending.Broken fault place) (rest, cut, versions, (first,
     (let sizes = ap length all ∙ length-append front rest in omega (arith, at)) in
     sym (ap (drop place) all ∙ ap (λ n. drop n (front ++ rest)) size ∙ drop-append_seam front rest)
 
--- a dump is its line feeds, its records with theirs, and what can't be read
+-- a dump consists of its first line feeds, its records with their line feeds, and what can't be read
 pub dump_bytes : (dump : List ℕ) (records : List DumpRecord) (ending : Ending) → HasRecords dump records ending
     → (dump ≡ first_lfs dump ++ (own_bytes dump records ++ unread_bytes dump ending))
     × AllStand dump (unread_bytes dump ending) records

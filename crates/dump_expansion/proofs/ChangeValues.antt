@@ -1,4 +1,4 @@
--- The definitions of what is in place of the changes of a dump, tried on worked values.
+-- Examples for the definitions of what is in place of the changes of a dump.
 use Rattle.std.proofs.Common.{◌≡◌, ℕ, true, false, [], ◌∷◌, codes, refl}
 use Rattle.dump_trees.specs.Changes.{Change}
 use Rattle.dump_history.specs.ExpandedDumps.{OwnForm, Stead}
@@ -36,7 +36,7 @@ given_twice = refl
 
 -- steads_for
 
--- the deletion and the node, and nothing
+-- the deletion and the node, and then nothing
 abbrev node_after : Stead
 node_after = record { nodes = deletes_trunk ∷ []; own = OwnForm.AsItIs }
 

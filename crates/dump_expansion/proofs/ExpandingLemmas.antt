@@ -1,4 +1,4 @@
--- What is written so far of a dump with other nodes in place of some.
+-- What has been written so far of a dump with other nodes in place of some.
 use Rattle.std.proofs.Common.{◌≡◌, ℕ, ◌+◌, ◌-◌, ◌≤◌, Bool, true, false, List, [], ◌∷◌, ◌++◌, length, length-append, take, drop, flat_map, refl, sym, ap, ap₂, ◌∙◌, subst, arith, append-nil, append_assoc}
 use Rattle.std.proofs.lemmas.List.{drop-drop, drop_all, length-drop, take-append-drop}
 use Rattle.std.proofs.Math.Seq.{drop-append_seam, take-append_seam}
@@ -34,8 +34,8 @@ after_is r =
     let front = length-append (block_text r.headers) r.props in
     omega arith
 
--- the text is the expanded dump as far as the byte `from`. From there on the dump has some bytes that are not written yet,
--- then the records that the cutter gives next, and then what can't be read
+-- The text is the expanded dump up to the byte `from`. After that the dump has some bytes that are not written yet,
+-- then the records that the cutter returns next, and then what can't be read.
 pub record ExpandedSoFar (given : List GivenStead) (dump : List ℕ) (cutter : CutterState) (text : List ℕ)
     (left : List GivenStead) (from : ℕ) : Type 0 where
   pub dump_is : cutter.dump ≡ dump
@@ -81,7 +81,7 @@ module _ (given : List GivenStead) (dump : List ℕ) (cutter after : CutterState
     abbrev later : List DumpRecord
     later = drop (cutter.number + 1) so_far.records
 
-    -- the next record is the one that the cutter gives
+    -- the next record is the one that the cutter returns
     next_is : drop cutter.number so_far.records ≡ found ∷ later
     next_is =
         let (before, begins, count) = subst (λ d. IsRecordOf d cutter.number found) so_far.dump_is step.2 in
@@ -106,7 +106,7 @@ module _ (given : List GivenStead) (dump : List ℕ) (cutter after : CutterState
         let some = ap length next_is in
         (number, omega arith)
 
-    -- what is written is so far the same, with a record more that the cutter gave
+    -- the state after one more record that the cutter returned; nothing more is written yet
     moved : (more : List ℕ) (others : List GivenStead) (start : ℕ)
         → ExpandedSoFar given dump (record { dump = cutter.dump; number = cutter.number + 1 }) more others start
         → ExpandedSoFar given dump after more others start
@@ -125,7 +125,7 @@ module _ (given : List GivenStead) (dump : List ℕ) (cutter after : CutterState
         so_far.is
         ∙ ap (λ (rs : List DumpRecord). text ++ (so_far.pending ++ (bytes_with dump cutter.number rs left ++ end))) next_is
 
-    -- the record is as it is
+    -- the record is written as it is
     pub pass_on : (others : List GivenStead)
         → ((rest : List DumpRecord) → bytes_with dump cutter.number (found ∷ rest) left
         ≡ own_with_lfs dump found ++ bytes_with dump (cutter.number + 1) rest others)
@@ -156,7 +156,7 @@ module _ (given : List GivenStead) (dump : List ℕ) (cutter after : CutterState
       pub high : place ≤ length dump
       high = let fits = stand_next.0 in omega arith
 
-      -- as many bytes are before it as are not written yet
+      -- the number of bytes before it that are not written yet
       before_is : from + length so_far.pending ≡ place
       before_is =
           let sizes = ap length left_next ∙ length-append so_far.pending (own_bytes dump (found ∷ later) ++ end) in
@@ -192,7 +192,7 @@ module _ (given : List GivenStead) (dump : List ℕ) (cutter after : CutterState
 
       module _ (nodes : List WrittenNode) (others : List GivenStead) (more : List ℕ)
           (more_is : more ≡ (text ++ take (place - from) (drop from dump)) ++ nodes_text nodes) where
-        -- what is left of the record
+        -- what remains of the record
         abbrev kept : Bool → List ℕ
         kept keeps = flat_map (λ own. record_text own ++ lfs_behind dump found) (own_records found (own_form keeps))
 
@@ -213,7 +213,7 @@ module _ (given : List GivenStead) (dump : List ℕ) (cutter after : CutterState
             regrouped : (a b c d e f : List ℕ) → a ++ (b ++ (((c ++ d) ++ e) ++ f)) ≡ ((a ++ b) ++ c) ++ (d ++ (e ++ f))
             regrouped a b c d e f = simp append_assoc
 
-        -- other nodes are written, and the record stays or goes
+        -- other nodes are written, and the record is kept or not
         pub expand_on : (keeps : Bool) (start : ℕ)
             → ((rest : List DumpRecord) → bytes_with dump cutter.number (found ∷ rest) left
             ≡ stead_bytes dump found (record { nodes = nodes; own = own_form keeps })
@@ -256,7 +256,7 @@ module _ (given : List GivenStead) (dump : List ℕ) (cutter after : CutterState
 
   -- the end
 
-  -- where nothing is given for the rest, all is written with the rest of the dump
+  -- if nothing is given for the rest, everything is written with the rest of the dump
   with_rest : bytes_with dump cutter.number (drop cutter.number so_far.records) left
       ≡ own_bytes dump (drop cutter.number so_far.records)
       → IsExactlyExpandedBy given dump (text ++ drop from dump)
@@ -267,7 +267,7 @@ module _ (given : List GivenStead) (dump : List ℕ) (cutter after : CutterState
       ∙ sym so_far.is
       ∙ sym (ap₂ (λ (rs : List DumpRecord) (e : Ending). expanded_bytes dump rs e (steads_in 0 rs given)) same.0 same.1)
 
-  -- so is it where the dump has no more records
+  -- the same if the dump has no more records
   no_more : (ending : Ending) → EndsAfter cutter.dump cutter.number ending
       → IsExactlyExpandedBy given dump (text ++ drop from dump)
   no_more ending ends =
@@ -277,20 +277,20 @@ module _ (given : List GivenStead) (dump : List ℕ) (cutter after : CutterState
       let none : drop cutter.number so_far.records ≡ [] = drop_all cutter.number so_far.records (omega arith) in
       with_rest (subst (λ (rs : List DumpRecord). bytes_with dump cutter.number rs left ≡ own_bytes dump rs) (sym none) refl)
 
-  -- nothing is left to be written
+  -- nothing remains to be written
   pub expanded_early : left ≡ [] → IsExactlyExpandedBy given dump (text ++ drop from dump)
   expanded_early none =
       let rest = drop cutter.number so_far.records in
       with_rest (ap (bytes_with dump cutter.number rest) none ∙ none_given dump cutter.number rest)
 
-  -- the cutter gives no record
+  -- the cutter returns no record
   pub expanded_late : (found : Cut) → CutStep cutter found after → ((item : Record) → found ≡ cuts.Item item → ⊥)
       → IsExactlyExpandedBy given dump (text ++ drop from dump)
   expanded_late (cuts.Item item) step other = absurd (other item refl)
   expanded_late (cuts.Fault fault place) step other = no_more (Ending.Broken fault place) step.0
   expanded_late cuts.Finished step other = no_more Ending.Whole step.0
 
--- such a text of a whole dump has the records that are in place of the dump's
+-- such a text of a whole dump has the records that replace the dump's records
 pub has_its_records : (given : List GivenStead) (dump text : List ℕ) → can_all_be_written given ≡ true
     → IsExactlyExpandedBy given dump text → IsExpandedBy given dump text
 has_its_records given dump text written is records has =

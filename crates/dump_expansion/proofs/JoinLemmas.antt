@@ -12,7 +12,8 @@ use Rattle.dump_expansion.proofs.ByteLemmas.{lfs_are}
 
 -- texts that join
 
--- the text is these records, with some line feeds around them: before texts of others it makes texts of all
+-- the text is these records, with some line feeds around them; with texts of other records after it, it is the text of
+-- all of them
 abbrev pub Joins : List DumpRecord → List ℕ → Type 0
 Joins records text = (lfs : ℕ) (after : List ℕ) (rest : List DumpRecord) → AreRecordTexts rest after
     → (more : ℕ) × (front : List ℕ) × (text ++ (line_feeds lfs ++ after) ≡ line_feeds more ++ front)
@@ -50,7 +51,7 @@ nodes_join place version (w ∷ nodes) =
     (lfs_join (lfs_after w)))
     (nodes_join place version nodes)
 
--- records as they are in the dump, and what is in place of them
+-- records as they are in the dump, and what replaces them
 
 own_join : (lfs : List ℕ) (n : ℕ) (rs : List DumpRecord) → lfs ≡ line_feeds n
     → Joins rs (flat_map (λ r. record_text r ++ lfs) rs)
@@ -76,7 +77,7 @@ steads_join dump (r ∷ records) (stead ∷ steads) =
     (own_join lfs (length lfs) left (lfs_are (drop (r.place + length (record_text r)) dump))))
     (steads_join dump records steads)
 
--- a whole dump that is expanded has the records that are in place of its own
+-- a whole dump that is expanded has the records that replace its own
 pub are_texts : (dump : List ℕ) (records : List DumpRecord) (steads : List Stead)
     → (lfs : ℕ) × (front : List ℕ) × (expanded_bytes dump records Ending.Whole steads ≡ line_feeds lfs ++ front)
     × AreRecordTexts (expanded_records records steads) front

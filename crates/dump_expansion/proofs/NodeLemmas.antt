@@ -31,7 +31,7 @@ plain_entries entries =
 abbrev pub line_bytes : Header → List ℕ
 line_bytes h = header_text h ++ 10 ∷ []
 
--- five lines that are added one after the other
+-- five lines that are added one after another
 pub five_added : (text t1 t2 t3 t4 more : List ℕ) (a b c d e : Header)
     → t1 ≡ text ++ line_bytes a → t2 ≡ t1 ++ line_bytes b → t3 ≡ t2 ++ line_bytes c → t4 ≡ t3 ++ line_bytes d
     → more ≡ t4 ++ line_bytes e
@@ -46,7 +46,7 @@ five_added text t1 t2 t3 t4 more a b c d e first second third fourth last =
         ≡ t ++ (a ++ (b ++ (c ++ (d ++ (e ++ [])))))
     joined t a b c d e = simp (append_assoc, append-nil)
 
--- with an empty line they are a block
+-- five lines and an empty line are a block
 pub five_lines : (text t1 t2 t3 t4 t5 more : List ℕ) (a b c d e : Header)
     → t1 ≡ text ++ line_bytes a → t2 ≡ t1 ++ line_bytes b → t3 ≡ t2 ++ line_bytes c → t4 ≡ t3 ++ line_bytes d
     → t5 ≡ t4 ++ line_bytes e → more ≡ t5 ++ 10 ∷ []

@@ -20,13 +20,13 @@ abbrev pub own_with_lfs : List ℕ → DumpRecord → List ℕ
 own_with_lfs dump r = record_text r ++ lfs_behind dump r
 
 module _ (dump : List ℕ) where
-  -- where nothing is given the records are as they are
+  -- if nothing is given, the records are as they are
   pub none_given : (number : ℕ) (records : List DumpRecord) → bytes_with dump number records [] ≡ own_bytes dump records
   none_given number [] = refl
   none_given number (r ∷ records) =
       ap₂ (λ s t. s ++ t) (append-nil (own_with_lfs dump r)) (none_given (number + 1) records)
 
-  -- so is a record with another number
+  -- a record with another number is as it is
   pub other_number : (number : ℕ) (r : DumpRecord) (g : GivenStead) (given : List GivenStead)
       → (g.number == number) ≡ false → (rest : List DumpRecord)
       → bytes_with dump number (r ∷ rest) (g ∷ given)
@@ -34,7 +34,7 @@ module _ (dump : List ℕ) where
   other_number number r g given other rest =
       rw other (ap (λ t. t ++ bytes_with dump (number + 1) rest (g ∷ given)) (append-nil (own_with_lfs dump r)))
 
-  -- and one that is no node
+  -- and so is a record that is no node
   pub no_node : (number : ℕ) (r : DumpRecord) (g : GivenStead) (given : List GivenStead)
       → (g.number == number) ≡ true → is_node r ≡ false → (rest : List DumpRecord)
       → bytes_with dump number (r ∷ rest) (g ∷ given)

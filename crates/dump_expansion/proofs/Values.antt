@@ -1,4 +1,4 @@
--- Examples of the definitions, which the right ones meet and wrong ones do not.
+-- Examples that the right definitions satisfy and wrong ones do not.
 use Rattle.std.proofs.Common.{◌≡◌, ℕ, Bool, true, false, List, [], ◌∷◌, ◌++◌, Some, None, Vec, Global, Bor, codes, map, refl, sym, ap, ◌∙◌}
 use Rattle.dump_text.specs.declared.fault.FaultKind.TheVariants.{HeaderCut}
 use Rattle.dump_records.specs.DumpText.{Ending}
@@ -62,7 +62,7 @@ no_node : steads_in 4 (revision ∷ node ∷ []) (for 4 false ∷ for 5 false �
     ≡ alone ∷ stead (deletion ∷ []) OwnForm.LeftOut ∷ []
 no_node = refl
 
--- after a number that does not come any more nothing is used
+-- a number that doesn't occur any more makes all later ones unused
 passed : steads_in 4 (node ∷ node ∷ []) (for 3 false ∷ for 5 false ∷ []) ≡ alone ∷ alone ∷ []
 passed = refl
 
@@ -77,7 +77,7 @@ expanded_once given dump text other one two =
     let (records, ending, has, once) = each_dump_has_one_list dump in
     one records ending has ∙ sym (two records ending has)
 
--- which is the dump itself, if nothing is given
+-- it is the dump itself if nothing is given
 given_none : (dump text : List ℕ) → IsExactlyExpandedBy [] dump text → text ≡ dump
 given_none dump text is =
     let (records, ending, has, once) = each_dump_has_one_list dump in
@@ -103,7 +103,7 @@ with_given given =
 no_given : with_given [] ≡ broken
 no_given = refl
 
--- with a node that isn't kept its line feeds go
+-- a node that isn't kept is removed with its line feeds
 first_left_out : with_given (for 0 false ∷ [])
     ≡ codes "\nNode-path: a\nNode-action: delete\n\n\nNode-path: a\n\n\nNode"
 first_left_out = refl
@@ -112,7 +112,7 @@ last_left_out : with_given (for 1 false ∷ [])
     ≡ codes "\nNode-path: a\n\n\n\nNode-path: a\nNode-action: delete\n\n\nNode"
 last_left_out = refl
 
--- those of nodes that are kept stay
+-- the line feeds of kept nodes stay
 both_kept : with_given (for 0 true ∷ for 1 true ∷ [])
     ≡ codes "\nNode-path: a\nNode-action: delete\n\n\nNode-path: a\n\n\n\n"
     ++ codes "Node-path: a\nNode-action: delete\n\n\nNode-path: a\n\n\nNode"
@@ -122,7 +122,7 @@ both_kept = refl
 no_such_number : with_given (for 2 false ∷ for 1 false ∷ []) ≡ broken
 no_such_number = refl
 
--- all nodes of all that is given have to be such that can be written
+-- all nodes of everything that is given must be nodes that can be written
 all_written : can_all_be_written (for 4 true ∷ for 5 true ∷ []) ≡ true
 all_written = refl
 
@@ -147,6 +147,6 @@ module _ (path source : Vec ℕ Global) (entries : Vec NodeProperty Global) (p :
   property_set : as_property p ≡ record { name = p.name.now; value = Some p.value.now }
   property_set = refl
 
--- so is what is given
+-- the same for what is given
 given_is : (s : code.Stead) → (given_of s).number ≡ s.record_number
 given_is s = refl
