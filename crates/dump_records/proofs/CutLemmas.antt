@@ -1,4 +1,4 @@
--- A dump cut record by record.
+-- A dump that is split into records, record by record.
 use Rattle.dump_records.proofs.Prelude.{◌≡◌, ◌≢◌, ◌⊎◌, ℕ, suc, ◌+◌, ◌-◌, ◌<◌, ◌≤◌, Bool, true, false, ◌==◌, List, [], ◌∷◌, ◌++◌, take, drop, length, refl, sym, ap, ◌∙◌, subst, arith, append_assoc, length-append, inl, inr, append-nil, length-drop, drop_at, drop-drop, drop_all, take_rest, eqb-true, eqb_tells, nil_from_length, length-replicate, replicate-append-replicate, FaultKind, block_text, lines_bytes, starts_with_lf, version_from, DumpRecord, record_text, BeginsWithRecord, IsCutFault, Ending, line_feeds, IsCutInto, HaveVersions, EndsAfter, IsRecordOf, last_version, IsCutUpTo, IsGap, StandsAt, FollowsRecords, record_between, Block, block_dump, block_place, block_after}
 use Rattle.dump_records.proofs.Versions.{last_append, versions_append}
 

@@ -49,7 +49,7 @@ deciding headers good = one_kind (has_header version_name headers) (has_header u
     (first_false _ (has_header path_name headers && is_one_alone (has_header copy_revision_name headers)
     (has_header copy_path_name headers)) good)
 
--- where not one of two is there alone, both are, or none
+-- if not exactly one of two is there, both are, or neither is
 pub both_or_none : (a b : Bool) → is_one_alone a b ≡ false → a ≡ b
 both_or_none true true alone = refl
 both_or_none true false alone = alone
@@ -69,7 +69,7 @@ pub none_of : {A : Type 0} (r : Option A) → is_some r ≡ false → None ≡ r
 none_of None missing = refl
 none_of (Some x) missing = absurd (false_true (sym missing))
 
--- where no line has the name, it has no value and no number
+-- if no line has the name, it has no value and no number
 pub no_value : (name : List ℕ) (headers : List Header) → has_header name headers ≡ false
     → None ≡ header_value name headers
 no_value name headers missing = none_of (header_value name headers) (has_value name headers ∙ missing)
@@ -79,25 +79,25 @@ pub no_number : (name : List ℕ) (headers : List Header) → has_header name he
     → None ≡ header_number name headers
 no_number name headers missing = ap (option_and_then number_of) (no_value name headers missing)
 
--- a line has the name where the name has a value
+-- a line has the name exactly if the name has a value
 pub value_there : (name : List ℕ) (headers : List Header) (v : Option (List ℕ)) → v ≡ header_value name headers
     → has_header name headers ≡ is_some v
 value_there name headers v is = sym (has_value name headers) ∙ ap is_some (sym is)
 
--- and where the name's value has a place
+-- and exactly if the name's value has a place
 pub place_there : (name dump : List ℕ) (headers : List Header) (place : ValuePlace)
     → value_at dump place ≡ header_value name headers → has_header name headers ≡ is_there place
 place_there name dump headers place is =
     value_there name headers (value_at dump place) is ∙ sym (place_has dump place)
 
--- what is there just where a line is
+-- a number that is there exactly if a line is
 both_there : (b : Bool) (n : Option ℕ) → (b ≡ true → n ≡ None → ⊥) → (b ≡ false → None ≡ n) → b ≡ is_some n
 both_there true (Some n) some none = refl
 both_there true None some none = absurd (some refl refl)
 both_there false None some none = refl
 both_there false (Some n) some none = absurd (none-some n (none refl))
 
--- a number is there where its line is, unless that line gives none
+-- a number is there exactly if its line is, unless that line gives none
 number_there : (name : List ℕ) (headers : List Header)
     → (has_header name headers && is_none (header_number name headers)) ≡ false
     → has_header name headers ≡ is_some (header_number name headers)
@@ -109,14 +109,14 @@ number_from : (name : List ℕ) (headers : List Header) (n : ℕ) → header_num
     → has_header name headers ≡ true
 number_from name headers n is = true_from_ne_false _ (λ none. none-some n (no_number name headers none ∙ is))
 
--- a version that is a number is bad where it isn't read
+-- a version that is a number is bad if it isn't read
 pub bad_version_is : (number n : ℕ) (headers : List Header) → header_number version_name headers ≡ Some n
     → has_bad_version number headers ≡ not (is_read_version n)
 bad_version_is number n headers is =
     let has : has_header version_name headers ≡ true = number_from version_name headers n is in
     rw (has, is) (ap (λ b. b || not (is_read_version n)) (and-false (number == 0)))
 
--- a content length that is a number is bad where it isn't the sum of the other two
+-- a content length that is a number is bad if it isn't the sum of the other two
 pub bad_sum_is : (headers : List Header) (content props text : ℕ)
     → header_number content_length_name headers ≡ Some content
     → props ≡ property_length headers → text ≡ text_length headers
@@ -127,19 +127,19 @@ bad_sum_is headers content props text is props_is text_is =
     let has : has_header content_length_name headers ≡ true = number_from content_length_name headers content is in
     rw (has, is, ← props_is, ← text_is) refl
 
--- the numbers of a revision and of a copy source are there where their lines are
+-- the numbers of a revision and of a copy source are there exactly if their lines are
 module _ (headers : List Header) (good : has_bad_number headers ≡ false) where
   rest : list_any (λ name. has_header name headers && is_none (header_number name headers))
       (copy_revision_name ∷ length_names) ≡ false
   rest = second_false (has_header revision_name headers && is_none (header_number revision_name headers)) _ good
 
-  -- the revision number is given exactly where it is read
+  -- the revision number is given exactly if it is read
   pub revision_there : has_header revision_name headers ≡ is_some (header_number revision_name headers)
   revision_there = number_there revision_name headers
       (first_false _ (list_any (λ name. has_header name headers && is_none (header_number name headers))
       (copy_revision_name ∷ length_names)) good)
 
-  -- the copy revision is given exactly where it is read
+  -- the copy revision is given exactly if it is read
   pub copy_there : has_header copy_revision_name headers ≡ is_some (header_number copy_revision_name headers)
   copy_there = number_there copy_revision_name headers
       (first_false _ (list_any (λ name. has_header name headers && is_none
@@ -172,7 +172,7 @@ version_small number headers good = cases (header_number version_name headers) r
             by_two false other true three = let is = eqb-true n 3 three in omega arith
             by_two false not_two false not_three = absurd (false_true (sym read ∙ rw (not_two, not_three) refl))
 
--- the version in force is that of the parts that the lines say, where they have one
+-- the version in force is that of the parts that the lines give, if they have one
 pub version_said : (dump : List ℕ) (headers : List Header) (parts : KindParts) (before : ℕ)
     → IsKindOf dump headers parts
     → unwrap_or (version_in parts) before ≡ version_from before headers

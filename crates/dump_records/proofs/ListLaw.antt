@@ -7,7 +7,7 @@ use Rattle.dump_records.proofs.Unique.{EndsWith, records_once}
 use Rattle.dump_records.proofs.PartLemmas.{no_block, unlawful, cut_short}
 use Rattle.dump_records.proofs.CutLemmas.{Stripped, strip, lfs_length, record_some}
 
--- a line without LF is a header line or none
+-- a line without LF is a header line, or it isn't
 data Judged (whole : List ℕ) : Type 0 where
   Header : (h : line.Header) → is_header h ≡ true → whole ≡ header_text h → Judged whole
   Other : IsNoHeader whole → Judged whole
@@ -84,7 +84,7 @@ scan : (fuel : ℕ) (text : List ℕ) → length text ≤ fuel → Scanned text
 scan zero text small = scan_step text (λ rest less. absurd (omega arith))
 scan (suc fuel) text small = scan_step text (λ rest less. scan fuel rest (omega arith))
 
--- the block at the front of a text, or that there is none
+-- the block at the front of a text, or the fact that there is none
 data Found (text : List ℕ) : Type 0 where
   Block : (headers : List line.Header) (rest : List ℕ) → BeginsWithBlock text headers rest → Found text
   NoBlock : ¬ HasBlock text → Found text
@@ -107,8 +107,8 @@ find_block text = by_lines (scan (length text) text (omega arith))
             let no_way : false ≡ true = sym bad ∙ ap is_block same ∙ b.block in
             cc)
 
--- the record with this number at the front of a text that is at this place, where this version was in force before;
--- or why there is none
+-- the record with this number at the front of a text at this place, if this version was in force before; or the reason
+-- that there is none
 data Stands (number place version : ℕ) (text : List ℕ) : Type 0 where
   Here : (r : DumpRecord) (after : List ℕ) → r.place ≡ place → r.version ≡ version_from version r.headers
       → BeginsWithRecord number text r after → Stands number place version text

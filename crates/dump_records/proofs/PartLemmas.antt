@@ -1,4 +1,4 @@
--- Why no record is at a place, and what is there instead.
+-- Why there is no record at a place, and what is there instead.
 use Rattle.dump_records.proofs.Prelude.{◌≡◌, ◌≢◌, ℕ, ◌+◌, ◌-◌, ◌<◌, ◌≤◌, get_or, Bool, true, false, List, ◌++◌, take, drop, length, slice_range, refl, sym, ap, ◌∙◌, subst, arith, append_assoc, unwrap_or, Result, Ok, Err, absurd_bool, not_so, take-append-drop, length-drop, length-take-le, drop-drop, drop_more, drop_all, ne_eqb, IsErrAnd, IfErr, line_feeds, FaultKind, fault_code, block_text, starts_with_lf, has_empty_line, BeginsWithBlock, HasBlock, block_fault, headers_between, IsBlockBetween, block_once, property_length, text_length, has_bad_kind, has_bad_version, has_bad_number, has_bad_lengths, BeginsWithRecord, is_lawful, HasBlockWith, HoldsOfText, IsCutFault, record_between, version_in, header_fault, IsUnlawful, LengthsOf, Lengths, RecordHeader, IsHeaderOf, Block, block_dump, block_place, block_after, block_headers, IsGap, StandsAt}
 use Rattle.dump_text.specs.declared.fault.FaultKind.TheVariants as faults
 use Rattle.dump_text.specs.HeaderLine as line
@@ -29,7 +29,7 @@ no_block number text none = cases (starts_with_lf text) (has_empty_line text) re
       least = λ other low h. absurd (no_less other low);
     }
 
--- a test that holds of the lines of a block holds of this block's
+-- a test that is true of the lines of a block at the front is true of this block's lines
 holds_here : (text : List ℕ) (headers : List line.Header) (after : List ℕ) (test : List line.Header → Bool)
     → BeginsWithBlock text headers after → HasBlockWith text (λ hs x. test hs ≡ true) → test headers ≡ true
 holds_here text headers after test b (hs, x, other, holds) = ap test (block_once text headers hs after x b other).0
@@ -37,7 +37,7 @@ holds_here text headers after test b (hs, x, other, holds) = ap test (block_once
 
 module _ (number : ℕ) (text : List ℕ) (headers : List line.Header) (after : List ℕ)
     (b : BeginsWithBlock text headers after) where
-  -- no fault below this number holds where the tests below it fail
+  -- no fault below this number applies if the tests below it fail
   none_below : (n : ℕ) → n ≤ 7 → (3 < n → has_bad_kind headers ≡ false)
       → (4 < n → has_bad_version number headers ≡ false)
       → (5 < n → has_bad_number headers ≡ false) → (6 < n → has_bad_lengths headers ≡ false)
@@ -87,7 +87,7 @@ module _ (number : ℕ) (text : List ℕ) (headers : List line.Header) (after : 
           let all : is_lawful number headers ≡ true = rw (is-k, is-v, is-n, is-l) refl in
           absurd (absurd_bool _ all broken)
 
-  -- too few bytes are left after lawful lines
+  -- there are too few bytes after lawful lines
   pub cut_short : is_lawful number headers ≡ true → length after < property_length headers + text_length headers
       → IsCutFault number text faults.ContentCut
   cut_short lawful short =
@@ -159,7 +159,7 @@ pub handed_on : {T : Type 0} (r : Result T FaultKind) (P : FaultKind → Type 0)
 handed_on (Ok x) P fault is holds = tt
 handed_on (Err e) P fault is holds = subst P (sym is) holds
 
--- what reading the lines of a block that was cut at a place says about that place
+-- what the lines of a block say about the place at which the block is
 module _ (dump : List ℕ) (place number : ℕ) (b : Block) (dump_is : block_dump b ≡ dump)
     (place_is : block_place b ≡ place) where
   here : IsBlockBetween dump place (block_after b)

@@ -1,4 +1,4 @@
--- The first records of a dump: there is one list of each length, so a truncated fact about them is a fact.
+-- The first records of a dump: there is only one list of each length, so a truncated fact about them is a fact.
 use Rattle.dump_records.proofs.Prelude.{◌≡◌, ℕ, ◌+◌, ◌≤◌, List, [], ◌∷◌, ◌++◌, take, drop, length, refl, sym, ap, ◌∙◌, subst, arith, ∥∥₁_elim, ∥∥₁_map, Coded, Coded-set, coded_ℕ, coded_list, take-append-drop, length-take-le, take_all, block_text, blank_once, header-eq, DumpRecord, record_text, BeginsWithRecord, Ending, IsCutInto, HaveVersions, HasRecords, BeginsWithRecords, EndsAfter, IsRecordOf}
 use base.Stored.{coded×, coded_via}
 use Rattle.dump_text.specs.HeaderLine as line
@@ -20,7 +20,7 @@ record_coded = coded_via (coded× coded_ℕ (coded× coded_ℕ (coded× (coded_l
 pub same_records : (rs ss : List DumpRecord) → IsProp (rs ≡ ss)
 same_records rs ss = Coded-set (coded_list record_coded) rs ss
 
--- what is cut into records is cut into the first of them
+-- what is split into records is split into the first of them
 pub cut_prefix : (number place : ℕ) (text rest : List ℕ) (rs ss : List DumpRecord) → IsCutInto number place text
     (rs ++ ss) rest
     → (behind : List ℕ) × IsCutInto number place text rs behind
@@ -38,7 +38,7 @@ begins_prefix dump rs ss (rest, cut, have) =
     let front = cut_prefix 0 0 dump rest rs ss cut in
     (front.0, front.1, versions_prefix 0 rs ss have)
 
--- two lists of the first records of a text, of one length, are one
+-- two lists of the first records of a text are the same if they have the same length
 cut_once : (number place before : ℕ) (text x y : List ℕ) (rs ss : List DumpRecord) → length rs ≡ length ss
     → IsCutInto number place text rs x → IsCutInto number place text ss y
     → HaveVersions before rs → HaveVersions before ss → rs ≡ ss
@@ -51,7 +51,7 @@ cut_once number place before text x y (r ∷ rs) (s ∷ ss) same cut cut' have h
     more more' have.1 versions in
     (λ i. one i ∷ rest i)
 
--- two lists of as many records that a dump begins with are the same
+-- two lists of records with which a dump begins are the same if they have the same length
 pub begins_once : (dump : List ℕ) (rs ss : List DumpRecord) → length rs ≡ length ss → BeginsWithRecords dump rs
     → BeginsWithRecords dump ss → rs ≡ ss
 begins_once dump rs ss same (x, cut, have) (y, cut', have') = cut_once 0 0 0 dump x y rs ss same cut cut' have have'

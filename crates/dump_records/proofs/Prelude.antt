@@ -1,4 +1,4 @@
--- The words of std, of the definitions and of the lemmas below, for the proofs of this crate.
+-- The names of std, of the definitions and of the lemmas below, for the proofs of this crate.
 pub use Rattle.std.proofs.Common.{Bool, Bor, Err, List, None, Ok, Option, Result, Some, [], ap, append_assoc, ap₂, arith, codes, count_by, drop, false, get_or, if◌then◌else◌, inl, inr, is_none, is_some, length, length-append, lit<, nat_lt, not, option_and_then, refl, slice_range, subst, suc, sym, take, true, unwrap_or, zero, ℕ, ◌&&◌, ◌++◌, ◌+◌, ◌-◌, ◌<◌, ◌==◌, ◌^◌, ◌||◌, ◌∙◌, ◌∷◌, ◌≡◌, ◌≢◌, ◌≤◌, ◌⊎◌}
 pub use Rattle.std.proofs.Math.Logic.{∥∥₁_elim, ∥∥₁_map}
 pub use Rattle.std.proofs.Math.Bool.{and-false}

@@ -1,4 +1,4 @@
--- What a record lends of its block.
+-- What a record borrows from its block.
 use Rattle.dump_records.proofs.Prelude.{◌≡◌, ℕ, ◌-◌, Bool, true, false, if◌then◌else◌, List, Option, Some, None, Bor, drop, refl, sym, ◌∙◌, subst, arith, option_copied, IfSome, length-take, length-drop, path_name, copy_path_name, Header, has_header, header_value, is_copied_node, part_of_node, IsPartBetween, block_size, value_lent, if_copied, Record, place_after, record_item, IsInBlock}
 use Rattle.dump_records.proofs.HeaderLemmas.{no_value}
 
@@ -10,13 +10,13 @@ value_in_block r name value is =
     subst (λ (n : ℕ). IsPartBetween b.dump.now b.place n value) (sym (block_size b.dump.now b.place b.after b.stands))
     (value_lent b.dump.now b.place b.after b.stands name value (sym is))
 
--- and so does one that may be missing
+-- so is a value that may be missing
 pub copy_in_block : (r : Record) (name : List ℕ) (found : Option (Bor (List ℕ)))
     → option_copied found ≡ header_value name (record_item r).headers
     → IfSome found (λ value. IsInBlock r value.now)
 copy_in_block r name found is = if_copied found (IsInBlock r) (λ value at. value_in_block r name value (sym at ∙ is))
 
--- a header that only copies have is one of a node
+-- a record with a header that only copies have is a node
 pub copy_has : (r : Record) (name : List ℕ)
     → (has_header path_name (record_item r).headers ≡ true → has_header copy_path_name (record_item r).headers ≡ false
     → has_header name (record_item r).headers ≡ false)

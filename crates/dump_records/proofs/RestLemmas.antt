@@ -1,7 +1,7 @@
 -- A record's bytes from one of its parts on, as a part of the dump.
 use Rattle.dump_records.proofs.Prelude.{◌≡◌, ℕ, ◌+◌, ◌-◌, ◌≤◌, List, ◌++◌, take, drop, slice_range, sym, ap, ap₂, ◌∙◌, arith, take-append-drop, take-take, drop-take, drop-drop}
 
--- a part of a list is a part up to a place, and the part after it
+-- a part of a list is the part up to a place, and the part after it
 pub slice_join : (d : List ℕ) (a b c : ℕ) → a ≤ b → b ≤ c → slice_range d a c ≡ slice_range d a b ++ slice_range d b c
 slice_join d a b c low high =
     let n = b - a in

@@ -25,7 +25,7 @@ pub front_of : (number : ℕ) (text : List ℕ) (r : DumpRecord) (after : List �
     → starts_with_lf text ≡ false
 front_of number text r after b = block_front text r.headers (content r after) (begins number text r after b)
 
--- records of the same place, version, lines, properties and text are the same
+-- records with the same place, version, lines, properties and text are the same
 pub record-eq : (r s : DumpRecord) → r.place ≡ s.place → r.version ≡ s.version → r.headers ≡ s.headers
     → r.props ≡ s.props → r.text ≡ s.text → r ≡ s
 record-eq r s p v h q t = λ i. record { place = p i; version = v i; headers = h i; props = q i; text = t i }
@@ -51,7 +51,7 @@ record_once number text r s x y place version b c =
     let same = parts_once number number text r s x y b c in
     (record-eq r s place version same.0 same.1 same.2, same.3)
 
--- where one version was in force before, one is for the record at the front of a text
+-- if only one version was in force before, only one is in force for the record at the front of a text
 pub version_once : (number before : ℕ) (text : List ℕ) (r s : DumpRecord) (x y : List ℕ)
     → r.version ≡ version_from before r.headers → s.version ≡ version_from before s.headers
     → BeginsWithRecord number text r x → BeginsWithRecord number text s y → r.version ≡ s.version
@@ -93,7 +93,7 @@ module _ (number : ℕ) (text : List ℕ) (r : DumpRecord) (after : List ℕ) (b
       let tl = b.text_fits in
       grind (arith, length-append, n, p, t, pl, tl, short)
 
-  -- where a record is, none of the cut faults holds
+  -- if there is a record, none of the cut faults applies
   pub none_holds : (kind : FaultKind) → ¬ HoldsOfText number text kind
   none_holds faults.HeaderCut h = h.0 (r.headers, content r after, begins number text r after b)
   none_holds faults.Header h = h.0 (r.headers, content r after, begins number text r after b)
@@ -123,11 +123,11 @@ unfolding kind_of_code
 decoded faults.HeaderCut = refl
 decoded kind = refl
 
--- a number is that of one fault
+-- a number is the number of only one fault
 pub code_once : (a b : FaultKind) → fault_code a ≡ fault_code b → a ≡ b
 code_once a b code = sym (decoded a) ∙ ap kind_of_code code ∙ decoded b
 
--- the least fault is one
+-- there is only one least fault
 pub least_once : (Holds : FaultKind → Type 0) (a b : FaultKind) → IsLeastFault Holds a → IsLeastFault Holds b → a ≡ b
 least_once Holds a b x y =
     let not_below = x.least b in
@@ -157,7 +157,7 @@ ends_once size count x y (Ending.Broken k p) (Ending.Broken l q) same a b =
     let places : p ≡ q = omega arith in
     λ i. Ending.Broken (kinds i) (places i)
 
--- the records don't end where one is
+-- the records don't end if there is one more
 pub goes_on : (size count : ℕ) (x : List ℕ) (e : Ending) (r : DumpRecord) (after : List ℕ)
     → BeginsWithRecord count x r after → EndsWith size count x e → ⊥
 goes_on size count x Ending.Whole r after b a =
@@ -165,7 +165,7 @@ goes_on size count x Ending.Whole r after b a =
     (begins count x r after b))
 goes_on size count x (Ending.Broken fault place) r after b a = none_holds count x r after b fault a.2.holds
 
--- the first records of two lists of one text are one, and the others are cut from one text
+-- the first records of two lists for one text are the same, and the others are split from one text
 pub first_once : (number place before : ℕ) (text x y : List ℕ) (r s : DumpRecord) (rs ss : List DumpRecord)
     → IsCutInto number place text (r ∷ rs) x → IsCutInto number place text (s ∷ ss) y
     → HaveVersions before (r ∷ rs) → HaveVersions before (s ∷ ss)
@@ -188,7 +188,7 @@ first_once number place before text x y r s rs ss (lfs, start, after, at, is, b,
       subst (λ (w : ℕ). HaveVersions w ss) (sym versions) have',
     )
 
--- two lists of records of one text, which end, are one
+-- two lists of records of one text that both end are the same
 cuts_once : (size number place before count other : ℕ) (text : List ℕ) (rs ss : List DumpRecord) (x y : List ℕ)
     (e f : Ending) → count ≡ number + length rs → other ≡ number + length ss
     → IsCutInto number place text rs x → IsCutInto number place text ss y
@@ -224,7 +224,7 @@ ending_of dump records rest Ending.Whole h = h
 ending_of dump records rest (Ending.Broken fault place) h =
     ((elim h.0 [ inl some ↦ inl some | inr none ↦ inr (ap length none) ]), h.1, h.2)
 
--- a dump has at most one list of records, which ends in one way
+-- a dump has at most one list of records, with one end
 pub records_once : (dump : List ℕ) (rs ss : List DumpRecord) (e f : Ending) → HasRecords dump rs e
     → HasRecords dump ss f → (rs ≡ ss) × (e ≡ f)
 records_once dump rs ss e f (x, cut, have, ends) (y, cut', have', ends') =

@@ -1,4 +1,4 @@
--- Worked values of the definitions, computed and proved by the kernel.
+-- Examples for the definitions; the checker computes and proves them.
 use Rattle.dump_records.proofs.Prelude.{◌≡◌, ℕ, refl, ap, true, false, List, [], ◌∷◌, ◌++◌, length, Some, None, codes, inr, arith, lit<, ◌∙◌, Header, BeginsWithBlock, block_some, header_number, header_length, property_length, text_length, version_from, says_true, is_one_alone, has_bad_kind, is_read_version, has_bad_version, has_bad_number, has_bad_lengths, kind_of, DumpRecord, record_text, is_delta, has_text_delta, has_prop_delta, is_lawful, BeginsWithRecord, HasBlockWith, HoldsOfText, IsCutFault, Ending, line_feeds, IsCutInto, HaveVersions, HasEnding, BeginsWithRecords, HasRecords, EndsAfter, IsRecordOf}
 use Rattle.dump_text.specs.declared.fault.FaultKind.TheVariants as faults
 use Rattle.dump_records.specs.declared.kind.RecordKind.TheVariants as kinds
@@ -30,7 +30,7 @@ lengths props text content =
 abbrev file : List Header
 file = node ++ lengths (codes "10") (codes "3") (codes "13")
 
--- HeaderRules
+-- headerRules
 
 of_a_version : kind_of version ≡ kinds.Version
 of_a_version = refl
@@ -74,7 +74,7 @@ from_what_was_before = refl
 true_is_said : says_true (codes "Text-delta") (header (codes "Text-delta") (codes "true") ∷ []) ≡ true
 true_is_said = refl
 
--- in lower case alone
+-- only lower case counts
 capital_true : says_true (codes "Text-delta") (header (codes "Text-delta") (codes "True") ∷ []) ≡ false
 capital_true = refl
 
@@ -148,7 +148,7 @@ revision_with_a_text : has_bad_lengths (revision (codes "7") ++ header (codes "T
     ≡ true
 revision_with_a_text = refl
 
--- RecordText
+-- recordText
 
 abbrev file_record : DumpRecord
 file_record = record { place = 31; version = 2; headers = file; props = codes "PROPS-END\n"; text = codes "abc" }
@@ -222,7 +222,7 @@ empty_rest = (λ (headers, rest, is). block_some headers rest is, refl)
 empty_is_cut : IsCutFault 0 [] faults.HeaderCut
 empty_is_cut = no_block 0 [] empty_rest.0
 
--- DumpText
+-- dumpText
 
 abbrev version_record : ℕ → DumpRecord
 version_record place = record { place = place; version = 2; headers = version; props = []; text = [] }
@@ -267,11 +267,11 @@ joined_versions : HaveVersions 0 (version_record 0 ∷ file_under 2 ∷ version_
     ∷ file_under 2 ∷ [])
 joined_versions = (refl, (refl, (refl, (refl, (refl, (refl, tt))))))
 
--- the first version isn't in force after the second version record
+-- the first version isn't in force any more after the second version record
 first_version_is_over : ¬ HaveVersions 0 (version_record 0 ∷ version_of_three ∷ file_under 2 ∷ [])
 first_version_is_over (_, (_, (same, _))) = omega arith
 
--- and a version record's own is in force for itself
+-- a version record's own version is in force for itself
 own_version : ¬ HaveVersions 0 (version_record 0 ∷ record version_of_three { version = 2 } ∷ [])
 own_version (_, (same, _)) = omega arith
 
@@ -287,7 +287,7 @@ one_record = (version_record 1 ∷ [], to_the_end, refl)
 first_record : IsRecordOf dump 0 (version_record 1)
 first_record = ([], front, refl)
 
--- a dump without a record breaks off at once
+-- a dump without a record ends with a fault at once
 empty_dump : HasRecords [] [] (Ending.Broken faults.HeaderCut 0)
 empty_dump = ([], (0, refl, refl), tt, (inr refl, refl, empty_is_cut))
 
