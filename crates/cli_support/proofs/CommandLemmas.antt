@@ -1,10 +1,10 @@
--- A command with one argument more.
+-- A command with one more argument.
 use Rattle.std.proofs.Common.{ap₂, false, ◌≡◌, ◌∙◌}
 use Rattle.clap.specs.Words.{AddsArg, App, Rule, app_of, rule_of, with_rule}
 use Rattle.clap.specs.declared.builder.arg.Arg.{Arg}
 use Rattle.clap.specs.declared.builder.command.Command.{Command}
 
--- with one argument more that isn't global, a command is the old one with that argument's rule
+-- one more argument that isn't global adds its rule to the command
 pub one_more : (old : Command) (a : Arg) (new : Command) (app : App) (rule : Rule) → AddsArg old a new
     → a.global ≡ false → app_of old ≡ app → rule_of a ≡ rule
     → app_of new ≡ with_rule app rule

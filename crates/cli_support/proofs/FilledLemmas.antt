@@ -1,4 +1,4 @@
--- What a line that a command takes gives of the numbers of workers and of the window.
+-- The numbers of workers and of the window that a parse gives for a line that a command takes.
 use Rattle.cli_support.proofs.Prelude.{◌≡◌, ◌∙◌, ℕ, true, false, not, refl, sym, ap, subst, List, [], ◌∷◌, length, map, filter, codes, inl, inr, lit<, eqb-true, nil_from_length, list_any, bytes_eq, first_true, not_true, number, AreFilled, IsNumber}
 use Rattle.std.proofs.lemmas.Bool.{and_parts, both_ways, cases_Bool}
 use Rattle.clap.specs.Built.{IsParsedFrom}
@@ -16,7 +16,7 @@ use Rattle.cli_support.proofs.NumberLemmas.{Each, IsNumbered, IsOwn, number_give
 pub is_numbered : (name : Text) (most : ℕ) (default : Text) → IsNumbered most (number name most default)
 is_numbered name most default = record { sets = refl; range = refl; parser = refl; defaults = lit< tt }
 
--- what holds of each rule of this id holds of each rule that has it
+-- what is true of each rule of this id is true of each rule that has it
 of_id : (id : List ℕ) (P : Rule → Type 0) (rules : List Rule) → Each P (filter (λ (r : Rule). bytes_eq r.id id) rules)
     → Each (λ r. bytes_eq r.id id ≡ true → P r) rules
 of_id id P [] each = tt

@@ -1,8 +1,8 @@
--- What reads up to the end gave.
+-- What was read, up to the end of the input.
 use Rattle.cli_support.proofs.Prelude.{◌≡◌, ℕ, ◌++◌, List, take, Option, Some, None, IfSome, sym, ap, ◌∙◌, Consumes, IsAtEnd}
 use Rattle.std.proofs.Common.{append-nil}
 
--- a reader that gave nothing more, and is at its end, gave all
+-- a reader that returned nothing more, and is at its end, returned everything
 pub whole-at_end : (first before after : Option (List ℕ)) (read chunk : List ℕ) → Consumes first before read
     → Consumes before after (take 0 chunk) → IsAtEnd after
     → IfSome first (λ left. read ≡ left)

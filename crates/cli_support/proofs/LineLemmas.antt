@@ -1,4 +1,4 @@
--- What a line means that a command accepts, and one that it rejects.
+-- The meaning of a line that a command accepts, and of one that it rejects.
 use Rattle.cli_support.proofs.Prelude.{◌≡◌, ◌∙◌, ◌⊎◌, ◌&&◌, Bool, true, false, sym, ap, subst, List, [], ◌∷◌, Some, Result, Ok, Err, inl, inr, arith, ne_eqb, Side, Answers, meaning_by, meaning_in, side_in, ReadsLine, Usage, Words, BothDrops, Memory}
 use Rattle.clap.specs.Kinds.{HasKind, Kinds}
 use Rattle.clap.specs.Walk.{is_empty}
@@ -7,17 +7,17 @@ use Rattle.clap.specs.declared.error.Error.{Error}
 use Rattle.clap.specs.declared.error.kind.ErrorKind.TheVariants.{OutOfMemory}
 use Rattle.clap.specs.declared.parser.matches.ArgMatches.{ArgMatches}
 
--- the first of two facts that both hold
+-- the first of two true facts
 pub first_holds : (a b : Bool) → (a && b) ≡ true → a ≡ true
 first_holds true b e = cc
 first_holds false b e = cc
 
--- the second of two facts that both hold
+-- the second of two true facts
 pub second_holds : (a b : Bool) → (a && b) ≡ true → b ≡ true
 second_holds true b e = e
 second_holds false b e = cc
 
--- a command of which clap says which kinds of error it gives is one of which it says the matches
+-- if clap specifies the kinds of errors of a command, it specifies the command's matches too
 pub simple_of_free : (app : App) → is_simple_and_free app ≡ true → is_simple app ≡ true
 simple_of_free app free = first_holds (is_simple app) _ free
 
@@ -25,7 +25,7 @@ simple_of_free app free = first_holds (is_simple app) _ free
 is_filled : {X : Type 0} (x : X) (xs : List X) → is_empty (x ∷ xs) ≡ false
 is_filled x xs = ne_eqb _ _ (λ e. omega (arith, e))
 
--- a refusal as other arguments or as out of memory is what is read of a line with such a fault
+-- an error for other arguments, or for memory that ran out, is what is read of a line with such a fault
 pub refusal_reads : (app : App) (line : List Text) (e : Error) (u : Usage) → HasKind (fault_of app line) e
     → (kind_of e ≡ OutOfMemory → u ≡ Memory) → ((u ≡ Words) ⊎ (u ≡ Memory))
     → ReadsLine app line (Err u)
@@ -42,7 +42,7 @@ refusal_reads app line e u has memory (inl is) =
 
 module _ {A M : Type 0} (app : App) (means : Side → List Row → Result M Usage) (meaning_of : A → M) (line : List Text)
     (side : Side) (named : side_in line ≡ Some side) where
-  -- what the rows of a line that is taken give is what the line means
+  -- what the rows of an accepted line give is the meaning of the line
   pub line_answers : (matches : ArgMatches) (answer : Result A Usage) → ReadsLine app line (Ok matches)
       → Answers meaning_of (means side (rows_of (found_of matches))) answer
       → Answers meaning_of (meaning_in app means line) answer

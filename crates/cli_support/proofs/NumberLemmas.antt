@@ -1,4 +1,4 @@
--- What a parse of a command without subcommands gives of a number that has a default.
+-- What a parse of a command without subcommands gives for a number that has a default.
 use Rattle.cli_support.proofs.Prelude.{◌≡◌, ◌∙◌, ◌⊎◌, ◌<◌, ◌≤◌, ℕ, true, false, not, zero, suc, refl, sym, ap, subst, List, [], ◌∷◌, length, map, Option, Some, None, is_some, codes, inl, inr, arith, lit≤, ⊤, find, slice_get, Bor, All, list_any, slice_index_or, option_and_then, option_map, unwrap_or, bytes_eq, cases_lt, eqb-true, length-map, nil_from_length, bytes_eq-Decides, IsNumber}
 use Rattle.std.proofs.lemmas.Bool.{cases_Bool, or_cases}
 use Rattle.clap.specs.Built.{IsAuto, IsParsedFrom, SameRules}
@@ -47,7 +47,7 @@ pub record IsNumbered (most : ℕ) (a : Rule) : Type 0 where
   pub parser : a.parser ≡ Some (parsers.Unsigned 1 most)
   pub defaults : 0 < length a.defaults
 
--- the same of an argument that is built
+-- the same for an argument that is built
 record IsBuiltNumber (most : ℕ) (a : Arg) : Type 0 where
   pub sets : a.action ≡ Some Set
   pub least : 1 ≤ least_values a
@@ -61,7 +61,7 @@ no_delimiter : (o : Option ℕ) → not (is_some o) ≡ true → o ≡ None
 no_delimiter None e = refl
 no_delimiter (Some x) e = cc
 
--- what a simple argument has not
+-- what a simple argument doesn't have
 pub record HasNone (a : Arg) : Type 0 where
   pub ifs : a.default_vals_ifs.items ≡ []
   pub groups : a.groups.items ≡ []
@@ -105,7 +105,7 @@ first_of (v ∷ rest) lt = (v, rest, refl)
 
 -- ---- a parse
 
--- the name is none that clap adds
+-- the name isn't one that clap adds
 abbrev pub IsOwn : Text → Type 0
 IsOwn id = (x : Text) → ((x ≡ codes "help") ⊎ (x ≡ codes "version")) → bytes_eq x id ≡ true → ⊥
 

@@ -1,11 +1,11 @@
--- What a writer took of an output whose last bytes are in the buffer or are written.
+-- What a writer took of an output whose last bytes are in the buffer or were written.
 use Rattle.cli_support.proofs.Prelude.{◌≡◌, ℕ, List, [], ◌++◌, Option, None, Some, refl, sym, ap, subst, ◌∙◌, append_assoc, append_cancel_left, Appends, Appends-kept, Keeps, GrowsBy, append_known, LentState, lent_taken, IsPrefixOf}
 use Rattle.dump_writer.specs.steps.SinkCalls.{TakesOnlyFirst}
 use Rattle.cli_support.specs.Info.{TakesFront}
 use Rattle.std.proofs.Common.{Err, IfErr, Ok, OnOk, Result, drop, take}
 use Rattle.std.proofs.lemmas.List.{append-nil, take-append-drop}
 
--- where nothing waits the known bytes are those of the writer
+-- if nothing waits, the known bytes are those of the writer
 pub from_none : (a b : Option (List ℕ)) (bytes : List ℕ) → Appends (append_known a []) b bytes → Appends a b bytes
 from_none None b bytes more = tt
 from_none (Some xs) None bytes more = absurd more
@@ -16,7 +16,7 @@ to_none None c bytes more = tt
 to_none (Some xs) None bytes more = more
 to_none (Some xs) (Some ys) bytes more = sym (append-nil ys) ∙ more
 
--- of the bytes that were sent the writer took those that don't wait
+-- the writer took those of the sent bytes that don't wait
 pub part_taken : (a c : Option (List ℕ)) (waiting sent : List ℕ) (n : ℕ) → GrowsBy a c n
     → Appends a (append_known c waiting) sent
     → (part : List ℕ) × IsPrefixOf part sent × Appends a c part
@@ -32,7 +32,7 @@ part_taken (Some xs) (Some ys) waiting sent n grown all = (
   grown.1,
 )
 
--- a whole text after which nothing waits
+-- a whole text, after which nothing waits
 pub handed_on : (a b : Option (List ℕ)) (sink : LentState) (text : List ℕ) → Appends (append_known a []) b text
     → Keeps b (lent_taken sink) → sink.waiting ≡ [] → Appends a sink.out.taken text
 handed_on a b sink text appended kept none = from_none a sink.out.taken text
@@ -40,13 +40,13 @@ handed_on a b sink text appended kept none = from_none a sink.out.taken text
     (Appends-kept (append_known a []) b (append_known sink.out.taken []) text appended
     (subst (λ w. Keeps b (append_known sink.out.taken w)) none kept)))
 
--- what took only the first of the bytes took some of them
+-- a sink that took only the first of the bytes took a first part of them
 pub some_of : (old new : Option (List ℕ)) (text line : List ℕ) (n : ℕ) → TakesOnlyFirst old new text n → line ≡ text
     → TakesFront old new line
 some_of old new text line n (count, low, more, is) same =
     (take count text, (drop count text, same ∙ sym (take-append-drop count text)), more)
 
--- of a text of which a sink took a first part the writer took a first part
+-- if a sink took a first part of a text, the writer took a first part
 pub some_sent : (a b : Option (List ℕ)) (sink : LentState) (text : List ℕ) (n : ℕ)
     → TakesFront (append_known a []) b text → Keeps b (lent_taken sink) → GrowsBy a sink.out.taken n
     → TakesFront a sink.out.taken text
@@ -58,7 +58,7 @@ some_sent a b sink text n (part, (rest, is), more) kept grown =
       appended,
     )
 
--- where a writer took nothing, it took some of any text
+-- if a writer took nothing, it took a first part of any text
 pub none_taken : (old : Option (List ℕ)) (text : List ℕ) → TakesFront old old text
 none_taken None text = ([], (text, refl), tt)
 none_taken (Some xs) text = ([], (text, refl), sym (append-nil xs))

@@ -1,4 +1,4 @@
--- The words of std, of the definitions and of the lemmas below, for the proofs of this crate.
+-- The names of std, of the definitions and of the lemmas below, for the proofs of this crate.
 pub use Rattle.std.specs.Prelude.{find, slice_get, ⊤}
 pub use Rattle.std.proofs.Common.{Bool, Err, IfSome, List, None, Ok, Option, Result, Some, [], ap, append_assoc, arith, codes, false, filter, inl, inr, is_some, length, lit<, lit≤, map, not, refl, subst, suc, sym, take, true, zero, ℕ, ◌&&◌, ◌++◌, ◌<◌, ◌∙◌, ◌∷◌, ◌≡◌, ◌≤◌, ◌⊎◌}
 pub use Rattle.std.proofs.KnownBytes.{Appends-kept}

@@ -6,7 +6,7 @@ use Rattle.std.specs.List.{AllZip, slice_index_or}
 use Rattle.clap.specs.Walk.{is_empty}
 use Rattle.cli_support.specs.Targets.{before_blanks, begun_by, is_blank, is_line_end, prefix_of_line, prefixes_of_text, lines_in_text}
 
--- lines, with a text before the first
+-- the lines, with a text in front of the first one
 abbrev pub joined : List ℕ → List (List ℕ) → List (List ℕ)
 joined text [] = text ∷ []
 joined text (line ∷ lines) = (text ++ line) ∷ lines
@@ -19,7 +19,7 @@ first_begun : (byte : ℕ) (lines : List (List ℕ)) → joined [] (begun_by byt
 first_begun byte [] = refl
 first_begun byte (line ∷ lines) = refl
 
--- one byte more that ends no line
+-- one more byte that doesn't end the line
 pub line_goes_on : (text : List ℕ) (n : ℕ) → n < length text → is_line_end (slice_index text n) ≡ false
     → joined (take n text) (lines_in_text (drop n text)) ≡ joined (take (suc n) text) (lines_in_text (drop (suc n) text))
 line_goes_on [] n less other = absurd (omega arith)
@@ -38,7 +38,7 @@ line_ends (byte ∷ text) (suc n) less is =
     joined_begun byte (take n text) (lines_in_text (drop n text))
     ∙ ap (begun_by byte) (line_ends text n (omega arith) is)
 
--- a text that no byte ends
+-- a text without a byte that ends a line
 pub line_is_last : (text : List ℕ) (n : ℕ) → length text ≤ n
     → joined (take n text) (lines_in_text (drop n text)) ≡ text ∷ lines_in_text (drop n text)
 line_is_last [] zero all = refl
@@ -52,7 +52,7 @@ only_begun : (byte : ℕ) (lines : List (List ℕ)) → joined [] (begun_by byte
 only_begun byte [] = refl
 only_begun byte (line ∷ lines) = refl
 
--- a text of one byte and more has a line
+-- a text that isn't empty has a line
 pub some_line : (text : List ℕ) → 0 < length text → joined [] (lines_in_text text) ≡ lines_in_text text
 some_line [] less = absurd (omega arith)
 some_line (byte ∷ text) less = elim (cases_Bool (is_line_end byte)) [
@@ -76,7 +76,7 @@ pub blank_goes : (line : List ℕ) (count last : ℕ) → count ≡ suc last →
 blank_goes line count last e less is =
     ap (λ n. before_blanks (take n line)) e ∙ blank_at line last less is
 
--- another byte at the end
+-- a byte at the end that is no blank
 other_at : (line : List ℕ) (n : ℕ) → n < length line → is_blank (slice_index line n) ≡ false
     → before_blanks (take (suc n) line) ≡ take (suc n) line
 other_at [] n less other = absurd (omega arith)
@@ -103,7 +103,7 @@ module _ (text line rest : List ℕ) (cut : lines_in_text text ≡ line ∷ line
   pub line_does_not_count : is_empty (prefix_of_line line) ≡ true → prefixes_of_text text ≡ prefixes_of_text rest
   line_does_not_count empty = rw cut (rw empty refl)
 
--- one item more on both sides
+-- one more item in both lists
 zip_more : {A B X Y : Type 0} (R : A → B → Type 0) (f : X → A) (h : Y → B) (xs : List X) (i : ℕ) (d : X)
     (ys : List Y) (y : Y) → i < length xs → AllZip R (map f (take i xs)) (map h ys) → R (f (slice_index_or xs i d)) (h y)
     → AllZip R (map f (take (suc i) xs)) (map h (ys ++ y ∷ []))

@@ -1,4 +1,4 @@
--- Worked values of the definitions, computed and proved by the kernel.
+-- Examples for the definitions; the checker computes and proves them.
 use Rattle.cli_support.proofs.Prelude.{◌≡◌, refl, true, false, List, [], ◌∷◌, ℕ, length, lit<, lit≤, Some, None, Ok, Err, codes, Include, Exclude, Pad, DropEmptied, DropAll, Answers, AreFilled, IsNumber, empty_of, filter_command, flag_number, is_call_of, is_set, meaning_in, named_side, number, prefixes, refusal_status, settings_of, side_in, switch, Words, BothDrops, Memory}
 use Rattle.std.proofs.Common.{inl, inr}
 use Rattle.clap.specs.Words.{App, Row, with_rule}
@@ -10,7 +10,7 @@ use Rattle.cli_support.specs.declared.info.Info.TheVariants.{Help, Version}
 use Rattle.clap.specs.declared.builder.value_parser.Reading.TheVariants as reading
 use Rattle.clap.proofs.OnLiterals.{clap_on_literals}
 
--- FilterCommand
+-- filterCommand
 
 spelled_switch : (switch (codes "quiet")).long ≡ Some (codes "quiet")
 spelled_switch = refl
@@ -36,7 +36,7 @@ five_options = refl
 no_subcommands : (filter_command (codes "p")).subs ≡ []
 no_subcommands = refl
 
--- Arguments
+-- arguments
 
 includes : named_side (codes "include") ≡ Some Include
 includes = refl
@@ -137,7 +137,7 @@ arguments_refused = refl
 no_memory : refusal_status 3 Memory ≡ 3
 no_memory = refl
 
--- FilledFlags
+-- filledFlags
 
 twelve_workers : IsNumber (codes "workers") 64 plan_rows
 twelve_workers = (codes "12", refl, ((lit< tt, (lit< tt, (lit< tt, tt))), lit< tt, lit≤ tt, lit≤ tt))
@@ -148,7 +148,7 @@ sixty_four = (codes "64", refl, ((lit< tt, (lit< tt, (lit< tt, tt))), lit< tt, l
 filled : AreFilled plan_rows
 filled = record { workers = twelve_workers; window = sixty_four }
 
--- Info
+-- info
 
 help_is_an_option : named_info (codes "--help") ≡ Some Help
 help_is_an_option = refl
@@ -156,7 +156,7 @@ help_is_an_option = refl
 no_short_option : named_info (codes "-h") ≡ None
 no_short_option = refl
 
--- the first of them is answered
+-- only the first of the options counts
 both_texts : info_of (codes "p" ∷ codes "exclude" ∷ codes "--version" ∷ codes "--help" ∷ []) ≡ Some Version
 both_texts = refl
 
@@ -172,7 +172,7 @@ printed = inl (refl, refl)
 printed_in_part : Prints 1 (codes "ab") (Some []) (Some (codes "a")) 1
 printed_in_part = inr (first_byte_alone, refl)
 
--- NamedOutputs
+-- namedOutputs
 
 emptied : Replaces (Some (codes "a")) (Some []) []
 emptied = refl
@@ -180,7 +180,7 @@ emptied = refl
 not_emptied : ¬ Replaces (Some (codes "a")) (Some (codes "a")) []
 not_emptied e = cc
 
--- Targets
+-- targets
 
 carriage_return : is_line_end 13 ≡ true
 carriage_return = refl

@@ -12,7 +12,7 @@ differs text other not_same = go (bytes_eq text other) refl
     go true e = absurd (not_same ((bytes_eq-Decides text other).0 e))
     go false e = e
 
--- what is read of a flag, or false where nothing is, says whether it is set
+-- what is read of a flag, or false if nothing is read, says whether the flag is set
 pub flag_is : (E : Type 0) (m : Found) (name : Text) (o : Option Bool) → (one_text m name ≡ None → o ≡ None)
     → ((t : Text) → one_text m name ≡ Some t → ReadsOne {E = E} ParsesBool t o)
     → unwrap_or o false ≡ is_set name (rows_of m)
