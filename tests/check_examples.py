@@ -1,5 +1,5 @@
 #!/usr/bin/env python3
-"""Runs each example of the manual pages and of README as it stands, and compares its output with what the page says.
+"""Runs each example of the manual pages and of README as it is, and compares its output with what the page says.
 
     tests/check_examples.py [TEXT]
 
@@ -7,8 +7,8 @@ With TEXT only the sections that have it are run. An example is a literal block 
 block of README that is marked as sh; one that calls make test is not run. bash runs it, as if a reader had pasted it, with
 all programs in PATH by their installed names. The examples of one section (or subsection) follow each other in one
 directory, which is empty at first, and for README a clone of the repository. In an example the lines that begin with '# '
-are what the others print, without svnmucc's line on each commit. An example without such lines has to succeed. Where
-Subversion is not installed, the examples of a section are left out from the first one that uses it, and the script says so.
+are what the others print, without svnmucc's line on each commit. An example without such lines has to succeed. If
+Subversion is not installed, the script skips the examples of a section from the first one that uses it, and says so.
 
 It also looks at the pages: whether man shows the examples as they are, whether the filter's page has each fault of the
 format and the survey's each line of docs/SURVEY.md, whether the cases that docs/DIFFERENCES.md names show what it says of
@@ -58,7 +58,7 @@ class Example:
         return f"{self.page}, {self.section}: {self.commands[0]}"
 
     def wrong(self, folder, surroundings):
-        """What is wrong with a run in this folder, if anything is."""
+        """What is wrong with a run in this directory, if anything is."""
         script = os.path.join(folder, "..", "script")
         with open(script, "w", encoding="utf-8") as it:
             it.write("\n".join(self.commands) + "\n")
@@ -138,7 +138,7 @@ def clone(folder):
 
 
 def run_all(examples, folder, surroundings):
-    """Runs the examples of each section in a directory of its own, and returns how many were right, wrong and left out."""
+    """Runs the examples of each section in a directory of its own, and returns how many were right, wrong and skipped."""
     passed = failed = left_out = 0
     there = not lacking(*TOOLS)
     for number, section in enumerate(dict.fromkeys((it.page, it.section) for it in examples)):
@@ -293,7 +293,7 @@ def wrong_on_crate_pages():
 
 
 def wrong_in_pages(pages, examples):
-    """What is wrong with the pages as they stand, a line for each look at them."""
+    """What is wrong with the pages as they are, a line for each check of them."""
     looks = []
     for name, page in pages.items():
         lines = shown(page)

@@ -3,8 +3,8 @@
 
     tests/check_loaded_trees.py [SEED [filter] [cut]]
 
-SEED is 1 where none is given; another one makes other repositories. The words behind it say which of the two parts below
-are run; both are where none is given. Repositories are made by svnmucc and svn: copies, renames of projects and of the
+SEED is 1 if none is given; another one makes other repositories. The words after it say which of the two parts below
+are run; both are run if none is given. Repositories are made by svnmucc and svn: copies, renames of projects and of the
 directories above them, replaced and deleted directories, properties, branches and merges. Each is dumped, without deltas
 and with them.
 
@@ -32,7 +32,7 @@ gaps, which svndumpfilter makes, and with dumps in which copies are made over wh
 there the original is what svnadmin loads of them, and nothing may be written of a dump that it rejects. If it rejects the
 mergeinfo alone, the cut is not judged.
 
-The files of a failed run are kept in build/loaded_trees. Where Subversion is not installed, the test is left out and says
+The files of a failed run are kept in build/loaded_trees. If Subversion is not installed, the test is skipped and says
 so. The last line is 'N passed, M failed'.
 """
 import collections
@@ -54,12 +54,12 @@ SECONDS = 120
 # on a disk a load waits for it more than a second
 MEMORY = "/dev/shm" if os.access("/dev/shm", os.W_OK) else None
 REPOSITORIES, COMMITS, RUNS = 8, 18, 40
-# of each repository so many parts, and of each part so many runs
+# the number of parts of each repository, and of runs for each part
 PARTS, PART_RUNS = 3, 5
-# a repository doesn't grow above so many paths
+# a repository doesn't grow above this number of paths
 PATHS = 80
-# of each repository so many sets of paths are cut out, and so many parts, dumps with gaps and dumps with copies over something
-# are offered to svndumpcut
+# for each repository, the number of sets of paths that are cut out, and the number of parts, of dumps with gaps and of
+# dumps with copies over something that are given to svndumpcut
 CUTS, CUT_PARTS, CUT_GAPS, CUT_OVERS = 70, 6, 6, 12
 OPTIONS = [
     ["--drop-empty-revs", "--renumber-revs"],
@@ -130,7 +130,7 @@ OWN_LIFE = re.compile(
     rb"content\n",
     re.MULTILINE,
 )
-# that svnadmin can't give mergeinfo other numbers, as behind a gap
+# svnadmin's message that it can't give mergeinfo other numbers, as after a gap
 MERGEINFO_REFUSED = re.compile("mergeinfo|bad range|Negative revision number")
 # the number of a dump's first revision
 FIRST = re.compile(rb"^Revision-number: (\d+)$", re.MULTILINE)
@@ -140,7 +140,7 @@ MARKER = re.compile(rb"^only in text \d+\.$", re.MULTILINE)
 
 
 def left_out():
-    """Why the test is left out, if it is."""
+    """Why the test is skipped, if it is."""
     missing = lacking(*TOOLS)
     return f"{', '.join(missing)} can't be found" if missing else None
 
@@ -158,14 +158,14 @@ def call(*words, given=b""):
 
 
 class Life:
-    """A repository that grows by commits of all kinds; one that Subversion refuses isn't made."""
+    """A repository that grows by commits of all kinds; one that Subversion rejects isn't made."""
 
     def __init__(self, folder, chance):
         self.folder, self.chance = folder, chance
         self.path = os.path.join(folder, "repository")
         self.url = "file://" + self.path
         call("svnadmin", "create", self.path)
-        # the paths of each revision, a folder's with a slash at its end
+        # the paths of each revision, a directory's with a slash at its end
         self.trees = [[]]
         self.names = self.texts = 0
 
@@ -247,7 +247,7 @@ class Life:
         self.commit("mv", self.chance.choice(["work", "work/one", "work/two", "lib"]), self.name())
 
     def rename_back(self):
-        """A folder at the top takes the name of one that was there."""
+        """A directory at the top takes the name of one that was there."""
         tops = [it for it in self.folders() if "/" not in it]
         gone = [it for it in ("work", "lib") if it not in tops]
         if gone:
@@ -274,7 +274,7 @@ class Life:
         self.commit("cp", str(number), source, self.new_path())
 
     def bring_back(self):
-        """What was deleted comes back where it stood."""
+        """What was deleted is added again at its path."""
         number = self.chance.randrange(1, len(self.trees))
         gone = [it.rstrip("/") for it in self.trees[number] if it not in self.trees[-1]]
         if gone:
@@ -311,7 +311,7 @@ class Life:
         self.commit("propset", "svn:mergeinfo", value, self.any_folder())
 
     def merge(self):
-        """A folder is branched, the branch changed, and merged in a working copy."""
+        """A directory is branched, the branch changed, and merged in a working copy."""
         source, branch = self.any_folder(), f"tags/{self.name()}"
         self.commit("cp", "HEAD", source, branch)
         self.commit("put", self.text(), f"{branch}/{self.name()}")
@@ -391,7 +391,7 @@ def placed_records(dump):
         yield place, Record(headers, None if parts[0] is None else property_list(parts[0]), parts[1])
 
 
-# a folder has no text
+# a directory has no text
 Node = collections.namedtuple("Node", "properties text")
 
 
@@ -438,7 +438,7 @@ def step(trees, tree, record):
 class History:
     """The trees and revision properties of a repository, the paths of each revision's nodes, and the copies, from its dump.
 
-    With each copy stands all that it takes.
+    Each copy has a list of all paths that it takes.
     """
 
     def __init__(self, repository, first=0):
@@ -483,7 +483,7 @@ class History:
         return self
 
     def validate(self):
-        """Sees that each tree is the one that svnadmin dumps whole; the root's properties it leaves out there."""
+        """Sees that each tree is the one that svnadmin dumps whole; svnadmin omits the root's properties there."""
         for number, tree in enumerate(self.trees):
             whole = {b"": Node({}, None)}
             for record in records(call("svnadmin", "dump", "-q", "-r", str(number), self.path)):
@@ -507,7 +507,7 @@ class Call:
         return matches == self.include
 
     def folders(self):
-        """The folders that have to be there before the load, in order."""
+        """The directories that have to be there before the load, in order."""
         above = {it.rsplit(b"/", count)[0] for it in self.prefixes for count in range(1, it.count(b"/") + 1)}
         return sorted(it for it in above if not self.keeps(it)) if self.include else []
 
@@ -552,7 +552,7 @@ class Excluded(Call):
         return min(copied + [revision for revision, made in history.made if made == path], default=None)
 
     def deleted(self, history):
-        """What is deleted behind kept copies: the topmost paths of what they have at their sources alone, by copy."""
+        """What is deleted after kept copies: the topmost paths of what they have only at their sources, by copy."""
         found = []
         for copy, some in history.copies:
             lost = {it.target for it in some if self.keeps(it.source) and not self.keeps(it.target)}
@@ -640,7 +640,7 @@ class Meant:
         self.original, self.own = original, own
         self.folders = own.folders()
         kept = [number for number, nodes in enumerate(original.nodes) if own.is_kept(number, nodes)]
-        # made folders take a revision of their own
+        # made directories take a revision of their own
         self.numbers = {number: place + bool(self.folders) for place, number in enumerate(kept)}
 
     def image(self, number):
@@ -703,7 +703,7 @@ def without_mergeinfo(tree):
 
 
 def load(folder, dump, folders, first=0, options=("--no-flush-to-disk", "--bypass-prop-validation")):
-    """Loads a dump into a new repository over these folders, and returns it, or what svnadmin says."""
+    """Loads a dump into a new repository over these directories, and returns it, or what svnadmin says."""
     path = os.path.join(folder, f"loaded{first or ''}")
     call("svnadmin", "create", path)
     if folders:
@@ -1061,7 +1061,7 @@ class CutIncluded(Cut):
         return Included(paths)
 
     def wrong_added(self, told, named, meant):
-        """The listed paths have to be those that are meant, and what else is excluded has to be beside them."""
+        """The listed paths have to be those that are meant, and what else is excluded has to be next to them."""
         added = list(INCLUDED.finditer(told))
         copies = [Copy(int(it["revision"]), it["source"], int(it["number"]), it["target"]) for it in added]
         paths = [it["path"] for it in added]

@@ -1,14 +1,14 @@
 #!/usr/bin/env python3
-"""Sees that merges go on behind a cut as they did in the original repository.
+"""Sees that merges work after a cut as they did in the original repository.
 
     tests/check_merges.py
 
 A repository with a trunk, branches, a tag and earlier merges is made by svn; one of its directories has a secret, and so have
-the copies of it. svndumpcut excludes that with --follow-copies, or includes what is beside it in the trunk and in the
+the copies of it. svndumpcut excludes that with --follow-copies, or includes what is next to it in the trunk and in the
 branches, with all revisions kept and with emptied ones dropped, from a dump without deltas and from one with them. In the
 original and in the loaded cut the trunk is then merged into each branch, and a branch back into the trunk: the lines of svn
-status, but for excluded paths, and all files have to be the same, with no conflict. Where Subversion is not installed, the
-test is left out and says so. The last line is 'N passed, M failed'.
+status, but for excluded paths, and all files have to be the same, with no conflict. If Subversion is not installed, the
+test is skipped and says so. The last line is 'N passed, M failed'.
 """
 import os
 import subprocess

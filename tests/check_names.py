@@ -5,7 +5,7 @@
 
 It fails if two crates define a public name in their specs/. It fails too if two definitions of specs/, or the bodies of two
 functions of src/, are equal but for their own names. Bodies of one line or of less than 40 characters, and tests, are not compared. Copies
-that are known stand in tests/known_copies.txt. One that is no longer there is an error as well, so that the list only gets
+that are known are in tests/known_copies.txt. One that is no longer there is an error as well, so that the list only gets
 shorter. The last line is 'N passed, M failed'.
 """
 import glob
@@ -62,7 +62,7 @@ def functions(text):
                 body.append(line)
         elif begins or head:
             head = begins or head
-            # the brace stands in the first line, alone behind a contract, or behind the result's type below all parameters
+            # the brace is in the first line, alone after a contract, or after the result's type below all parameters
             if line == head[1] + "{" or line.endswith("{") and (begins or line.startswith(head[1] + ")")):
                 body = []
 

@@ -3,7 +3,7 @@
 
     tests/check_scripts.py
 
-Where one of the two is not installed, its scripts are left out, and the script says so. The last line is
+If one of the two is not installed, its scripts are skipped, and the script says so. The last line is
 'N passed, M failed', of scripts.
 """
 import glob

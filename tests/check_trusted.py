@@ -52,7 +52,7 @@ def meant(text, known):
 
 
 class File:
-    """A file of definitions: the text of each, with the head of the module that it stands in."""
+    """A file of definitions: the text of each, with the head of the module that it is in."""
 
     def __init__(self, crate, path):
         self.crate, self.path = crate, path
@@ -113,7 +113,7 @@ class Needed:
                 self.follow(*used)
 
     def files(self):
-        """Their files, each behind those that its definitions need."""
+        """Their files, each after those that its definitions need."""
         found, seen = [], set()
 
         def visit(crate, path):
@@ -146,7 +146,7 @@ def statements():
 
 
 class Group:
-    """What the statements for one program need, beside what the groups before it need."""
+    """What the statements for one program need, except what the groups before it need."""
 
     def __init__(self, program, functions, found):
         files, count = found.files(), len(found.names)
@@ -195,7 +195,7 @@ def modules(crate):
 
 
 def misplaced(found):
-    """A sentence for each definition that stands in the wrong folder."""
+    """A sentence for each definition that is in the wrong directory."""
     unneeded, wanted = "neither the statement nor a law needs it", "the statement or a law needs it"
     wrong = []
     for crate in CRATES:

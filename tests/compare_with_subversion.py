@@ -5,8 +5,8 @@
 
 A repository is made with svnadmin, svnmucc and svn. Its dumps, by `svnadmin dump` without deltas and with them and by
 `svnrdump dump`, are filtered by both programs with each of OPTIONS, for which both do the same. Both outputs are loaded
-into new repositories, and the dumps of those are compared byte for byte but for their UUIDs. Where Subversion is not
-installed, the test is left out and says so. docs/DIFFERENCES.md says where the two differ. The last line is
+into new repositories, and the dumps of those are compared byte for byte but for their UUIDs. If Subversion is not
+installed, the test is skipped and says so. docs/DIFFERENCES.md says where the two differ. The last line is
 'N passed, M failed'.
 """
 import os
@@ -45,7 +45,7 @@ def call(*words, given=None, cwd=None):
 
 
 def left_out():
-    """Why the test is left out, if it is."""
+    """Why the test is skipped, if it is."""
     missing = lacking(*TOOLS)
     if missing:
         return f"{', '.join(missing)} can't be found"

@@ -1,14 +1,14 @@
 #!/usr/bin/env python3
-"""Refuses each memory allocation and each thread start of the filter and the cut, one in each run, in turn.
+"""Makes each memory allocation and each thread start of the filter and the cut fail, one in each run, in turn.
 
     tests/fault_injection.py
 
 The library fault_injection.c is loaded into build/svndumpfilter and build/svndumpcut, and counts the requests. A round ends
-with the first run that has fewer requests than the number that is refused. Whatever is refused, the program ends at once: it
+with the first run that has fewer requests than the number that fails. Whatever fails, the program ends at once: it
 does what its case wants, or it reports a failure of memory or threads, and its output is then the first part of the right
 one, of the length that it reports. Before the line of the failure svndumpcut may have written the first lines that its case
 wants. The unit tests whose names say that memory runs out are run in the same way, where crates/*/out has them built:
-such a test passes whatever is refused. Where nothing is refused, the program starts the threads that its arguments ask
+such a test passes whatever fails. If nothing fails, the program starts the threads that its arguments ask
 for. The last line is 'N passed, M failed'.
 """
 import glob
@@ -74,7 +74,7 @@ class Round:
         return asked, self.difference(ran, "REFUSE_START" in refusal)
 
     def tally(self, asked_for, variable):
-        """Refuses each in turn, and returns how many runs were right and wrong."""
+        """Makes each fail in turn, and returns how many runs were right and wrong."""
         passed = failed = 0
         number = 1
         while True:

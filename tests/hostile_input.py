@@ -179,7 +179,7 @@ def a_path_of_ten_megabytes():
     gives(dump, 0, padded, counts(2, 0, 1), ["exclude", "--preserve-revprops", "trunk/a"])
 
 
-# A dump of so many revisions with a kept node each, some 300 bytes a revision.
+# A dump of this many revisions with a kept node each, some 300 bytes a revision.
 def small_dump(revisions):
     groups = [revision(number) + node(b"trunk/%d" % number) for number in range(1, revisions)]
     return VERSION + revision(0) + b"".join(groups)
@@ -232,7 +232,7 @@ def a_full_device():
 
 
 def broken_off(words, dump, after, pause=0.0):
-    """Reads so many bytes of the output, as slowly as it is told, and breaks off; returns all that the run left."""
+    """Reads this many bytes of the output, with the given pauses, and breaks off; returns all that the run left."""
     with tempfile.TemporaryFile() as source, tempfile.TemporaryFile() as errors:
         source.write(dump)
         source.seek(0)
@@ -273,7 +273,7 @@ def a_pipe_that_is_read_slowly():
 
 
 def limited(words, dump, wanted, kilobytes):
-    """Runs with so much memory for its addresses: it filters all, or fails with a first part."""
+    """Runs with this much memory for its addresses: it filters all, or fails with a first part."""
     limit = kilobytes * 1024
     set_limit = lambda: resource.setrlimit(resource.RLIMIT_AS, (limit, limit))
     ran = call(words, dump, preexec_fn=set_limit)

@@ -1,5 +1,5 @@
 #!/usr/bin/env python3
-"""Tries the mutants of crates/*/wrong: the check has to refuse each, by a goal of the function that it changes.
+"""Tries the mutants of crates/*/wrong: the check has to reject each, by a goal of the function that it changes.
 
     tests/mutants.py [--fit] [CRATE..]
 
@@ -11,9 +11,9 @@ they call, in a copy of the crate. It begins with the work that earlier checks k
 last, also by rt ci. Where no work was kept, the first round of a crate proves what these functions call too, and the other
 rounds begin with that.
 
-A round passes if every edit could be applied, each function that is named is refused by a goal of its own, and of what the
-check looks at nothing else is refused but their callers. The goals of a caller are not tried: if a mutant's function calls a
-refused one, it is tried again in a later round. The script names what fails. The last line is 'N passed, M failed', of
+A round passes if every edit could be applied, each function that is named is rejected by a goal of its own, and of what the
+check looks at nothing else is rejected but their callers. The goals of a caller are not tried: if a mutant's function calls a
+rejected one, it is tried again in a later round. The script names what fails. The last line is 'N passed, M failed', of
 mutants.
 
 With --fit it tries none and looks whether each mutant fits the sources as they are, and each of crates/*/must-fail: that
@@ -221,7 +221,7 @@ class Trials:
     """The trials of some crates. Rounds run in parallel, those of one crate each in a copy of its own."""
 
     def __init__(self, crates, known, folder):
-        # the largest crate is begun first, since the others fit beside it
+        # the largest crate is begun first, since the others fit next to it
         self.trials = [Trial(it) for it in sorted(crates, key=lambda it: -size(it, known))]
         self.known, self.folder, self.turn = known, folder, threading.Condition()
         for trial in self.trials:

@@ -4,8 +4,8 @@
     tests/new_case.py TOPIC/NAME [ARGUMENT..] < SKETCH
     tests/new_case.py < SKETCH > DUMP
 
-A sketch is a dump that may have a question mark in place of each number of bytes and each digest: behind
-Prop-content-length, Text-content-length, Content-length, Text-content-md5 and Text-content-sha1, and behind K, V and D. A
+A sketch is a dump that may have a question mark in place of each number of bytes and each digest: after
+Prop-content-length, Text-content-length, Content-length, Text-content-md5 and Text-content-sha1, and after K, V and D. A
 line that begins with Node-path, Revision-number, UUID or SVN-fs-dump-format-version begins a record. The text of a node ends
 two line feeds before the next record, as svnadmin writes it. Numbers that the sketch has stay, right or wrong:
 

@@ -4,14 +4,14 @@
     tests/run_cases.py [NAME|TOPIC..]
 
 With arguments only those cases are run, or those of these topics. A case is a directory tests/cases/TOPIC/NAME; no two
-cases have one name. It has these files, where PROGRAM is what stands behind svndump in the program's name, as filter:
+cases have one name. It has these files, where PROGRAM is what follows svndump in the program's name, as filter:
 
     stdin           the dump
     args            the arguments, one a line
     PROGRAM.status  the exit status. A program runs on the cases that have this file for it, and on no others
     PROGRAM.stdout  what it writes on standard output
     PROGRAM.stderr  what it writes on standard error
-    PROGRAM.args    its arguments, where they are not those of args
+    PROGRAM.args    its arguments, if they are not those of args
     FILE            a file that is an argument, or an argument's part after its first =. The program runs in the case's
                     directory
     cut.map         what svndumpcut leaves in the FILE of --map FILE. Without it the program leaves FILE as it is, or does
