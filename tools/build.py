@@ -28,7 +28,7 @@ WRONG = re.compile("error|no proof|not proved|FAILED|^rt: ", re.IGNORECASE)
 
 
 class Build:
-    """The crates that the programs stand on, which of them are proved, and the tests of which crates are to come."""
+    """The crates that the programs use, which of them are proved, and the tests of which crates are to come."""
 
     def __init__(self, wanted, with_tests):
         self.programs = {it.crate: it for it in wanted}
@@ -37,7 +37,7 @@ class Build:
         wanted = set().union(*chains)
         # the filter's chain takes the longest, so it has the processors before the survey's crates, and these before tests
         self.first = chains[0] if chains else set()
-        # those on which the most others stand come first
+        # those that the most others use come first
         self.wanted = sorted(wanted, key=lambda it: (-sum(it in below(one, self.known) for one in wanted), it))
         # what isn't proved here was proved before
         self.started, self.proved, self.failed, self.at_work = [], set(self.known) - wanted, False, 0

@@ -1,7 +1,7 @@
 #!/bin/sh
-# Prints a line for each program of programs.txt: its name, and the name by which it is installed, where the first one is given
-# NAME. Another one's name stands in NAME in place of the first one's. Where NAME does not have that, the other's own word, as
-# survey, is appended to it. svndumpcut has this name always: no other tool has it.
+# Prints a line for each program of programs.txt: its name, and the name by which it is installed, if the first one is given
+# NAME. In NAME, another one's name replaces the first one's. If NAME does not have that, the other's own word, as survey,
+# is appended to it. svndumpcut has this name always: no other tool has it.
 #
 #     tools/installed_names.sh NAME
 cd "$(dirname -- "$0")/.." || exit 1

@@ -1,5 +1,5 @@
 #!/bin/sh
-# Makes a Debian package of all programs, their pages and their documents. It can be installed beside Debian's own subversion,
+# Makes a Debian package of all programs, their pages and their documents. It can be installed next to Debian's own subversion,
 # which has no program of these names. The version is that of CHANGELOG.md; if that has unreleased
 # changes, the time and the name of the last commit are appended.
 set -eu

@@ -25,7 +25,7 @@ def read(*names):
 
 
 def lines_of(name):
-    """The lines of a file of data, without what stands behind a number sign and without empty ones."""
+    """The lines of a file of data, without what follows a number sign and without empty ones."""
     found = (line.partition("#")[0].strip() for line in read(name).splitlines())
     return [it for it in found if it]
 
@@ -135,7 +135,7 @@ def libraries():
 
 
 def below(crate, known):
-    """The repository's crates that a crate stands on."""
+    """The repository's crates that a crate uses."""
     found = set()
     for name in known[crate]:
         if name in known:
@@ -144,14 +144,14 @@ def below(crate, known):
 
 
 def lanes():
-    """How many checks may run beside each other: one a processor, as far as memory allows."""
+    """How many checks may run at the same time: one a processor, as far as memory allows."""
     with open("/proc/meminfo", encoding="ascii") as it:
         free = 1024 * int(re.search(r"MemAvailable:\s+(\d+)", it.read())[1])
     return max(1, min(len(os.sched_getaffinity(0)), free // BYTES))
 
 
 def linked(one, other):
-    """Gives a file a second name, or copies it: the toolchain makes a library's files anew, and writes into none."""
+    """Gives a file a second name, or copies it: the toolchain makes a library's files again, and writes into none."""
     try:
         os.link(one, other)
     except OSError:
@@ -159,16 +159,16 @@ def linked(one, other):
 
 
 def copied(name, folder, parts, copy=shutil.copy2):
-    """Copies parts of a crate, those that are there, into a folder."""
+    """Copies parts of a crate, those that are there, into a directory."""
     for part in parts:
         if os.path.isdir(path("crates", name, part)):
             shutil.copytree(path("crates", name, part), os.path.join(folder, "crates", name, part), copy_function=copy)
 
 
 def room(crate, known, folder):
-    """Copies a crate and what it stands on into a folder, a repository of its own with the libraries as they were built,
-    and gives the crate's folder there. The toolchain works in a crate and those below it in one run at a time; so it can
-    work in the copy beside others."""
+    """Copies a crate and what it uses into a directory, a repository of its own with the libraries as they were built,
+    and returns the crate's directory there. The toolchain works in a crate and those below it in one run at a time; so
+    it can work in the copy while others run."""
     for name in ("crates.txt", "HANDLES"):
         shutil.copy(path(name), folder)
     os.mkdir(os.path.join(folder, ".git"))
@@ -183,8 +183,8 @@ def room(crate, known, folder):
 
 
 def is_left_by_the_gate(crate):
-    """Whether rt ci built the library that stands in a crate, from its sources as they are. It leaves no stamp: a library
-    fits only those that it was built over, and in the crates' folders these may be built again, one by one."""
+    """Whether rt ci built the library that is in a crate, from its sources as they are. It leaves no stamp: a library
+    fits only those that it was built over, and in the crates' directories these may be built again, one by one."""
     built = path("crates", crate, "out", "rlib")
     if not os.path.isdir(os.path.join(built, crate + ".rlib")) or os.path.exists(os.path.join(built, "stamp")):
         return False
@@ -226,7 +226,7 @@ def lent(crate, home, all_but=None):
 
 
 def moved(one, other, all_but):
-    """Moves what is in one folder into another one, but for this."""
+    """Moves what is in one directory into another one, but for this."""
     for name in os.listdir(one):
         if name != all_but:
             shutil.move(os.path.join(one, name), os.path.join(other, name))
