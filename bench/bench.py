@@ -1,5 +1,5 @@
 #!/usr/bin/env python3
-"""Measures the programs on made dumps, beside the same filter on one thread (build/run_plain), Subversion's own
+"""Measures the programs on made dumps, next to the same filter on one thread (build/run_plain), Subversion's own
 svndumpfilter, and tools that only read the same bytes.
 
     bench/bench.py
@@ -7,8 +7,8 @@ svndumpfilter, and tools that only read the same bytes.
 All runs are made on one machine, the commands of a dump in turn and that five times, with output to /dev/null; of each
 command the quickest run counts. Nothing passes or fails by its time, but the filter has to write the same bytes as
 run_plain. The columns are the time, the processor time, the speed, the peak memory as a multiple of the dump's length, how
-often it slept, and the time as a multiple of the last one above it of the filter on one thread, or of the first where there
-is none. Where taskset is installed, the filter and run_plain are also pinned to one core and to two.
+often it slept, and the time as a multiple of the last one above it of the filter on one thread, or of the first if there is
+none. If taskset is installed, the filter and run_plain are also pinned to one core and to two.
 """
 import hashlib
 import os

@@ -10,8 +10,8 @@ a text of about --text bytes and its two digests, or, for a share of --copies, a
 earlier revision, or, for a share of --mergeinfo, a change of trunk's mergeinfo.
 After these come as many copies as --chain says, one a revision, each of what the one before it made; all but the last
 are under other, and that is trunk/last. And as many as --fan says, each of a directory of its own of other into trunk.
-With --tagged revision 1 also has so many files, in a hundred directories under trunk, and each later revision changes one of
-them, or, as often as --tags says, copies trunk to a tag. With --beside revision 1 also has a directory beside with so many
+With --tagged revision 1 also has this many files, in a hundred directories under trunk, and each later revision changes one of
+them, or, as often as --tags says, copies trunk to a tag. With --beside revision 1 also has a directory beside with this many
 files, and each later revision changes one of them. After all these come as many renames of a directory with a file as
 --renames says, one a revision, and then fifty copies of trunk.
 """
@@ -99,7 +99,7 @@ def tagged(number):
 
 
 def first_files(arguments):
-    """The directories and files of revision 1 beside trunk and other."""
+    """The directories and files of revision 1 other than trunk and other."""
     if arguments.tagged or arguments.renames:
         yield directory(b"tags")
     if arguments.tagged:
