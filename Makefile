@@ -1,5 +1,5 @@
 # make            proves and builds the first program of programs.txt, build/svndumpfilter
-# make PROGRAM    the same of any program, by what stands behind svndump in its name, as make survey
+# make PROGRAM    the same of any program, named by what follows svndump in its name, as make survey
 # make test       proves what is not proved yet, builds all programs, runs the tests of every crate, and then the suites of
 #                 tests/. After rt ci, which proves every crate from scratch and runs its tests, PROVED=ci make test takes the
 #                 programs from there, and runs the suites and the mutants
@@ -9,9 +9,9 @@
 #                 checks a crate, reusing what was proved before
 # make case CASE=NAME
 #                 runs a case, with each program that it is for
-# make bench      measures the programs on made dumps, beside the filter on one thread, md5sum, sha1sum, cat and, if it is
+# make bench      measures the programs on made dumps, and the filter on one thread, md5sum, sha1sum, cat and, if it is
 #                 installed, Subversion's own svndumpfilter
-# make soak       runs the filter ten thousand times on random dumps with random plans, beside the filter on one thread
+# make soak       runs the filter ten thousand times on random dumps with random plans, and the filter on one thread
 # make install    installs all programs, their manual pages and documents under $(DESTDIR)$(PREFIX), the filter by the name
 #                 $(NAME), the survey by a name like it, and svndumpcut by its own; FORCE=1 overwrites files that were not
 #                 installed from here

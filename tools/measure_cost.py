@@ -1,5 +1,5 @@
 #!/usr/bin/env python3
-"""Measures what the checks of each crate take while a process runs, and prints a table when it is told to stop.
+"""Measures what the checks of each crate take while a process runs, and prints a table at the end.
 
     tools/measure_cost.py PROCESS
 
