@@ -6,7 +6,8 @@ use Rattle.std.proofs.lemmas.Bool.Decides.{nat_tests}
 use Rattle.std.proofs.lemmas.List.{get_or-map, length-map}
 use Rattle.std.proofs.lemmas.List.Elements.{All-get_or, Contains-append_left, Contains-append_right, Contains-append_cases}
 use Rattle.std.proofs.lemmas.List.Kept.{IsSortedBy-filter}
-use Rattle.std.proofs.lemmas.List.Sorted.{sorted_far, ranks_by, searchable_from_sorted, IsPermutation-map, IsPermutation-sym, Contains-permutation}
+use Rattle.std.proofs.lemmas.List.Sorted.{sorted_far, ranks_by, searchable_from_sorted, IsPermutation-sym, Contains-permutation}
+use Rattle.std.proofs.lemmas.Option.{slice_get_within, slice_get-get_or}
 use Rattle.std.proofs.lemmas.Slice.Eq.{bytes_eq-Decides}
 use Rattle.std.proofs.lemmas.Map.Text.{is_eq-slice_cmp}
 use Rattle.std.specs.List.Sorted.{IsPartitionPoint, IsPartitionedBy, IsPermutation, IsSortedBy}
@@ -29,49 +30,18 @@ get-map f [] n = refl
 get-map f (x ∷ xs) zero = refl
 get-map f (x ∷ xs) (suc n) = get-map f xs n
 
-pub get-low : {X : Type 0} (xs : List X) (n : ℕ) (d : X) → n < length xs → slice_get xs n ≡ Some (get_or xs n d)
-get-low [] n d low = absurd (omega arith)
-get-low (x ∷ xs) zero d low = refl
-get-low (x ∷ xs) (suc n) d low = get-low xs n d (omega arith)
-
-pub get-high : {X : Type 0} (xs : List X) (n : ℕ) → length xs ≤ n → slice_get xs n ≡ None
-get-high [] n high = refl
-get-high (x ∷ xs) zero high = absurd (omega arith)
-get-high (x ∷ xs) (suc n) high = get-high xs n (omega arith)
-
--- the last of a list
-contains_last : (keys : List PathKey) (key : PathKey) → Contains (keys ++ key ∷ []) key
-contains_last [] key = (0, lit< tt, refl)
-contains_last (k ∷ keys) key =
-    let behind = contains_last keys key in (suc behind.0, omega arith, behind.2)
-
 -- ---- listing
 
 pub listed_at : (changes : List NodeChange) (place : ℕ) (d : NodeChange) → place < length changes
     → slice_get (map listed_of changes) place ≡ Some (listed_of (get_or changes place d))
-listed_at changes place d low = get-map listed_of changes place ∙ ap (option_map listed_of) (get-low changes place d low)
+listed_at changes place d low = get-map listed_of changes place ∙ ap (option_map listed_of) (slice_get-get_or changes place d low)
 
 pub listed_there : (listed : List Listed) (place : ℕ) → place < length listed → (l : Listed) × (slice_get listed place ≡ Some l)
 listed_there [] place low = absurd (omega arith)
 listed_there (l ∷ listed) zero low = (l, refl)
 listed_there (l ∷ listed) (suc place) low = listed_there listed place (omega arith)
 
-abbrev pub key_at : Listed → ℕ → PathKey
-key_at l place = (l.path, place)
-
--- a place with an element is below the length
-inside_of : (listed : List Listed) (place : ℕ) (l : Listed) → slice_get listed place ≡ Some l → place < length listed
-inside_of [] place l at = absurd (let bad : None ≡ Some l = at in cc)
-inside_of (x ∷ listed) zero l at = omega arith
-inside_of (x ∷ listed) (suc place) l at = let low = inside_of listed place l at in omega arith
-
 -- ---- places
-
-pub places_none : AreFirstPlaces 0 []
-places_none = record {
-  has = λ place low. absurd (omega arith);
-  only = λ place some. absurd (let few = some.1 in omega arith);
-}
 
 pub places_more : (count : ℕ) (places : List ℕ) → AreFirstPlaces count places → AreFirstPlaces (count + 1) (places ++ count ∷ [])
 places_more count places are = record {
@@ -137,7 +107,7 @@ all_keys listed places are = record {
         → Contains (keys_in listed places) (path, place)
     here path place None at is = absurd (let bad : false ≡ true = is in cc)
     here path place (Some l) at is =
-        let low : place < length listed = inside_of listed place l at in
+        let low : place < length listed = slice_get_within listed place l at in
         let text : l.path ≡ path = (bytes_eq-Decides l.path path).0 is in
         subst (λ (text : List ℕ). Contains (keys_in listed places) (text, place)) (ap path_there at ∙ text)
         (in_keys place (are.has place low))
@@ -281,19 +251,6 @@ module _ (listed : List Listed) (keys : List ℕ) (up : IsSortedKeys listed keys
         (λ place above low. false_from_ne_true (test place) (λ is.
         let bad : true ≡ false = sym (before_later path key place above)
         ∙ ap (λ k. is_key_before k (path, place)) (sym its) ∙ not_before place low is in absurd (cc)))
-
--- keys in another order
-pub keys_moved : (effect : Effect) (listed : List Listed) (keys moved : List ℕ) → IsPermutation keys moved
-    → HasKeys effect listed (keys_in listed keys) → HasKeys effect listed (keys_in listed moved)
-keys_moved effect listed keys moved others all =
-    let both : IsPermutation (keys_in listed keys) (keys_in listed moved) = IsPermutation-map (key_in listed) keys moved others in
-    let back : IsPermutation (keys_in listed moved) (keys_in listed keys) = IsPermutation-sym (keys_in listed keys) (keys_in listed moved) both in
-    record {
-      has = λ path place is.
-          Contains-permutation (keys_in listed keys) (keys_in listed moved) (path, place) both (all.has path place is);
-      only = λ path place some.
-          all.only path place (Contains-permutation (keys_in listed moved) (keys_in listed keys) (path, place) back some);
-    }
 
 -- the places of all keys whose changes have an effect
 module _ (effect : Effect) (listed : List Listed) where

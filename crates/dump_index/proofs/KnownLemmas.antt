@@ -1,6 +1,7 @@
 -- What exists at a path is what the latest change left there, and what a change leaves at its own path and at shorter
 -- ones.
 use Rattle.std.proofs.Common.{◌≡◌, ℕ, zero, suc, ◌<◌, ◌≤◌, Bool, true, false, not, ◌&&◌, ◌||◌, cond, List, [], ◌∷◌, ◌++◌, length, map, get_or, Option, Some, None, is_some, option_map, nat_eq, nat_lt, bytes_eq, append-nil, refl, sym, subst, ap, ap₂, ◌∙◌, ◌⊎◌, arith, inl, inr}
+use Rattle.std.proofs.lemmas.Option.{slice_get-get_or}
 use Rattle.std.specs.Prelude.{slice_get}
 use Rattle.std.proofs.lemmas.Bool.{cases_lt, and_parts}
 use Rattle.std.proofs.lemmas.List.{length-map}
@@ -24,7 +25,7 @@ use Rattle.dump_index.specs.steps.Keys.{has_effect, has_effect_at, latest_place,
 use Rattle.dump_index.specs.steps.Touching.{goes_on, stands_over, shapes, later}
 use Rattle.dump_index.specs.steps.Looks.{kind_with_text, came, is_since}
 use Rattle.dump_index.specs.steps.KnownKinds.{AreKindsBehind, count_through, source_look, left_kind, made_kind}
-use Rattle.dump_index.proofs.KeyLemmas.{listed_at, get-low}
+use Rattle.dump_index.proofs.KeyLemmas.{listed_at}
 use Rattle.dump_index.proofs.OrderLemmas.{all_look_back, from_before_at}
 use Rattle.dump_index.proofs.PlaceLemmas.{latest_low}
 use Rattle.dump_index.proofs.RestLemmas.{rest_same}
@@ -238,7 +239,7 @@ module _ (changes : List NodeChange) (ordered : are_in_order 0 changes ≡ true)
         → (kind : Option NodeKind) → kind ≡ get_or known n kind → (path : List ℕ) → bytes_eq c.path.now path ≡ true
         → kind ≡ kind_look listed (suc n) (names_of path)
     known_in known behind less kind is path same =
-        behind n kind (listed_of c) (get-low known n kind less ∙ ap (λ (k : Option NodeKind). Some k) (sym is)) stands_in
+        behind n kind (listed_of c) (slice_get-get_or known n kind less ∙ ap (λ (k : Option NodeKind). Some k) (sym is)) stands_in
         ∙ ap (λ (text : List ℕ). kind_look listed (suc n) (names_of text)) ((bytes_eq-Decides c.path.now path).0 same)
 
     pub left_in : (kind source : Option NodeKind) → kind ≡ kind_look listed n (names_of c.path.now)

@@ -1,5 +1,6 @@
 -- The origin of what exists at a path after a change that decides it.
 use Rattle.std.proofs.Common.{◌≡◌, ℕ, ◌<◌, ◌≤◌, Bool, true, false, not, ◌&&◌, ◌||◌, List, [], ◌∷◌, ◌++◌, length, map, get_or, Bor, Option, Some, None, is_some, option_map, bytes_eq, nat_lt, refl, sym, ap, ap₂, ◌∙◌, ◌≢◌, arith, inl, inr}
+use Rattle.std.proofs.lemmas.Option.{slice_get_past}
 use Rattle.std.specs.Prelude.{slice_get}
 use Rattle.std.proofs.lemmas.Bool.{cases_lt, and_parts, not-true}
 use Rattle.std.proofs.lemmas.List.{length-map}
@@ -22,7 +23,7 @@ use Rattle.dump_index.specs.declared.origin.Origin.TheVariants.{Nowhere, New, Co
 use Rattle.dump_index.specs.steps.Keys.{has_effect, has_effect_there, has_effect_at, latest_place}
 use Rattle.dump_index.specs.steps.Touching.{stands_over, moves_there, shapes, rest_text, joined_text}
 use Rattle.dump_index.specs.steps.Looks.{came_rest, came_there, came, origin_kind, made_as, makes_none, IsMadeBy, GoesBack, kind_with_text, is_since}
-use Rattle.dump_index.proofs.KeyLemmas.{listed_at, get-high, get-map}
+use Rattle.dump_index.proofs.KeyLemmas.{listed_at, get-map}
 use Rattle.dump_index.proofs.KindLemmas.{with_both}
 use Rattle.dump_index.proofs.RestLemmas.{split, split_some, rest_same, rest_over}
 use Rattle.dump_index.proofs.SlashLemmas.{ends_rest, ends_joined, rest_some, rest_none_same}
@@ -105,7 +106,7 @@ in_range changes path place is =
       | inr high ↦
           let far : length (map listed_of changes) ≤ place = omega (arith, length-map changes listed_of) in
           absurd (let bad : false ≡ true
-          = sym (ap (λ o. has_effect_there Shaping path o || moves_there (stands_over path) o) (get-high (map listed_of changes) place far))
+          = sym (ap (λ o. has_effect_there Shaping path o || moves_there (stands_over path) o) (slice_get_past (map listed_of changes) place far))
           ∙ is in cc)
     ]
 

@@ -1,5 +1,6 @@
 -- One step of a trail, from the change that comes last.
 use Rattle.std.proofs.Common.{◌≡◌, ℕ, ◌<◌, ◌≤◌, Bool, true, false, ◌||◌, List, ◌++◌, length, map, get_or, Bor, Option, Some, None, option_map, refl, sym, ap, subst, ◌∙◌, arith, inl, inr}
+use Rattle.std.proofs.lemmas.Option.{slice_get_past}
 use Rattle.std.specs.Prelude.{slice_get, option_to_list}
 use Rattle.std.proofs.lemmas.Bool.{cases_lt}
 use Rattle.std.proofs.lemmas.List.{length-map}
@@ -25,7 +26,7 @@ use Rattle.dump_index.specs.steps.Keys.{has_effect_there, has_effect_at, latest_
 use Rattle.dump_index.specs.steps.Touching.{shapes, joined_text, rest_text}
 use Rattle.dump_index.specs.steps.Looks.{makes_none, made_as, IsMadeBy}
 use Rattle.dump_index.specs.steps.Trails.{TrailGoesOn, IsTrailStep}
-use Rattle.dump_index.proofs.KeyLemmas.{listed_at, get-high}
+use Rattle.dump_index.proofs.KeyLemmas.{listed_at}
 use Rattle.dump_index.proofs.PlaceLemmas.{latest_low, latest_same}
 use Rattle.dump_index.proofs.SlashLemmas.{names_joined}
 use Rattle.dump_index.proofs.OriginLemmas.{rest_is, origin_back}
@@ -56,7 +57,7 @@ sets_in_range changes part path place is =
       | inr high ↦
           let far : length (map listed_of changes) ≤ place = omega (arith, length-map changes listed_of) in
           absurd (let bad : false ≡ true
-          = sym (ap (sets_there part path) (get-high (map listed_of changes) place far)) ∙ is in cc)
+          = sym (ap (sets_there part path) (slice_get_past (map listed_of changes) place far)) ∙ is in cc)
     ]
 
 none_copied : (made : Option NodeMade) (rest : List ℕ) → makes_none made rest ≡ true

@@ -1,10 +1,11 @@
 use Rattle.std.proofs.Common.{◌≡◌, List, ℕ, Some, option_map, length, map, refl, sym, ap, subst, ◌∙◌, arith}
+use Rattle.std.proofs.lemmas.Option.{slice_get-get_or}
 use Rattle.std.specs.Prelude.{slice_get}
 use Rattle.std.proofs.lemmas.List.{length-map}
 use Rattle.dump_index.specs.Listed.{Listed, listed_of}
 use Rattle.dump_index.specs.steps.Keys.{PathKey, key_in, keys_in, IsSortedKeys}
 use Rattle.dump_index.specs.steps.Below.{AreFrom, NoneBelow}
-use Rattle.dump_index.proofs.KeyLemmas.{get-map, get-low}
+use Rattle.dump_index.proofs.KeyLemmas.{get-map}
 use Rattle.dump_index.proofs.WalkLemmas.{get_inside, RisePaths, paths_rise, all_outside, none_itself, goes_on, none_further}
 use Rattle.dump_index.proofs.order.PathOrder.next_child.Goals as goal
 use Rattle.dump_index.proofs.order.PathOrder.next_child.Goals.{After-stand_below}
@@ -29,7 +30,7 @@ there c =
     let lookup = c.in-Some.ensures.lookup in
     get-map (key_in (all c)) places c.loop-place.at
     ∙ ap (option_map (key_in (all c)))
-    (get-low places c.loop-place.at c.in-Some.place.now lookup.3.0 ∙ ap (λ place. Some place) (sym lookup.1))
+    (slice_get-get_or places c.loop-place.at c.in-Some.place.now lookup.3.0 ∙ ap (λ place. Some place) (sym lookup.1))
     ∙ ap (λ (text : List ℕ). Some (text, c.in-Some.place.now)) (sym c.path_at-path.ensures)
 
 pub returns-in-Outside : goal.returns-in-Outside
