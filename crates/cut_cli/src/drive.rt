@@ -12,11 +12,11 @@ ghost use Rattle.cut_cli.specs.steps.Ended.{FailsFirst, TellsAfter};
 use crate::examine::{Obstacle, Ready, examine};
 use crate::expansion::Expansion;
 use crate::faults::write_fault;
-use crate::lines::write_report;
 use crate::map::{begin_map, end_map};
 use crate::memory::run_in_memory;
 use crate::mistakes::{Mistake, write_mistake, write_no_file};
 use crate::spot::first_revision;
+use crate::summary::write_report;
 use crate::texts::info_text;
 use crate::words::{Call, call_of, with_targets};
 use cli_support::{

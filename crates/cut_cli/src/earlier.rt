@@ -7,8 +7,8 @@ ghost use Rattle.dump_cut.specs.steps.ExcludedPaths.{paths_of};
 ghost use Rattle.cut_cli.specs.Cuts.{BeginsAsBefore, CutsOtherwise, DiffersBefore};
 ghost use Rattle.cut_cli.specs.Words.{cut_meaning};
 
+use crate::copy_lines::write_differences;
 use crate::examine::ask_paths;
-use crate::lines::write_differences;
 use crate::words::Call;
 use dump_changes::Memory;
 use dump_cut::{Excluded, cut_differences, first_part};

@@ -13,16 +13,16 @@ ghost use Rattle.cut_cli.specs.Cuts.{AreNamed, BeginsAsBefore, BringsSomeBack, F
 ghost use Rattle.cut_cli.specs.Words.{cut_meaning};
 ghost use Rattle.cut_cli.specs.steps.Examined.{AreDeletesIfAny, IsExamined, IsExpandedToCut, IsFrontOf, IsPrepared, LacksPart, expansion_text};
 
+use crate::copy_lines::{write_advice, write_deletes, write_odd_delete, write_places};
 use crate::earlier::cuts_otherwise;
 use crate::expansion::{Expansion, front_to_cut, returns_of, with_additions};
 use crate::faults::{write_no_part, write_not_added, write_refused, write_unread};
-use crate::lines::{
-    Counts, write_advice, write_deletes, write_odd_delete, write_places, write_siblings,
-};
+use crate::lines::write_siblings;
 use crate::own_lives::report_additions;
 use crate::parents::report_parents;
 use crate::prefixes::report_prefixes;
 use crate::read::{Front, Unread, read_front};
+use crate::summary::Counts;
 use crate::words::Call;
 use crate::written::{count_earlier, list_returns, report_replaced, report_written};
 use dump_additions::NotAdded;

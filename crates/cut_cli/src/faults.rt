@@ -1,5 +1,6 @@
 //! The lines for faults that stop the program.
-use crate::lines::{write_path, write_source};
+use crate::copy_lines::write_source;
+use crate::lines::write_path;
 use crate::read::Unread;
 use crate::spot::{Spot, first_revision, spot_of};
 use dump_additions::{NotAdded, Reason};

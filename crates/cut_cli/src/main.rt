@@ -2,6 +2,7 @@
 #![tactic(auto)]
 
 mod command;
+mod copy_lines;
 mod drive;
 mod earlier;
 mod examine;
@@ -17,6 +18,7 @@ mod prefixes;
 mod read;
 mod sizes;
 mod spot;
+mod summary;
 mod texts;
 mod words;
 mod written;

@@ -1,5 +1,5 @@
 //! Paths to which copies are followed, and whether the excluded ones among them ever had other content.
-use crate::lines::{write_additions, write_own_life};
+use crate::copy_lines::{write_additions, write_own_life};
 use crate::words::Call;
 use dump_changes::Memory;
 use dump_cut::{Addition, Excluded};

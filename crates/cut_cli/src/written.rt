@@ -3,11 +3,12 @@ ghost use Rattle.std.specs.Prelude.{IsTrue, ◌≤◌, length};
 ghost use Rattle.std.specs.List.{list_all};
 ghost use Rattle.dump_cut.specs.NamedPaths.{has_named_paths};
 
+use crate::copy_lines::{
+    write_kept, write_replaced, write_returns, write_written, write_written_parents,
+};
 use crate::examine::Asked;
 use crate::expansion::Expansion;
-use crate::lines::{
-    shown, write_kept, write_replaced, write_returns, write_written, write_written_parents,
-};
+use crate::lines::shown;
 use crate::prefixes::is_at_or_below;
 use crate::sizes::sizes_of;
 use crate::words::Call;
