@@ -26,7 +26,7 @@ use Rattle.dump_trees.specs.CanonicalPaths.{canonical_path}
 use Rattle.dump_trees.specs.Returns.{is_covered}
 use Rattle.dump_trees.specs.Siblings.{ExcludesPaths, have_node_names, is_in_cut, is_sibling}
 use Rattle.dump_trees.proofs.cuts.CoveredPaths.{contains_cases, contains_first, contains_none}
-use Rattle.dump_trees.proofs.cuts.ParentLemmas.{ever_kept_in_cut}
+use Rattle.dump_trees.proofs.cuts.EverKept.{ever_kept_in_cut}
 use Rattle.dump_trees.proofs.paths.CutLineLemmas.{named_line_stays}
 use Rattle.dump_trees.specs.Trees.{Tree, root_alone}
 use Rattle.dump_trees.proofs.cuts.FollowLemmas.{following_is_least}

@@ -11,7 +11,7 @@ use Rattle.dump_records.specs.DumpText.{Ending}
 use Rattle.dump_records.specs.RecordText.{DumpRecord}
 use Rattle.dump_trees.specs.CanonicalPaths.{canonical_path}
 use Rattle.dump_trees.specs.Changes.{Change}
-use Rattle.dump_trees.specs.FollowedParents.{AreEverSiblings}
+use Rattle.dump_trees.specs.EverSiblings.{AreEverSiblings}
 use Rattle.dump_trees.specs.Following.{ExistsOnce}
 use Rattle.dump_trees.specs.Looking.{Placed, end_of, placed_from}
 use Rattle.dump_trees.specs.Paths.{NodePath}

@@ -2,7 +2,7 @@
 use Rattle.std.specs.Prelude.{◌∷◌, [], ◌++◌, List, Contains, IsTrue, ℕ, map}
 use Rattle.std.specs.List.{list_all}
 use Rattle.dump_trees.specs.Changes.{Change}
-use Rattle.dump_trees.specs.FollowedParents.{AreEverSiblings}
+use Rattle.dump_trees.specs.EverSiblings.{AreEverSiblings}
 use Rattle.dump_trees.specs.Looking.{placed_from}
 use Rattle.dump_trees.specs.Paths.{NodePath}
 use Rattle.dump_trees.specs.Siblings.{is_above_included, is_sibling}

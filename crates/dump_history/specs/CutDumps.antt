@@ -17,7 +17,6 @@ use Rattle.dump_trees.specs.Paths.{keeps}
 use Rattle.dump_trees.specs.Trees.{Tree, root_alone}
 use Rattle.dump_trees.specs.Changes.{Change}
 use Rattle.dump_trees.specs.Restriction.{is_lost, IsRestricted}
-use Rattle.dump_trees.specs.Siblings.{HasNames}
 use Rattle.dump_trees.specs.Expansions.{AllRevisionsExpand}
 use Rattle.dump_history.specs.RecordChanges.{Patching}
 use Rattle.dump_history.specs.DumpChanges.{MakeRevisions, HaveRevisionProperties, LoadsAs}
@@ -100,12 +99,6 @@ ExcludedDumpLoadsNumbered = (patched : Patching) (settings : Settings) (dump fil
     FiltersExpansion patched settings dump records revisions trees again filtered
     → settings.side ≡ Exclude → settings.empty ≡ Pad → settings.preserve ≡ true
     → LoadsNumbered patched (TreeRestricts settings again) records trees filtered
-
--- the names in the paths of a dump that loads are names of nodes, so they are in its trees
-abbrev pub LoadedDumpsHaveNames : Type 0
-LoadedDumpsHaveNames = (patched : Patching) (records : List DumpRecord) (revisions : List (List Change))
-    (trees : List Tree) (number : ℕ) (tree : Tree) →
-    LoadsAs patched root_alone records revisions trees → slice_get trees number ≡ Some tree → HasNames tree
 
 -- whether the change's path is kept, and so is its source, if it makes a copy
 abbrev pub tells_kept_paths : Settings → Change → Bool

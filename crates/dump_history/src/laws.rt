@@ -1,5 +1,5 @@
 //! Laws of dumps and of the repositories that they make; each is the contract of a function that does nothing.
-ghost use Rattle.dump_history.specs.CutDumps.{ExcludedDumpLoads, ExcludedDumpLoadsNumbered, FilteredDumpsTellKeptPaths, LoadedDumpsHaveNames, NumbersAreKept};
+ghost use Rattle.dump_history.specs.CutDumps.{ExcludedDumpLoads, ExcludedDumpLoadsNumbered, FilteredDumpsTellKeptPaths, NumbersAreKept};
 ghost use Rattle.dump_history.specs.DumpLaws.{DumpLoadsOnce, DumpLoadsTheSameBehindOthers, FilteredDumpRestricts, FilteredDumpRestrictsBehindFolders, NoGapIsNeeded, PlainRevisionsStay, FilteredDumpFrontRestricts, QuietDumpRestricts, QuietDumpRestrictsBehindFolders, QuietDumpFrontRestricts};
 ghost use Rattle.dump_history.specs.ExpandedDumps.{ExpandedDumpLoads, FilteredExpansionRestricts, FilteredExpansionRestrictsBehindFolders, NoSourceIsMissed};
 ghost use Rattle.dump_history.specs.ExpandedText.{ExpansionsAreDumps, FilteredTextsRestrict, NoSourceIsMissedInText};
@@ -105,7 +105,6 @@ pub fn written_copies_replace()
 /// or drops no revision, and has the restricted trees. The only condition on the dump is that it loads.
 pub fn each_excluded_dump_loads()
     ensures numbers { NumbersAreKept }
-    ensures names { LoadedDumpsHaveNames }
     ensures excluded { ExcludedDumpLoads }
     ensures excluded_numbered { ExcludedDumpLoadsNumbered }
 {}

@@ -14,12 +14,12 @@ pub use Rattle.dump_rules.specs.Renumbering.{KeptRevisions, image, new_number}
 pub use Rattle.dump_rules.specs.Settings.{Settings, keeps_path, side_keeps}
 pub use Rattle.dump_text.specs.PropertyList.{Property}
 pub use Rattle.dump_trees.specs.Changes.{Change, History, Made, PropertyChange, TextChange, copied, deleted, edited_with, has_folder, is_copied, is_folder_at, made_in, new_props, new_text, node_put, props_put, props_set, step, steps, text_set, with_entry, with_props, with_text}
-pub use Rattle.dump_trees.specs.FrontLaws.{BegunImagesStay, BegunTreesStay, EachFrontRestricts, EachQuietFrontRestricts, EachQuietLoadsRestrict, FrontLoads, FrontRestricts, QuietFrontRestricts, QuietLoadsRestrict}
+pub use Rattle.dump_trees.specs.FrontLaws.{BegunTreesStay, EachFrontRestricts, FrontLoads, FrontRestricts}
 pub use Rattle.dump_trees.specs.HistoryLaws.{EachHistoryRestricts, EachRevisionRestricts, HistoryRestricts, ImagesRestrict}
 pub use Rattle.dump_trees.specs.MovedLaws.{AllAreAlike, AreAlike, AreRevisionsBehind, EachLoadsAlike, IsChangeBehind, LoadsAlike, LoadsBehindOthers, change_behind, made_behind, revisions_behind}
 pub use Rattle.dump_trees.specs.PathLaws.{KeepsAsTextDoes, TextsAreRead}
 pub use Rattle.dump_trees.specs.Paths.{NodePath, below, is_name, is_short, keeps, names_of, parent_of, path_of, path_text}
-pub use Rattle.dump_trees.specs.Quiet.{AllQuietSeparate, EachQuietHistoryRestricts, QuietHistoryRestricts, QuietSeparates, are_quiet, cuts_alike, cuts_one, holds_of_some, is_over, is_quiet, is_quiet_dropped, is_quiet_kept, none_is_over, nowhere_is_over, rest_of_prefix}
+pub use Rattle.dump_trees.specs.Quiet.{AllQuietSeparate, QuietSeparates, are_quiet, cuts_alike, cuts_one, holds_of_some, is_over, is_quiet, is_quiet_dropped, is_quiet_kept, none_is_over, nowhere_is_over, rest_of_prefix}
 pub use Rattle.dump_trees.specs.Restriction.{AreNewProps, IsNewChange, IsNewMade, IsNewNode, IsRestricted, KeepsEntries, NewNumber, NewProperty, edits_props, filtered_made, filtered_props, given, is_above, is_above_some, is_given, is_lost, is_root, sets_whole, sets_whole_text}
 pub use Rattle.dump_trees.specs.Revisions.{AllRevisionsSeparate, AllSeparate, AreFiltered, AreNewChanges, AreNewRevisions, EmptyRule, IsWrittenNumber, keeps_revision, kept_from, kept_of, loaded, loaded_over, names_kept, names_none, names_none_behind, stays_numbered}
 pub use Rattle.dump_trees.specs.Separation.{CopySeparates, LeavesKept, PlainSeparates, Separates, has_no_props}

@@ -6,9 +6,8 @@ pub mod CoveredPaths
 pub mod ReturnLemmas
 pub mod FollowLemmas
 pub mod PlainLooks
-pub mod ParentLemmas
+pub mod EverKept
 pub mod DeleteLemmas
 pub mod PlacedCopies
 pub mod EverSiblings
-pub mod NamedSiblings
 pub mod RestLemmas

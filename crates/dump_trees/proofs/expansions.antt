@@ -18,5 +18,4 @@ pub mod BackFound
 pub mod StayingLemmas
 pub mod TrimLemmas
 pub mod TrimmedHistories
-pub mod TrimmedForms
 pub mod TrimmedNumbers

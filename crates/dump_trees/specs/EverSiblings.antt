@@ -1,16 +1,33 @@
--- Siblings of every tree, also of those within revisions: how they are found without building trees.
+-- Siblings of every tree, also of those within revisions: what they are, and how they are found without building trees.
 use Rattle.std.specs.Prelude.{◌≡◌, ℕ, ◌≤◌, Bool, ◌||◌, List, [], ◌∷◌, ◌++◌, length, Some, is_some, bytes_eq, Contains, IsTrue}
 use Rattle.std.specs.List.{list_all, list_any}
-use Rattle.dump_trees.specs.Paths.{NodePath}
+use Rattle.dump_rules.specs.Settings.{Settings}
+use Rattle.dump_trees.specs.Paths.{NodePath, keeps}
 use Rattle.dump_trees.specs.Trees.{Tree, root_alone}
 use Rattle.dump_trees.specs.Changes.{Made, Change}
 use Rattle.dump_trees.specs.Revisions.{loaded_over}
 use Rattle.dump_trees.specs.Looking.{placed_from, look}
 use Rattle.dump_trees.specs.Listing.{names_look}
 use Rattle.dump_trees.specs.LoadCheck.{sets_props}
-use Rattle.dump_trees.specs.Siblings.{is_above_included, is_sibling}
+use Rattle.dump_trees.specs.Siblings.{is_above_included, is_sibling, is_in_cut, have_node_names, AreSiblings, ExcludesPaths}
 use Rattle.dump_trees.specs.Following.{ExistsOnce}
-use Rattle.dump_trees.specs.FollowedParents.{AreEverSiblings}
+
+-- what they are
+
+-- these are siblings, and each sibling at which something exists after some of the changes is among them
+abbrev pub AreEverSiblings : List NodePath → List (List Change) → List NodePath → Type 0
+AreEverSiblings included revisions siblings = (front : List (List Change)) (changes more : List Change)
+    (rest : List (List Change)) (trees : List Tree) →
+    revisions ≡ front ++ (changes ++ more) ∷ rest → loaded_over root_alone (front ++ changes ∷ []) ≡ Some trees
+    → AreSiblings included trees siblings
+
+-- if they are excluded, a path at which something ever exists is kept exactly if it is in the cut
+abbrev pub EverKeptInCut : Type 0
+EverKeptInCut = (settings : Settings) (included siblings : List NodePath) (revisions : List (List Change))
+    (path : NodePath) →
+    IsTrue (have_node_names revisions) → ExcludesPaths settings siblings
+    → AreEverSiblings included revisions siblings → ExistsOnce revisions path
+    → keeps settings path ≡ is_in_cut included path
 
 -- finding them
 

@@ -1,14 +1,9 @@
 -- Expanded forms: changes that are replaced by others that together have the same effect, each of which is separated.
-use Rattle.std.specs.Prelude.{◌≡◌, List, [], ◌∷◌, ◌++◌, length, Some, slice_get, IsTrue}
-use Rattle.dump_text.specs.PropertyList.{Property}
+use Rattle.std.specs.Prelude.{◌≡◌, List, [], ◌∷◌, ◌++◌, Some, slice_get}
 use Rattle.dump_rules.specs.Settings.{Settings}
-use Rattle.dump_rules.specs.Renumbering.{image}
-use Rattle.dump_trees.specs.Trees.{Tree, root_alone}
+use Rattle.dump_trees.specs.Trees.{Tree}
 use Rattle.dump_trees.specs.Changes.{Change, History, step, steps}
-use Rattle.dump_trees.specs.Restriction.{given, NewProperty, KeepsEntries}
-use Rattle.dump_trees.specs.StepLaws.{IsMade}
-use Rattle.dump_trees.specs.Revisions.{loaded, loaded_over, EmptyRule, stays_numbered, kept_of, AreFiltered, AllRevisionsSeparate}
-use Rattle.dump_trees.specs.HistoryLaws.{ImagesRestrict}
+use Rattle.dump_trees.specs.Revisions.{loaded, AllRevisionsSeparate}
 use Rattle.dump_trees.specs.Leading.{Leads}
 
 -- the changes are an expansion of the change: if it leads from this tree to another, they do too, and each of them is
@@ -53,21 +48,3 @@ ExpandedLoad = (settings : Settings) (older : List Tree) (youngest : Tree) (revi
     (trees : List Tree) →
     loaded older youngest revisions ≡ Some trees → AllRevisionsExpand settings older youngest revisions expanded
     → (loaded older youngest expanded ≡ Some trees) × AllRevisionsSeparate settings older youngest expanded
-
--- what the filter writes for the expanded revisions of a dump, loaded over the given directories, has the restricted
--- trees of the dump. No change of the dump itself needs to be separated
-abbrev pub ExpandedHistoryRestricts : Settings → NewProperty → Type 0
-ExpandedHistoryRestricts settings IsNew = (rule : EmptyRule) (revisions expanded written : List (List Change))
-    (trees : List Tree) →
-    IsTrue (stays_numbered settings rule expanded)
-    → loaded_over root_alone revisions ≡ Some trees
-    → AllRevisionsExpand settings (root_alone ∷ []) root_alone revisions expanded
-    → AreFiltered settings IsNew rule expanded written
-    → (others : List Tree) × (loaded_over (given settings) written ≡ Some others)
-    × (length others ≡ length (kept_of settings rule expanded).numbers)
-    × ImagesRestrict settings IsNew (image (kept_of settings rule expanded)) trees others
-
--- this holds for each way to make new properties that keeps entries
-abbrev pub EachExpandedHistoryRestricts : Type 0
-EachExpandedHistoryRestricts = (settings : Settings) (make : Property → Property) →
-    KeepsEntries (IsMade make) → ExpandedHistoryRestricts settings (IsMade make)

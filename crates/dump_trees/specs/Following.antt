@@ -1,6 +1,6 @@
 -- Following copies: the least set of paths that has the given ones, the paths below its members, and the paths to which
 -- copies take its members. For included paths it has instead the sources from which its members are copied.
-use Rattle.std.specs.Prelude.{◌≡◌, ℕ, ◌+◌, ◌≤◌, not, ◌&&◌, ◌||◌, List, [], ◌∷◌, ◌++◌, length, filter, Some, is_some, slice_get, count_by, Contains, IsTrue, IsFalse}
+use Rattle.std.specs.Prelude.{◌≡◌, ℕ, not, ◌&&◌, ◌||◌, List, [], ◌∷◌, ◌++◌, length, filter, Some, is_some, slice_get, Contains, IsTrue, IsFalse}
 use Rattle.std.specs.List.{list_all}
 use Rattle.dump_rules.specs.Settings.{Settings}
 use Rattle.dump_trees.specs.Paths.{NodePath}
@@ -144,19 +144,6 @@ pub record ExistsOnce (revisions : List (List Change)) (path : NodePath) : Type 
   pub loads : loaded_over root_alone (front ++ changes ∷ []) ≡ Some trees
   pub last : slice_get trees (length (front ++ changes ∷ [])) ≡ Some tree
   pub exists : IsTrue (is_some (tree path))
-
--- how many of these paths aren't covered
-abbrev pub left_uncovered : List NodePath → List NodePath → ℕ
-left_uncovered ever tops = count_by (λ path. not (is_covered tops path)) ever
-
--- each addition covers at least one more of the paths at which something ever exists. So there are no more additions
--- than such paths
-abbrev pub FollowingEnds : Type 0
-FollowingEnds = (way : Way) (trees : List Tree) (revisions : List (List Change)) (ever tops additions last : List NodePath) →
-    loaded_over root_alone revisions ≡ Some trees
-    → ((path : NodePath) → ExistsOnce revisions path → Contains ever path)
-    → AreFollowed way trees revisions tops additions last
-    → length additions + left_uncovered ever last ≤ left_uncovered ever tops
 
 -- once a pass adds nothing, what the last paths cover is closed, and it is the least closed set that has the first ones
 abbrev pub FollowingIsLeast : Type 0

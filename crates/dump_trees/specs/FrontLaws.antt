@@ -1,6 +1,6 @@
 -- The laws of the first revisions of a dump: they hold whatever changes the revisions after them make, even if one of
 -- these is rejected or isn't separated.
-use Rattle.std.specs.Prelude.{◌≡◌, ℕ, suc, ◌≤◌, List, [], ◌∷◌, ◌++◌, length, take, Some, IsTrue}
+use Rattle.std.specs.Prelude.{◌≡◌, List, [], ◌∷◌, ◌++◌, length, Some, IsTrue}
 use Rattle.dump_text.specs.PropertyList.{Property}
 use Rattle.dump_rules.specs.Settings.{Settings}
 use Rattle.dump_rules.specs.Renumbering.{KeptRevisions, image}
@@ -10,7 +10,6 @@ use Rattle.dump_trees.specs.Restriction.{given, NewProperty, KeepsEntries}
 use Rattle.dump_trees.specs.StepLaws.{IsMade}
 use Rattle.dump_trees.specs.Revisions.{loaded_over, EmptyRule, stays_numbered, AreNewRevisions, kept_of, IsWrittenNumber, AreFiltered, AllRevisionsSeparate}
 use Rattle.dump_trees.specs.HistoryLaws.{ImagesRestrict}
-use Rattle.dump_trees.specs.Quiet.{are_quiet, nowhere_is_over}
 
 -- what is written begins with what is written for the first revisions. This part, loaded over the given directories,
 -- has a revision for each kept one of them. The tree at the image of each of their numbers is the restricted tree. The
@@ -40,48 +39,8 @@ abbrev pub EachFrontRestricts : Type 0
 EachFrontRestricts = (settings : Settings) (make : Property → Property) →
     KeepsEntries (IsMade make) → FrontRestricts settings (IsMade make)
 
--- the same holds if the changes of the first revisions are quiet, and no lost copy in them is made over something
-abbrev pub QuietFrontRestricts : Settings → NewProperty → Type 0
-QuietFrontRestricts settings IsNew = (rule : EmptyRule) (front rest written : List (List Change)) (trees : List Tree) →
-    IsTrue (stays_numbered settings rule front)
-    → loaded_over root_alone front ≡ Some trees
-    → IsTrue (are_quiet settings front)
-    → IsTrue (nowhere_is_over settings (root_alone ∷ []) root_alone front)
-    → AreFiltered settings IsNew rule (front ++ rest) written
-    → FrontLoads settings IsNew rule (kept_of settings rule (front ++ rest)) front written trees
-
--- this holds for each way to make new properties that keeps entries
-abbrev pub EachQuietFrontRestricts : Type 0
-EachQuietFrontRestricts = (settings : Settings) (make : Property → Property) →
-    KeepsEntries (IsMade make) → QuietFrontRestricts settings (IsMade make)
-
--- both dumps load entirely, and the first revisions are quiet and make no lost copy over something. Then, up to the
--- last one of these, the tree at the image of each number is the restricted tree of the entire dump there
-abbrev pub QuietLoadsRestrict : Settings → NewProperty → Type 0
-QuietLoadsRestrict settings IsNew = (rule : EmptyRule) (front rest written : List (List Change))
-    (trees others : List Tree) →
-    IsTrue (stays_numbered settings rule front)
-    → loaded_over root_alone (front ++ rest) ≡ Some trees
-    → loaded_over (given settings) written ≡ Some others
-    → IsTrue (are_quiet settings front)
-    → IsTrue (nowhere_is_over settings (root_alone ∷ []) root_alone front)
-    → AreFiltered settings IsNew rule (front ++ rest) written
-    → ImagesRestrict settings IsNew (image (kept_of settings rule (front ++ rest)))
-    (take (suc (length front)) trees) others
-
--- this holds for each way to make new properties that keeps entries
-abbrev pub EachQuietLoadsRestrict : Type 0
-EachQuietLoadsRestrict = (settings : Settings) (make : Property → Property) →
-    KeepsEntries (IsMade make) → QuietLoadsRestrict settings (IsMade make)
-
 -- if more revisions load, the first ones do, and their trees come first
 abbrev pub BegunTreesStay : Type 0
 BegunTreesStay = (first : Tree) (front rest : List (List Change)) (all : List Tree) →
     loaded_over first (front ++ rest) ≡ Some all
     → (trees more : List Tree) × (loaded_over first front ≡ Some trees) × (all ≡ trees ++ more)
-
--- the image of a number of the first revisions is the same without the revisions after them
-abbrev pub BegunImagesStay : Type 0
-BegunImagesStay = (settings : Settings) (rule : EmptyRule) (front rest : List (List Change)) (number : ℕ) →
-    number ≤ length front
-    → image (kept_of settings rule (front ++ rest)) number ≡ image (kept_of settings rule front) number

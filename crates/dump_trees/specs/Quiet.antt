@@ -2,20 +2,16 @@
 -- tree. One thing isn't shown so: whether a copy of a path that isn't kept is made over something.
 use Rattle.std.specs.Prelude.{◌≡◌, ℕ, Bool, true, false, not, ◌&&◌, ◌||◌, List, [], ◌∷◌, ◌++◌, drop, length, Option, Some, None, is_some, slice_get, if◌then◌else◌, IsTrue}
 use Rattle.std.specs.List.{list_all}
-use Rattle.dump_text.specs.PropertyList.{Property}
 use Rattle.dump_rules.specs.declared.options.Side.{Side}
 use Rattle.dump_rules.specs.declared.options.Side.TheVariants.{Include, Exclude}
 use Rattle.dump_rules.specs.Prefix.{bare_prefix}
 use Rattle.dump_rules.specs.Settings.{Settings, keeps_path}
 use Rattle.dump_trees.specs.Paths.{NodePath, path_text, keeps}
-use Rattle.dump_rules.specs.Renumbering.{image}
-use Rattle.dump_trees.specs.Trees.{Tree, root_alone}
+use Rattle.dump_trees.specs.Trees.{Tree}
 use Rattle.dump_trees.specs.Changes.{Made, is_copied, PropertyChange, Change, History, step, steps}
-use Rattle.dump_trees.specs.Restriction.{is_above, is_above_some, is_lost, given, NewProperty, KeepsEntries}
+use Rattle.dump_trees.specs.Restriction.{is_above, is_above_some, is_lost}
 use Rattle.dump_trees.specs.Separation.{Separates}
-use Rattle.dump_trees.specs.Revisions.{loaded_over, EmptyRule, stays_numbered, kept_of, AreFiltered, AllRevisionsSeparate}
-use Rattle.dump_trees.specs.StepLaws.{IsMade}
-use Rattle.dump_trees.specs.HistoryLaws.{ImagesRestrict}
+use Rattle.dump_trees.specs.Revisions.{AllRevisionsSeparate}
 
 -- the text of a prefix that is below the path, without the path
 abbrev pub rest_of_prefix : NodePath → List ℕ → List ℕ
@@ -94,21 +90,3 @@ AllQuietSeparate = (settings : Settings) (trees : List Tree) (youngest : Tree) (
     IsTrue (are_quiet settings revisions)
     → IsTrue (nowhere_is_over settings trees youngest revisions)
     → AllRevisionsSeparate settings trees youngest revisions
-
--- so the filtered dump of quiet changes, in which no lost copy is made over something, has the restricted trees of the
--- entire dump
-abbrev pub QuietHistoryRestricts : Settings → NewProperty → Type 0
-QuietHistoryRestricts settings IsNew = (rule : EmptyRule) (revisions written : List (List Change)) (trees : List Tree)
-    → IsTrue (stays_numbered settings rule revisions)
-    → loaded_over root_alone revisions ≡ Some trees
-    → IsTrue (are_quiet settings revisions)
-    → IsTrue (nowhere_is_over settings (root_alone ∷ []) root_alone revisions)
-    → AreFiltered settings IsNew rule revisions written
-    → (others : List Tree) × (loaded_over (given settings) written ≡ Some others)
-    × (length others ≡ length (kept_of settings rule revisions).numbers)
-    × ImagesRestrict settings IsNew (image (kept_of settings rule revisions)) trees others
-
--- this holds for each way to make new properties that keeps entries
-abbrev pub EachQuietHistoryRestricts : Type 0
-EachQuietHistoryRestricts = (settings : Settings) (make : Property → Property) →
-    KeepsEntries (IsMade make) → QuietHistoryRestricts settings (IsMade make)

@@ -16,7 +16,7 @@ use Rattle.dump_trees.specs.HistoryLaws.{ImagesRestrict}
 use Rattle.dump_trees.specs.StepLaws.{AllHaveFolders, AreRestricted, IsMade, IsRenumbered}
 use Rattle.dump_trees.specs.ExpansionCases.{deletions, none_is_below}
 use Rattle.dump_trees.specs.Branches.{Branch, is_distinct, HasBranch}
-use Rattle.dump_trees.specs.ComingBack.{ComesBack, NothingComesBack, coming_back}
+use Rattle.dump_trees.specs.ComingBack.{ComesBack, coming_back}
 
 -- these rests cover what a copy of the source takes from kept paths to ones that aren't kept. At each something exists,
 -- and none of them is at or below one before it. Each rest that the copy takes so is at or below one of them
@@ -137,16 +137,6 @@ TrimmedHistoryRestricts settings IsNew = (revisions written : List (List Change)
 abbrev pub EachTrimmedHistoryRestricts : Type 0
 EachTrimmedHistoryRestricts = (settings : Settings) (make : Property → Property) →
     KeepsEntries (IsMade make) → TrimmedHistoryRestricts settings (IsMade make)
-
--- if prefixes are excluded, each history that loads, and in which nothing comes back, can be written so: nothing of it
--- has to be written as an addition
-abbrev pub EachHistoryTrims : Type 0
-EachHistoryTrims = (settings : Settings) (make : Property → Property) (revisions : List (List Change))
-    (trees : List Tree) →
-    settings.side ≡ Exclude
-    → loaded_over root_alone revisions ≡ Some trees → NothingComesBack settings trees revisions
-    → (written : List (List Change))
-    × AreTrimmedRevisions settings (IsMade make) (root_alone ∷ []) root_alone revisions written
 
 -- histories that are renumbered
 

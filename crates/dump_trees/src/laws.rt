@@ -1,16 +1,15 @@
 //! Laws of filtered dumps. Each is the contract of a function that does nothing.
 ghost use Rattle.dump_trees.specs.CanonicalPaths.{CanonicalPathsHaveNames, ShortPathsAreCanonical};
 ghost use Rattle.dump_trees.specs.ComingBack.{KeptChangesTellAll};
-ghost use Rattle.dump_trees.specs.CutLines.{MoreSiblingsCover, NamedLineStays, SiblingsOfAllSuffice, SiblingsOfNamedCover};
+ghost use Rattle.dump_trees.specs.CutLines.{NamedLineStays};
 ghost use Rattle.dump_trees.specs.DeletesBehind.{DeletesAreFound};
-ghost use Rattle.dump_trees.specs.EverSiblings.{ChangedPathsExist, CopiedPathsExist, EverSiblingsAreFound};
+ghost use Rattle.dump_trees.specs.EverSiblings.{ChangedPathsExist, CopiedPathsExist, EverKeptInCut, EverSiblingsAreFound};
 ghost use Rattle.dump_trees.specs.ExpansionCases.{ExcludedChangeStays, KeptCopyExpands, SeparatedExpands};
-ghost use Rattle.dump_trees.specs.Expansions.{EachExpandedHistoryRestricts, ExpandedLead, ExpandedLoad, SeparatedRevisionsExpand};
+ghost use Rattle.dump_trees.specs.Expansions.{ExpandedLead, ExpandedLoad, SeparatedRevisionsExpand};
 ghost use Rattle.dump_trees.specs.FindingSiblings.{AboveAreListed, SiblingsAreFound};
-ghost use Rattle.dump_trees.specs.FollowedParents.{EverKeptInCut, OnlyParentsComeBack, ParentsComeBack};
 ghost use Rattle.dump_trees.specs.FollowedRests.{AllRestsAreListed, NoneAtAnyPlace, NoReturnsBringNothing};
-ghost use Rattle.dump_trees.specs.Following.{CopiesArePlaced, EachCopyIsOver, FollowedBringNothingBack, FollowedIsTold, FollowingEnds, FollowingIsLeast, GrownPathsCover, ListedAreFollowed};
-ghost use Rattle.dump_trees.specs.FrontLaws.{BegunImagesStay, BegunTreesStay, EachFrontRestricts, EachQuietFrontRestricts, EachQuietLoadsRestrict};
+ghost use Rattle.dump_trees.specs.Following.{CopiesArePlaced, EachCopyIsOver, FollowedBringNothingBack, FollowedIsTold, FollowingIsLeast, GrownPathsCover, ListedAreFollowed};
+ghost use Rattle.dump_trees.specs.FrontLaws.{BegunTreesStay, EachFrontRestricts};
 ghost use Rattle.dump_trees.specs.HistoryLaws.{EachHistoryRestricts, EachRevisionRestricts};
 ghost use Rattle.dump_trees.specs.Listing.{NamesAreLooked};
 ghost use Rattle.dump_trees.specs.LoadCheck.{DumpIsAllowed, FirstRefusalIsThere, PlainLooksTellKinds, StepIsAllowed, TellsEachTree};
@@ -18,11 +17,11 @@ ghost use Rattle.dump_trees.specs.Looking.{LookFinds, LookFindsEach};
 ghost use Rattle.dump_trees.specs.MovedLaws.{EachLoadsAlike, LoadsBehindOthers};
 ghost use Rattle.dump_trees.specs.PathLaws.{KeepsAsTextDoes, TextsAreRead};
 ghost use Rattle.dump_trees.specs.Returns.{ReturnsTellAll};
-ghost use Rattle.dump_trees.specs.Quiet.{AllQuietSeparate, EachQuietHistoryRestricts, QuietSeparates};
+ghost use Rattle.dump_trees.specs.Quiet.{AllQuietSeparate, QuietSeparates};
 ghost use Rattle.dump_trees.specs.Siblings.{LoadedTreesHaveFolders, LoadedTreesHaveNames, NamedPathsLeaveCut, NamedTextsLeaveCut, ShortPathsHaveNames, SiblingsLeaveCut};
 ghost use Rattle.dump_trees.specs.StepLaws.{EachStepRestricts, FilteredIsNew};
 ghost use Rattle.dump_trees.specs.TreeLaws.{GivesNothingBelowKept, GivesRootAlone, KeepsNothingBelowLeft, KeepsOrGivesAbove};
-ghost use Rattle.dump_trees.specs.Trimming.{EachHistoryTrims, EachTrimmedCopyRestricts, EachTrimmedFilteredRestricts, EachTrimmedHistoryRestricts, EachTrimmedRevisionRestricts, TakenTopsCover};
+ghost use Rattle.dump_trees.specs.Trimming.{EachTrimmedCopyRestricts, EachTrimmedFilteredRestricts, EachTrimmedHistoryRestricts, EachTrimmedRevisionRestricts, TakenTopsCover};
 
 /// The filter keeps a path exactly if it keeps the path's text. A path of names is read back from its text.
 pub fn paths_are_their_texts()
@@ -65,25 +64,12 @@ pub fn quiet_changes_are_separated()
     ensures all { AllQuietSeparate }
 {}
 
-/// So a load of a filtered dump of quiet changes makes the restricted trees of the whole dump.
-pub fn each_quiet_history_restricts()
-    ensures { EachQuietHistoryRestricts }
-{}
-
 /// The law of a whole dump is true of its first revisions, even if a load rejects a later revision or a later change
 /// is not separated. If the changes of the first revisions are separated, a load takes what the filter writes of them.
-/// It makes the restricted trees, at the images that the whole dump gives.
+/// It makes the restricted trees.
 pub fn each_front_restricts()
     ensures restricts { EachFrontRestricts }
     ensures trees { BegunTreesStay }
-    ensures images { BegunImagesStay }
-{}
-
-/// The same is true of first revisions of quiet changes. Up to the first revision with an alarm the law is true even
-/// if both dumps are loaded completely.
-pub fn each_quiet_front_restricts()
-    ensures restricts { EachQuietFrontRestricts }
-    ensures loads { EachQuietLoadsRestrict }
 {}
 
 /// After older revisions a dump makes the trees that it makes in a new repository. This is true even if the load sets
@@ -100,7 +86,6 @@ pub fn expanded_revisions_restrict()
     ensures itself { SeparatedRevisionsExpand }
     ensures lead { ExpandedLead }
     ensures load { ExpandedLoad }
-    ensures restrict { EachExpandedHistoryRestricts }
 {}
 
 /// These laws say what an expansion of a change is. A separated change is its own expansion. A copy at a kept path is
@@ -142,13 +127,11 @@ pub fn returns_are_found()
 {}
 
 /// A program follows copies, and each path to which it follows one is an addition. The paths then cover the addition,
-/// what is below it, and what they covered before. Each addition reduces the number of paths that ever exist and
-/// aren't covered, so the additions end. If a pass adds nothing, the paths cover exactly the least closed set, and
-/// nothing comes back.
+/// what is below it, and what they covered before. If a pass adds nothing, the paths cover exactly the least closed
+/// set, and nothing comes back.
 pub fn copies_are_followed()
     ensures listed { ListedAreFollowed }
     ensures grown { GrownPathsCover }
-    ensures end { FollowingEnds }
     ensures least { FollowingIsLeast }
     ensures back { FollowedBringNothingBack }
 {}
@@ -162,13 +145,6 @@ pub fn followed_copies_are_told()
     ensures rests { AllRestsAreListed }
     ensures none { NoneAtAnyPlace }
     ensures returns { NoReturnsBringNothing }
-{}
-
-/// If a program follows included paths to their sources, only directories above included paths come back.
-pub fn only_parents_come_back()
-    ensures only { OnlyParentsComeBack }
-    ensures cut { EverKeptInCut }
-    ensures above { ParentsComeBack }
 {}
 
 /// The paths that a copy takes to paths that are not kept are found among the excluded paths below its path.
@@ -186,14 +162,9 @@ pub fn siblings_leave_the_cut()
 {}
 
 /// If siblings that cover the paths named by a dump are excluded, they decide about mergeinfo lines. A line whose path
-/// the dump names in short form stays exactly if this path is in the cut, even if nothing exists there. The siblings
-/// on the ways to all named paths cover them. The siblings on the ways to all paths that ever exist are the siblings
-/// of every tree.
+/// the dump names in canonical form stays exactly if this path is in the cut, even if nothing exists there.
 pub fn lines_stay_by_the_cut()
-    ensures line { NamedLineStays }
-    ensures cover { SiblingsOfNamedCover }
-    ensures more { MoreSiblingsCover }
-    ensures all { SiblingsOfAllSuffice }
+    ensures { NamedLineStays }
 {}
 
 /// A program finds the siblings without building trees. It finds them among the names that can exist in the directories
@@ -203,9 +174,11 @@ pub fn siblings_are_found()
     ensures found { SiblingsAreFound }
 {}
 
-/// A program finds the siblings of every tree in the same way, also of the trees within revisions. Something exists at
-/// some time at the path of each change that does something, and at the source of each copy.
+/// If the siblings of every tree are excluded, also of the trees within revisions, the filter keeps of all paths that
+/// ever exist those in the cut. A program finds these siblings in the same way. Something exists at some time at the
+/// path of each change that does something, and at the source of each copy.
 pub fn siblings_are_ever_found()
+    ensures kept { EverKeptInCut }
     ensures found { EverSiblingsAreFound }
     ensures changed { ChangedPathsExist }
     ensures copied { CopiedPathsExist }
@@ -241,11 +214,9 @@ pub fn copies_are_trimmed()
 {}
 
 /// Revisions may be written in this way, and so may a whole history, whether each revision keeps its number or is
-/// renumbered. The result has the restricted trees, though no node in it is written again as an addition. Each history
-/// in which nothing comes back can be written in this way.
+/// renumbered. The result has the restricted trees, though no node in it is written again as an addition.
 pub fn trimmed_histories_restrict()
     ensures revision { EachTrimmedRevisionRestricts }
     ensures history { EachTrimmedHistoryRestricts }
     ensures filtered { EachTrimmedFilteredRestricts }
-    ensures trims { EachHistoryTrims }
 {}

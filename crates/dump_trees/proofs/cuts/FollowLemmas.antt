@@ -1,6 +1,6 @@
 -- Following copies. Additions are in each closed set. There are no more of them than paths at which something ever
 -- exists. If a pass adds nothing, the set is closed.
-use Rattle.dump_trees.proofs.Prelude.{◌≡◌, not, ◌||◌, ◌⊎◌, suc, ◌+◌, ◌<◌, ◌≤◌, cond, count_by, refl, sym, ap, ◌∙◌, inl, inr, subst, arith, filter, option_map, append-nil, append_assoc, both_ways, list_all, slice_get, sum_by-cons, and_parts, and_from, or_left, or_right, not-true, not_from_false, Settings, NodePath, Tree, root_alone, Made, Change, History, step, steps, loaded_over}
+use Rattle.dump_trees.proofs.Prelude.{◌≡◌, not, ◌||◌, ◌⊎◌, ◌<◌, cond, refl, sym, ap, ◌∙◌, inl, inr, subst, arith, filter, option_map, append-nil, append_assoc, both_ways, list_all, slice_get, and_parts, and_from, or_left, not-true, not_from_false, Settings, NodePath, Tree, root_alone, Made, Change, History, step, steps, loaded_over}
 use Rattle.std.proofs.Common.{ℕ, Bool, true, false, ◌&&◌, List, [], ◌∷◌, ◌++◌, length, Option, Some, None, option_and_then, is_some, Contains}
 use Rattle.std.proofs.lemmas.Option.{same_Some, slice_get_within}
 use Rattle.std.proofs.lemmas.List.Folds.{list_any-append}
@@ -10,7 +10,7 @@ use Rattle.dump_trees.specs.Looking.{origin_of}
 use Rattle.dump_trees.specs.Siblings.{is_within, has_node_names, have_node_names, ExcludesPaths}
 use Rattle.dump_trees.specs.ComingBack.{ComesBack, NoneComesBack, NothingComesBack}
 use Rattle.dump_trees.specs.Returns.{is_covered, lie_apart, rests_covered, returns, IsCopyOver}
-use Rattle.dump_trees.specs.Following.{Copies, Way, from_of, to_of, IsClosed, Covers, IsInClosure, IsFollowed, IsGrown, AreFollowed, AddsNothing, ListedAreFollowed, GrownPathsCover, ExistsOnce, left_uncovered, FollowingEnds, FollowingIsLeast, FollowedBringNothingBack, EachCopyIsOver}
+use Rattle.dump_trees.specs.Following.{Copies, Way, from_of, to_of, IsClosed, Covers, IsInClosure, IsFollowed, IsGrown, AreFollowed, AddsNothing, ListedAreFollowed, GrownPathsCover, ExistsOnce, FollowingIsLeast, FollowedBringNothingBack, EachCopyIsOver}
 use Rattle.dump_trees.proofs.changes.TreeLemmas.{below_found}
 use Rattle.dump_trees.proofs.histories.KeptNumbers.{get_before}
 use Rattle.dump_trees.proofs.histories.FrontLemmas.{begun_trees}
@@ -18,7 +18,7 @@ use Rattle.dump_trees.proofs.histories.StandingNames.{loaded_folders, loaded_nam
 use Rattle.dump_trees.proofs.expansions.StandingLemmas.{origin_in, step_has, copy_has_tree}
 use Rattle.dump_trees.proofs.cuts.CheckedSteps.{left_of, made_node, change_leaves}
 use Rattle.dump_trees.proofs.cuts.CheckedLoads.{split_at, get_some, get_front, steps_then, loaded_push, loaded_size, pushed, length_append}
-use Rattle.dump_trees.proofs.cuts.CoveredPaths.{contains_first, contains_later, contains_cases, contains_none, all_has, list_all_of, filter_there, filter_passed, filter_has, within_more, within_rest, within_itself, exists_above, covered_by, covered_from, covered_itself, covered_more, uncovered_above, rests_there, rests_above}
+use Rattle.dump_trees.proofs.cuts.CoveredPaths.{contains_first, contains_later, contains_cases, contains_none, all_has, list_all_of, filter_there, filter_passed, filter_has, within_more, within_rest, exists_above, covered_by, covered_from, covered_itself, covered_more, uncovered_above, rests_there, rests_above}
 use Rattle.dump_trees.proofs.cuts.ReturnLemmas.{returns_tell_all}
 
 -- elements
@@ -484,70 +484,6 @@ module _ (trees : List Tree) (revisions : List (List Change)) (is : loaded_over 
       (all_has (λ (c : Change). has_node_names c.path) copy.changes copy.change
       (all_has (λ changes. list_all (λ (c : Change). has_node_names c.path) changes) revisions copy.changes names copy.among)
       copy.there)
-
--- counts
-
-count_cons : (f : NodePath → Bool) (p : NodePath) (ps : List NodePath)
-    → count_by f (p ∷ ps) ≡ cond (f p) 1 0 + count_by f ps
-count_cons f p ps = sum_by-cons (λ q. cond (f q) 1 0) p ps
-
-one_le : (a b : Bool) → (a ≡ true → b ≡ true) → cond a 1 0 ≤ cond b 1 0
-one_le false b more = (let low : 0 ≤ cond b 1 0 = omega arith in low)
-one_le true b more = subst (λ c. 1 ≤ cond c 1 0) (sym (more refl)) (let low : 1 ≤ 1 = omega arith in low)
-
-count_le : (f g : NodePath → Bool) → ((p : NodePath) → g p ≡ true → f p ≡ true) → (ps : List NodePath)
-    → count_by g ps ≤ count_by f ps
-count_le f g more [] = (let low : 0 ≤ 0 = omega arith in low)
-count_le f g more (p ∷ ps) =
-    let one = one_le (g p) (f p) (more p) in
-    let rest = count_le f g more ps in
-    let a = count_cons f p ps in
-    let b = count_cons g p ps in
-    omega arith
-
-count_less : (f g : NodePath → Bool) → ((p : NodePath) → g p ≡ true → f p ≡ true) → (ps : List NodePath) (p : NodePath)
-    → Contains ps p → f p ≡ true → g p ≡ false → suc (count_by g ps) ≤ count_by f ps
-count_less f g more [] p there yes_f no_g = absurd (contains_none p there)
-count_less f g more (q ∷ ps) p there yes_f no_g =
-    elim (contains_cases q ps p there) [
-      | inl same ↦
-          let rest = count_le f g more ps in
-          let a = count_cons f q ps ∙ ap (λ b. cond b 1 0 + count_by f ps) (ap f same ∙ yes_f) in
-          let b = count_cons g q ps ∙ ap (λ b. cond b 1 0 + count_by g ps) (ap g same ∙ no_g) in
-          omega arith
-      | inr later ↦
-          let one = one_le (g q) (f q) (more q) in
-          let rest = count_less f g more ps p later yes_f no_g in
-          let a = count_cons f q ps in
-          let b = count_cons g q ps in
-          omega arith
-    ]
-
-not_both : (a b : Bool) → (a ≡ true → b ≡ true) → not b ≡ true → not a ≡ true
-not_both false b more is = refl
-not_both true b more is = absurd (both_ways b (not-true b is) (more refl))
-
-ends : (way : Way) (trees : List Tree) (revisions : List (List Change)) (ever : List NodePath)
-    → loaded_over root_alone revisions ≡ Some trees
-    → ((path : NodePath) → ExistsOnce revisions path → Contains ever path)
-    → (additions tops last : List NodePath) → AreFollowed way trees revisions tops additions last
-    → length additions + left_uncovered ever last ≤ left_uncovered ever tops
-ends way trees revisions ever is all [] tops last same =
-    subst (λ ps. length {A = NodePath} [] + left_uncovered ever ps ≤ left_uncovered ever tops) (sym same)
-    (let low : 0 + left_uncovered ever tops ≤ left_uncovered ever tops = omega arith in low)
-ends way trees revisions ever is all (added ∷ additions) tops last (one, more, grown, rest) =
-    let further = ends way trees revisions ever is all additions more last rest in
-    let covered : is_covered more added ≡ true =
-    grown_covers tops more added grown added ∙ or_right (is_covered tops added) _ (within_itself added) in
-    let less = count_less (λ p. not (is_covered tops p)) (λ p. not (is_covered more p))
-    (λ p. not_both (is_covered tops p) (is_covered more p) (grow way trees revisions tops more added grown p)) ever added
-    (all added (addition_exists trees revisions is way tops added one))
-    (not_from_false _ one.new) (ap not covered) in
-    (let low : suc (length additions) + left_uncovered ever last ≤ left_uncovered ever tops = omega arith in low)
-
-pub following_ends : FollowingEnds
-following_ends way trees revisions ever tops additions last is all are =
-    ends way trees revisions ever is all additions tops last are
 
 -- closed sets
 

@@ -1,10 +1,9 @@
 -- Expanded changes lead to the same tree as the changes, and expanded revisions load to the same trees.
-use Rattle.dump_trees.proofs.Prelude.{◌≡◌, refl, sym, ap, ◌∙◌, subst, slice_get, Tree, root_alone, Change, step, steps, loaded, AllRevisionsSeparate}
+use Rattle.dump_trees.proofs.Prelude.{◌≡◌, refl, sym, ap, ◌∙◌, subst, slice_get, Tree, Change, step, steps, loaded, AllRevisionsSeparate}
 use Rattle.std.proofs.Common.{List, [], ◌∷◌, ◌++◌, Option, Some, None, option_and_then}
 use Rattle.dump_trees.specs.Leading.{Leads}
-use Rattle.dump_trees.specs.Expansions.{AllExpand, AllRevisionsExpand, ExpandedLead, ExpandedLoad, EachExpandedHistoryRestricts}
+use Rattle.dump_trees.specs.Expansions.{AllExpand, AllRevisionsExpand, ExpandedLead, ExpandedLoad}
 use Rattle.dump_trees.proofs.expansions.LeadLemmas.{leads_nowhere, leads_then}
-use Rattle.dump_trees.proofs.histories.HistoryLemmas.{each_history}
 
 -- the changes of a revision, one after the other
 pub expanded_lead : ExpandedLead
@@ -65,9 +64,3 @@ expanded_load settings older youngest (changes ∷ revisions) expanded trees at 
                 subst (λ v. AllRevisionsSeparate settings (older ++ v ∷ []) v rest) one further.1,
           ),
         )
-
--- the law of a whole dump, as the contract states it
-pub each_expanded_history : EachExpandedHistoryRestricts
-each_expanded_history settings make entries rule revisions expanded written trees numbered at expands new =
-    let load = expanded_load settings (root_alone ∷ []) root_alone revisions expanded trees at expands in
-    each_history settings make entries rule expanded written trees numbered load.0 load.1 new

@@ -1,5 +1,5 @@
 -- Quiet changes are separated.
-use Rattle.dump_trees.proofs.Prelude.{◌≡◌, not, ◌||◌, IsTrue, IsFalse, refl, sym, ap, ap₂, ◌∙◌, subst, inl, inr, append-nil, slice_get, list_any, list_all, both_ways, not-true, not-false, and_parts, and_cases, or_parts, or_cases, cond-true, cond-false, Side, Include, Exclude, bare_prefix, bare_path, begins_path, matches_path, Settings, side_keeps, keeps_path, NodePath, path_text, keeps, below, Tree, root_alone, Made, is_copied, Change, History, step, steps, is_above, is_above_some, is_lost, NewProperty, KeepsEntries, IsMade, has_no_props, CopySeparates, PlainSeparates, LeavesKept, Separates, AllSeparate, rest_of_prefix, cuts_one, cuts_alike, is_quiet_kept, is_quiet_dropped, is_quiet, is_over, holds_of_some, none_is_over, nowhere_is_over, QuietSeparates, AllQuietSeparate, QuietHistoryRestricts, EachQuietHistoryRestricts}
+use Rattle.dump_trees.proofs.Prelude.{◌≡◌, not, ◌||◌, IsTrue, IsFalse, refl, sym, ap, ap₂, ◌∙◌, subst, inl, inr, append-nil, slice_get, list_any, list_all, both_ways, not-true, not-false, and_parts, and_cases, or_parts, or_cases, cond-true, cond-false, Side, Include, Exclude, bare_prefix, bare_path, begins_path, matches_path, Settings, side_keeps, keeps_path, NodePath, path_text, keeps, below, Tree, Made, is_copied, Change, History, step, steps, is_above, is_above_some, is_lost, has_no_props, CopySeparates, PlainSeparates, LeavesKept, Separates, AllSeparate, rest_of_prefix, cuts_one, cuts_alike, is_quiet_kept, is_quiet_dropped, is_quiet, is_over, holds_of_some, none_is_over, nowhere_is_over, QuietSeparates, AllQuietSeparate}
 use Rattle.std.proofs.Common.{ℕ, Bool, true, false, ◌&&◌, List, [], ◌∷◌, ◌++◌, Option, Some, None, is_some}
 use Rattle.dump_trees.proofs.paths.KeptPaths.{path_text-append, begins_above, matched, matched_below, above_some}
 use Rattle.dump_trees.proofs.changes.TreeLemmas.{below_rest}
@@ -229,16 +229,3 @@ all_quiet settings trees youngest (changes ∷ revisions) quiet over =
           (steps (slice_get trees) youngest changes) tree nothing.1
           at),
     )
-
--- so the filtered dump of quiet changes has the restricted trees, for each relation of new properties that keeps
--- entries
-pub quiet_history : (settings : Settings) (IsNew : NewProperty) → KeepsEntries IsNew
-    → QuietHistoryRestricts settings IsNew
-quiet_history settings IsNew entries rule revisions written trees numbered at quiet over new =
-    history settings IsNew entries rule revisions written trees numbered at
-    (all_quiet settings (root_alone ∷ []) root_alone revisions quiet over)
-    new
-
--- the same for each way to make new properties, as the contract states it
-pub each_quiet_history : EachQuietHistoryRestricts
-each_quiet_history settings make entries = quiet_history settings (IsMade make) entries

@@ -5,7 +5,7 @@ use Rattle.dump_trees.specs.Looking.{placed_from}
 use Rattle.dump_trees.specs.Listing.{names_look}
 use Rattle.dump_trees.specs.Siblings.{is_in_cut, is_sibling}
 use Rattle.dump_trees.specs.FindingSiblings.{all_above, CanStandBelow}
-use Rattle.dump_trees.specs.FollowedParents.{AreEverSiblings}
+use Rattle.dump_trees.specs.EverSiblings.{AreEverSiblings}
 use Rattle.dump_trees.specs.EverSiblings.{ExistsBelow, does_something}
 use Rattle.dump_trees.proofs.changes.TreeLemmas.{below_rest}
 use Rattle.dump_trees.proofs.expansions.FoundSiblings.{above_are_listed}

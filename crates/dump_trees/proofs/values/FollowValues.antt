@@ -2,7 +2,7 @@
 use Rattle.dump_trees.proofs.Prelude.{◌≡◌, option_map, bytes_eq, path_text, ◌⊎◌, inl, inr, codes, refl, sym, ap, ◌∙◌, subst, arith, slice_get, NodePath, path_of, Tree, root_alone, Made, Change, unwrap_or, loaded_over}
 use Rattle.std.proofs.Common.{ℕ, true, false, List, [], ◌∷◌, ◌++◌, length, Some, Contains}
 use Rattle.std.proofs.lemmas.Option.{same_Some}
-use Rattle.dump_trees.specs.Following.{Copies, Way, IsClosed, Covers, IsInClosure, followed, IsFollowed, IsGrown, AreFollowed, AddsNothing, left_uncovered, ExistsOnce, PlacedCopy, followed_told}
+use Rattle.dump_trees.specs.Following.{Copies, Way, IsClosed, Covers, IsInClosure, followed, IsFollowed, IsGrown, AreFollowed, AddsNothing, ExistsOnce, PlacedCopy, followed_told}
 use Rattle.dump_trees.specs.Looking.{Placed, placed_from, look}
 use Rattle.dump_trees.specs.LoadCheck.{ToldKinds, kind_of_node}
 use Rattle.dump_trees.specs.FollowedRests.{all_rests}
@@ -153,13 +153,6 @@ may_not_stay g = sizes g.front g.behind g.others g.joined
         omega (arith, bad)
     sizes (p ∷ q ∷ front) behind others joined =
         absurd (let bad : p ∷ q ∷ (front ++ behind) ≡ one ∷ [] = others in cc)
-
--- one path fewer remains
-left_before : left_uncovered (one ∷ two ∷ three ∷ []) (one ∷ []) ≡ 2
-left_before = refl
-
-left_behind : left_uncovered (one ∷ two ∷ three ∷ []) (one ∷ two ∷ []) ≡ 1
-left_behind = refl
 
 -- passes
 

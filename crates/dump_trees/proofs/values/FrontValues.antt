@@ -1,9 +1,10 @@
 -- Examples of numbers and of first revisions: a dump with an alarm in its third revision, and one that is rejected
 -- there. The law is true of the revisions before it.
-use Rattle.dump_trees.proofs.Prelude.{◌≡◌, codes, refl, take, Settings, KeptRevisions, image, path_of, keeps, Node, Tree, root_alone, Change, given, IsNewChange, loaded_over, EmptyRule, stays_numbered, AreNewRevisions, kept_of, IsWrittenNumber, are_quiet, ImagesRestrict, FrontLoads}
+use Rattle.dump_trees.proofs.Prelude.{◌≡◌, codes, refl, Settings, KeptRevisions, image, path_of, keeps, Node, Tree, root_alone, Change, given, IsNewChange, loaded_over, EmptyRule, stays_numbered, AreNewRevisions, kept_of, IsWrittenNumber, are_quiet, FrontLoads}
 use Rattle.std.proofs.Common.{ℕ, true, false, List, [], ◌∷◌, ◌++◌, Some, None, is_none}
 use Rattle.std.specs.Prelude.{◌&&◌, is_some}
-use Rattle.dump_trees.proofs.histories.FrontLemmas.{quiet_front, quiet_loads}
+use Rattle.dump_trees.proofs.histories.FrontLemmas.{front_history}
+use Rattle.dump_trees.proofs.quiet.QuietLemmas.{all_quiet}
 use Rattle.dump_trees.proofs.values.ValueParts.{including, excluding, none_more, as_it_was, entries_stay, change, folder, file, copy, writing, same_folder, same_file, same_copy, node_at}
 
 -- numbers: of six revisions the first, the third and the fourth have no kept change
@@ -201,18 +202,10 @@ rest_is_written = (
 the_law : (trees : List Tree) → loaded_over root_alone front ≡ Some trees
     → FrontLoads settings as_it_was none_more (kept_of settings none_more (front ++ rest)) front (first ++ rest) trees
 the_law trees at =
-    quiet_front settings as_it_was entries_stay none_more front rest (first ++ rest) trees refl at refl refl
-    (first_is_written _ rest rest rest_is_written)
+    front_history settings as_it_was entries_stay none_more front rest (first ++ rest) trees refl at
+    (all_quiet settings (root_alone ∷ []) root_alone front refl refl) (first_is_written _ rest rest rest_is_written)
 
--- and of the two whole loads: the trees up to the second revision
-their_law : (trees others : List Tree) → loaded_over root_alone (front ++ rest) ≡ Some trees
-    → loaded_over (given settings) (first ++ rest) ≡ Some others
-    → ImagesRestrict settings as_it_was (image (kept_of settings none_more (front ++ rest))) (take 3 trees) others
-their_law trees others at filtered =
-    quiet_loads settings as_it_was entries_stay none_more front rest (first ++ rest) trees others refl at
-    filtered refl refl
-    (first_is_written _ rest rest rest_is_written)
-
+-- and both load as a whole
 both_load :
     (is_some (loaded_over root_alone (front ++ rest)) && is_some (loaded_over (given settings) (first ++ rest))) ≡ true
 both_load = refl
@@ -229,7 +222,8 @@ its_law : (trees : List Tree) → loaded_over root_alone front ≡ Some trees
     → FrontLoads settings as_it_was none_more (kept_of settings none_more (front ++ refused)) front
     (first ++ refused) trees
 its_law trees at =
-    quiet_front settings as_it_was entries_stay none_more front refused (first ++ refused) trees refl at refl refl
+    front_history settings as_it_was entries_stay none_more front refused (first ++ refused) trees refl at
+    (all_quiet settings (root_alone ∷ []) root_alone front refl refl)
     (first_is_written _ refused refused (
       file (codes "trunk/f") (codes "3") ∷ [],
       [],

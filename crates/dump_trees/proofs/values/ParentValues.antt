@@ -4,7 +4,7 @@ use Rattle.std.proofs.Common.{true, false, List, [], ◌∷◌}
 use Rattle.dump_trees.specs.Siblings.{is_above_included}
 use Rattle.dump_trees.specs.Returns.{is_covered}
 use Rattle.dump_trees.specs.Following.{Way, followed}
-use Rattle.dump_trees.specs.FollowedParents.{AreEverSiblings}
+use Rattle.dump_trees.specs.EverSiblings.{AreEverSiblings}
 use Rattle.dump_trees.proofs.cuts.CoveredPaths.{contains_none}
 use Rattle.dump_trees.proofs.values.ValueParts.{folder, file, deletion}
 

@@ -2,7 +2,8 @@
 -- false, and the law with it.
 use Rattle.dump_trees.proofs.Prelude.{◌≡◌, codes, refl, sym, ap, subst, ◌∙◌, slice_get, Property, Settings, image, path_of, Node, Tree, root_alone, Change, given, IsRestricted, loaded_over, stays_numbered, kept_of, AreFiltered, ImagesRestrict, are_quiet, nowhere_is_over}
 use Rattle.std.proofs.Common.{ℕ, Bool, true, false, List, [], ◌∷◌, length, Option, Some, None, option_and_then, is_some}
-use Rattle.dump_trees.proofs.quiet.QuietLemmas.{quiet_history}
+use Rattle.dump_trees.proofs.histories.HistoryLemmas.{history}
+use Rattle.dump_trees.proofs.quiet.QuietLemmas.{all_quiet}
 use Rattle.dump_trees.proofs.values.ValueParts.{including, excluding, none_more, as_it_was, entries_stay, folder, file, copy, deletion, setting, writing, property, same_folder, same_file, same_copy}
 
 -- the premises of a dump: its revisions stay numbered, it loads, no change gives an alarm, and no copy that loses its
@@ -178,8 +179,8 @@ plain_behind_is_part = (
 )
 
 gap_has_law : HasLaw left_numbers plain_behind plain_behind_part
-gap_has_law trees at = quiet_history left_numbers as_it_was entries_stay none_more plain_behind plain_behind_part trees
-    refl at refl refl plain_behind_is_part
+gap_has_law trees at = history left_numbers as_it_was entries_stay none_more plain_behind plain_behind_part trees refl at
+    (all_quiet left_numbers (root_alone ∷ []) root_alone plain_behind refl refl) plain_behind_is_part
 
 -- a copy of trunk, below which something is excluded: branch lacks it, though it is kept there
 

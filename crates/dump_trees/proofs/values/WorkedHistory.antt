@@ -1,7 +1,8 @@
 -- Examples for the definitions; the checker computes and proves them.
 use Rattle.dump_trees.proofs.Prelude.{◌≡◌, codes, refl, image, path_text, path_of, keeps, below, parent_of, Node, Tree, root_alone, Change, given, loaded_over, kept_of, AreFiltered, ImagesRestrict, is_quiet, are_quiet}
 use Rattle.std.proofs.Common.{true, false, List, [], ◌∷◌, Some, None, length}
-use Rattle.dump_trees.proofs.quiet.QuietLemmas.{quiet_history}
+use Rattle.dump_trees.proofs.histories.HistoryLemmas.{history}
+use Rattle.dump_trees.proofs.quiet.QuietLemmas.{all_quiet}
 use Rattle.dump_trees.proofs.values.ValueParts.{including, excluding, none_more, as_it_was, entries_stay, folder, file, copy, deletion, same_folder, same_file, same_copy, node_at}
 
 -- paths
@@ -58,8 +59,8 @@ its_image = refl
 dropped_image : image (kept_of (including (codes "a/b")) none_more whole) 2 ≡ Some 1
 dropped_image = refl
 
-all_quiet : are_quiet (including (codes "a/b")) whole ≡ true
-all_quiet = refl
+none_alarms : are_quiet (including (codes "a/b")) whole ≡ true
+none_alarms = refl
 
 -- the part is what the filter writes of the whole history
 is_part : AreFiltered (including (codes "a/b")) as_it_was none_more whole part
@@ -95,7 +96,8 @@ the_law : (trees : List Tree) → loaded_over root_alone whole ≡ Some trees
     × ImagesRestrict (including (codes "a/b")) as_it_was
     (image (kept_of (including (codes "a/b")) none_more whole)) trees others
 the_law trees at =
-    quiet_history (including (codes "a/b")) as_it_was entries_stay none_more whole part trees refl at refl refl is_part
+    history (including (codes "a/b")) as_it_was entries_stay none_more whole part trees refl at
+    (all_quiet (including (codes "a/b")) (root_alone ∷ []) root_alone whole refl refl) is_part
 
 -- changes that give an alarm, and what the alarm warns of
 

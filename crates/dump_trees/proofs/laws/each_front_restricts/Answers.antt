@@ -1,4 +1,4 @@
-use Rattle.dump_trees.proofs.histories.FrontLemmas.{each_front, begun_trees, begun_images}
+use Rattle.dump_trees.proofs.histories.FrontLemmas.{each_front, begun_trees}
 use Rattle.dump_trees.proofs.laws.each_front_restricts.Goals as goal
 
 pub returns-clause-restricts : goal.returns-clause-restricts
@@ -6,6 +6,3 @@ returns-clause-restricts c = each_front
 
 pub returns-clause-trees : goal.returns-clause-trees
 returns-clause-trees c = begun_trees
-
-pub returns-clause-images : goal.returns-clause-images
-returns-clause-images c = begun_images

@@ -1,4 +1,4 @@
-use Rattle.dump_trees.proofs.expansions.ExpandLemmas.{expanded_lead, expanded_load, each_expanded_history}
+use Rattle.dump_trees.proofs.expansions.ExpandLemmas.{expanded_lead, expanded_load}
 use Rattle.dump_trees.proofs.expansions.StayingLemmas.{separated_revisions_expand}
 use Rattle.dump_trees.proofs.laws.expanded_revisions_restrict.Goals as goal
 
@@ -7,9 +7,6 @@ returns-clause-lead c = expanded_lead
 
 pub returns-clause-load : goal.returns-clause-load
 returns-clause-load c = expanded_load
-
-pub returns-clause-restrict : goal.returns-clause-restrict
-returns-clause-restrict c = each_expanded_history
 
 pub returns-clause-itself : goal.returns-clause-itself
 returns-clause-itself c = separated_revisions_expand
