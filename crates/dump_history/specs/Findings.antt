@@ -21,47 +21,17 @@ use Rattle.dump_trees.specs.Quiet.{cuts_alike}
 use Rattle.dump_history.specs.RecordChanges.{copy_path, copy_revision, deletes, makes, has_known_action, has_odd_delta, has_plain_texts}
 use Rattle.dump_history.specs.DumpChanges.{counts_from, has_ordered_nodes}
 use Rattle.dump_history.specs.NumberGaps.{go_up, NamesRevisionBehind}
+use Rattle.dump_history.specs.declared.findings.Finding.{Finding}
+use Rattle.dump_history.specs.declared.findings.DumpFinding.{DumpFinding}
+use Rattle.dump_history.specs.declared.findings.Finding.TheVariants as findings
+use Rattle.dump_history.specs.declared.findings.DumpFinding.TheVariants as dump_wide
 
--- what can be found in a node
-pub data Finding : Type 0 where
-  -- its property block can't be read
-  UnreadBlock : Finding
-  -- it says that its properties or its text are a delta, but version 3 is not in force; it may have neither
-  Delta : Finding
-  -- it has no action, or an unknown one
-  UnknownAction : Finding
-  -- a load reads one of its texts differently
-  TextReadDifferently : Finding
-  -- the filter stops: it is a kept copy without its source, and no whole file
-  NoWholeFile : Finding
-  -- the filter stops: it is a kept copy, and has no new number for the revision that it is copied from
-  MissingCopyRevision : Finding
-  -- the filter stops: it is kept, and its mergeinfo can't be read
-  UnreadMergeinfo : Finding
-  -- the filter stops: it is kept, and its mergeinfo names a path that isn't kept
-  MissingMergeSource : Finding
-  -- the filter stops: it is kept, and its mergeinfo names a revision that isn't in the dump up to it
-  MissingMergeRevision : Finding
-  -- a kept copy without its source sets no properties, so those of the source may be lost
-  PropertiesLost : Finding
-  -- a kept copy of a kept path, below which something is excluded that is included below the copy: it may lack that
-  CopyLoses : Finding
-  -- a kept copy of a kept path, below which something is included that is excluded below the copy: it may bring that
-  -- back
-  CopyLetsIn : Finding
-  -- an excluded directory above a prefix is deleted, and what is included below it may stay
-  FolderTakes : Finding
-  -- an excluded directory above a prefix is a copy, and what is included below it may be missing
-  FolderBrings : Finding
-  -- a kept file is a copy of an excluded one, and its text comes from it, perhaps edited
-  TextComesIn : Finding
-
--- each of them, in order
+-- what can be found in a node, in order
 abbrev pub every_finding : List Finding
-every_finding = Finding.UnreadBlock ∷ Finding.Delta ∷ Finding.UnknownAction ∷ Finding.TextReadDifferently
-    ∷ Finding.NoWholeFile ∷ Finding.MissingCopyRevision ∷ Finding.UnreadMergeinfo ∷ Finding.MissingMergeSource
-    ∷ Finding.MissingMergeRevision ∷ Finding.PropertiesLost ∷ Finding.CopyLoses ∷ Finding.CopyLetsIn
-    ∷ Finding.FolderTakes ∷ Finding.FolderBrings ∷ Finding.TextComesIn ∷ []
+every_finding = findings.UnreadBlock ∷ findings.Delta ∷ findings.UnknownAction ∷ findings.TextReadDifferently
+    ∷ findings.NoWholeFile ∷ findings.MissingCopyRevision ∷ findings.UnreadMergeinfo ∷ findings.MissingMergeSource
+    ∷ findings.MissingMergeRevision ∷ findings.PropertiesLost ∷ findings.CopyLoses ∷ findings.CopyLetsIn
+    ∷ findings.FolderTakes ∷ findings.FolderBrings ∷ findings.TextComesIn ∷ []
 
 -- whether the node's path is kept
 abbrev pub has_kept_path : Settings → DumpRecord → Bool
@@ -111,27 +81,27 @@ pub record AreNodeFaultsOf (settings : Settings) (before : List DumpRecord) (r :
 -- whether this is found in the node; the properties are those of its block, none if that can't be read, and the faults
 -- those of the node
 abbrev pub is_found : Settings → DumpRecord → Option (List Property) → NodeFaults → Finding → Bool
-is_found settings r ps faults Finding.UnreadBlock = is_none ps
-is_found settings r ps faults Finding.Delta = has_odd_delta r
-is_found settings r ps faults Finding.UnknownAction = not (has_known_action r)
-is_found settings r ps faults Finding.TextReadDifferently = not (has_plain_texts r (unwrap_or ps []))
-is_found settings r ps faults Finding.NoWholeFile = lacks_source settings r
-is_found settings r ps faults Finding.MissingCopyRevision = faults.copy_revision
-is_found settings r ps faults Finding.UnreadMergeinfo = faults.unread
-is_found settings r ps faults Finding.MissingMergeSource = faults.missing
-is_found settings r ps faults Finding.MissingMergeRevision = faults.outside
-is_found settings r ps faults Finding.PropertiesLost =
+is_found settings r ps faults findings.UnreadBlock = is_none ps
+is_found settings r ps faults findings.Delta = has_odd_delta r
+is_found settings r ps faults findings.UnknownAction = not (has_known_action r)
+is_found settings r ps faults findings.TextReadDifferently = not (has_plain_texts r (unwrap_or ps []))
+is_found settings r ps faults findings.NoWholeFile = lacks_source settings r
+is_found settings r ps faults findings.MissingCopyRevision = faults.copy_revision
+is_found settings r ps faults findings.UnreadMergeinfo = faults.unread
+is_found settings r ps faults findings.MissingMergeSource = faults.missing
+is_found settings r ps faults findings.MissingMergeRevision = faults.outside
+is_found settings r ps faults findings.PropertiesLost =
     has_kept_path settings r && makes_copy r && not (has_kept_source settings r)
     && not (has_header property_length_name r.headers)
-is_found settings r ps faults Finding.CopyLoses =
+is_found settings r ps faults findings.CopyLoses =
     has_kept_path settings r && makes_copy r && has_kept_source settings r && cuts settings (copy_path r) (node_path r)
-is_found settings r ps faults Finding.CopyLetsIn =
+is_found settings r ps faults findings.CopyLetsIn =
     has_kept_path settings r && makes_copy r && has_kept_source settings r && cuts settings (node_path r) (copy_path r)
-is_found settings r ps faults Finding.FolderTakes =
+is_found settings r ps faults findings.FolderTakes =
     not (has_kept_path settings r) && deletes r && is_above_prefix settings r
-is_found settings r ps faults Finding.FolderBrings =
+is_found settings r ps faults findings.FolderBrings =
     not (has_kept_path settings r) && makes_copy r && is_above_prefix settings r
-is_found settings r ps faults Finding.TextComesIn =
+is_found settings r ps faults findings.TextComesIn =
     is_exclude settings.side && has_kept_path settings r && makes r && becomes_plain settings r
 
 -- what is found in the node, in order
@@ -150,45 +120,26 @@ AreFindingsOf settings before r found = (ps : Option (List Property)) × (faults
 
 -- whether a node with the finding makes no change that the definitions describe
 abbrev pub is_obstacle : Finding → Bool
-is_obstacle Finding.UnreadBlock = true
-is_obstacle Finding.Delta = true
-is_obstacle Finding.UnknownAction = true
-is_obstacle Finding.TextReadDifferently = true
+is_obstacle findings.UnreadBlock = true
+is_obstacle findings.Delta = true
+is_obstacle findings.UnknownAction = true
+is_obstacle findings.TextReadDifferently = true
 is_obstacle _ = false
 
 -- whether the finding is an alarm: the filter's cut may not separate the node's change
 abbrev pub is_alarm : Finding → Bool
-is_alarm Finding.PropertiesLost = true
-is_alarm Finding.CopyLoses = true
-is_alarm Finding.CopyLetsIn = true
-is_alarm Finding.FolderTakes = true
-is_alarm Finding.FolderBrings = true
+is_alarm findings.PropertiesLost = true
+is_alarm findings.CopyLoses = true
+is_alarm findings.CopyLetsIn = true
+is_alarm findings.FolderTakes = true
+is_alarm findings.FolderBrings = true
 is_alarm _ = false
 
--- what can be found in a dump as a whole
-pub data DumpFinding : Type 0 where
-  -- it has no revision
-  NoRevision : DumpFinding
-  -- its revisions aren't numbered on, one by one, from the number of the first one
-  OtherNumbers : DumpFinding
-  -- a revision's number isn't above that of the revision before it, at which the filter stops
-  NumberFalls : DumpFinding
-  -- the properties of a revision can't be read, at which the filter stops
-  UnreadRevision : DumpFinding
-  -- its first revision is revision 0, and has a node
-  NodeInFirst : DumpFinding
-  -- a node of a revision is a copy from one before the first revision
-  SourceBefore : DumpFinding
-  -- a node is outside of any revision, at which the filter stops
-  NodeOutside : DumpFinding
-  -- a revision is dropped, the others aren't renumbered, and a kept node after it is a copy or sets mergeinfo
-  NumbersLeft : DumpFinding
-
--- each of them, in order
+-- what can be found in a dump as a whole, in order
 abbrev pub every_dump_finding : List DumpFinding
 every_dump_finding =
-    DumpFinding.NoRevision ∷ DumpFinding.OtherNumbers ∷ DumpFinding.NumberFalls ∷ DumpFinding.UnreadRevision
-    ∷ DumpFinding.NodeInFirst ∷ DumpFinding.SourceBefore ∷ DumpFinding.NodeOutside ∷ DumpFinding.NumbersLeft ∷ []
+    dump_wide.NoRevision ∷ dump_wide.OtherNumbers ∷ dump_wide.NumberFalls ∷ dump_wide.UnreadRevision
+    ∷ dump_wide.NodeInFirst ∷ dump_wide.SourceBefore ∷ dump_wide.NodeOutside ∷ dump_wide.NumbersLeft ∷ []
 
 -- whether each of the numbers is above the one before
 abbrev pub rise : List ℕ → Bool
@@ -233,17 +184,17 @@ pub record AreDumpFactsOf (settings : Settings) (records : List DumpRecord) (fac
 
 -- whether this is found in the dump with these records, which has these facts
 abbrev pub is_found_in_dump : Settings → List DumpRecord → DumpFacts → DumpFinding → Bool
-is_found_in_dump settings records facts DumpFinding.NoRevision = length (groups records) == 0
-is_found_in_dump settings records facts DumpFinding.OtherNumbers =
+is_found_in_dump settings records facts dump_wide.NoRevision = length (groups records) == 0
+is_found_in_dump settings records facts dump_wide.OtherNumbers =
     not (counts_from (begins_at records) (revision_numbers records))
-is_found_in_dump settings records facts DumpFinding.NumberFalls = not (rise (revision_numbers records))
-is_found_in_dump settings records facts DumpFinding.UnreadRevision = facts.unread
-is_found_in_dump settings records facts DumpFinding.NodeInFirst =
+is_found_in_dump settings records facts dump_wide.NumberFalls = not (rise (revision_numbers records))
+is_found_in_dump settings records facts dump_wide.UnreadRevision = facts.unread
+is_found_in_dump settings records facts dump_wide.NodeInFirst =
     begins_at records == 0 && first_has_node (groups records)
-is_found_in_dump settings records facts DumpFinding.SourceBefore =
+is_found_in_dump settings records facts dump_wide.SourceBefore =
     has_source_before (begins_at records) (groups records)
-is_found_in_dump settings records facts DumpFinding.NodeOutside = not (has_ordered_nodes Bool.false records)
-is_found_in_dump settings records facts DumpFinding.NumbersLeft = not settings.renumber && facts.named
+is_found_in_dump settings records facts dump_wide.NodeOutside = not (has_ordered_nodes Bool.false records)
+is_found_in_dump settings records facts dump_wide.NumbersLeft = not settings.renumber && facts.named
 
 -- what is found in the dump, in order
 abbrev pub dump_findings : Settings → List DumpRecord → DumpFacts → List DumpFinding

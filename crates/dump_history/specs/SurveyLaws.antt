@@ -15,7 +15,9 @@ use Rattle.dump_history.specs.RecordChanges.{Patching, MakesChange}
 use Rattle.dump_history.specs.DumpChanges.{MakeRevisions}
 use Rattle.dump_history.specs.DumpLaws.{LoadsRestricted, LoadsBehindFolders, FrontLoadsRestricted}
 use Rattle.dump_history.specs.PartLaws.{MakePartRevisions, PartLoadsRestricted}
-use Rattle.dump_history.specs.Findings.{begins_at, Finding, NodeFaults, findings_of, IsReadBlock, AreFindingsOf, is_obstacle, is_alarm, DumpFinding, AreDumpFindingsOf}
+use Rattle.dump_history.specs.Findings.{begins_at, NodeFaults, findings_of, IsReadBlock, AreFindingsOf, is_obstacle, is_alarm, AreDumpFindingsOf}
+use Rattle.dump_history.specs.declared.findings.DumpFinding.{DumpFinding}
+use Rattle.dump_history.specs.declared.findings.Finding.{Finding}
 
 -- each dump has one list of findings as a whole
 abbrev pub DumpFindingsAreOnce : Type 0

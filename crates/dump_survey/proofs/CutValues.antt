@@ -1,6 +1,7 @@
 -- Examples of the prefix that is reported with a copy; the checker computes and proves them.
-use Rattle.dump_survey.proofs.Prelude.{◌≡◌, ℕ, false, List, [], ◌∷◌, Some, None, refl, codes, DumpRecord, Side, Include, Exclude, Pad, Settings, Finding, line, record_at, cutting_prefix}
-use Rattle.dump_survey.specs.Lines.{cut_words, shown_byte}
+use Rattle.dump_survey.proofs.Prelude.{◌≡◌, ℕ, false, List, [], ◌∷◌, Some, None, refl, codes, DumpRecord, Side, Include, Exclude, Pad, Settings, line, record_at, cutting_prefix}
+use Rattle.dump_survey.specs.Lines.{cut_words, shown_byte, shown_control}
+use Rattle.dump_history.specs.declared.findings.Finding.TheVariants as findings
 
 -- a directory `b` that is a copy of `t`
 abbrev copy : DumpRecord
@@ -21,45 +22,45 @@ call side prefixes = record {
 }
 
 -- the first prefix in the order of the call is reported, even if a later prefix names a path that sorts before it
-first_of_two : cutting_prefix (call Exclude (codes "t/g" ∷ codes "t/f" ∷ [])) copy Finding.CopyLoses
+first_of_two : cutting_prefix (call Exclude (codes "t/g" ∷ codes "t/f" ∷ [])) copy findings.CopyLoses
     ≡ Some (codes "t/g")
 first_of_two = refl
 
 -- a prefix of the call that doesn't cut is skipped
-behind_another : cutting_prefix (call Exclude (codes "o" ∷ codes "tt/f" ∷ codes "t/f" ∷ [])) copy Finding.CopyLoses
+behind_another : cutting_prefix (call Exclude (codes "o" ∷ codes "tt/f" ∷ codes "t/f" ∷ [])) copy findings.CopyLoses
     ≡ Some (codes "t/f")
 behind_another = refl
 
 -- a prefix doesn't cut if the same path below the copy is excluded too
 left_out_on_both_sides : cutting_prefix (call Exclude (codes "t/f" ∷ codes "b/f" ∷ codes "t/g" ∷ [])) copy
-    Finding.CopyLoses ≡ Some (codes "t/g")
+    findings.CopyLoses ≡ Some (codes "t/g")
 left_out_on_both_sides = refl
 
 -- each of the two findings has its own prefix
-of_the_copy : cutting_prefix (call Exclude (codes "t/f" ∷ codes "b/g" ∷ [])) copy Finding.CopyLetsIn
+of_the_copy : cutting_prefix (call Exclude (codes "t/f" ∷ codes "b/g" ∷ [])) copy findings.CopyLetsIn
     ≡ Some (codes "b/g")
 of_the_copy = refl
 
-of_no_side : cutting_prefix (call Exclude (codes "o" ∷ [])) copy Finding.CopyLetsIn ≡ None
+of_no_side : cutting_prefix (call Exclude (codes "o" ∷ [])) copy findings.CopyLetsIn ≡ None
 of_no_side = refl
 
 -- the prefix is reported as the caller gave it
-with_its_slashes : cutting_prefix (call Exclude (codes "/t/f//" ∷ [])) copy Finding.CopyLoses
+with_its_slashes : cutting_prefix (call Exclude (codes "/t/f//" ∷ [])) copy findings.CopyLoses
     ≡ Some (codes "/t/f//")
 with_its_slashes = refl
 
 -- under include no prefix cuts, and other findings have no prefix
 
-included : cutting_prefix (call Include (codes "t/f" ∷ [])) copy Finding.CopyLoses ≡ None
+included : cutting_prefix (call Include (codes "t/f" ∷ [])) copy findings.CopyLoses ≡ None
 included = refl
 
-another_finding : cutting_prefix (call Exclude (codes "t/f" ∷ [])) copy Finding.TextReadDifferently ≡ None
+another_finding : cutting_prefix (call Exclude (codes "t/f" ∷ [])) copy findings.TextReadDifferently ≡ None
 another_finding = refl
 
 -- the line shows the prefix byte by byte, if there is one
 
 shown : cut_words (Some (116 ∷ 47 ∷ 27 ∷ 102 ∷ [])) ≡ codes ": prefix t/\\x1bf"
-unfolding cut_words shown_byte
+unfolding cut_words shown_byte shown_control
 shown = refl
 
 nothing_to_show : cut_words None ≡ []

@@ -2,6 +2,7 @@
 use Rattle.dump_survey.proofs.Prelude.{◌≡◌, ℕ, ◌<◌, Bool, true, false, not, ◌&&◌, ◌||◌, List, [], ◌∷◌, ◌++◌, length, map, Option, Some, None, is_some, is_none, if◌then◌else◌, MatchBool, Contains, refl, sym, ap, ◌∙◌, subst, inl, inr, arith, append-nil, append_assoc, last_or, both_ways, and_parts, or_cases, Contains-append_right, FaultKind, Property, first_true, second_true, DumpRecord, Settings, finds, is_revision_record, is_node, is_kept_node, has_lost_source, HasPropertyBlock, group_of, groups, group_number, revision_number, revision_numbers, is_whole_file, stays_copy, ends_in_group, HoldsOfRecord, has_ordered_nodes, go_up, Finding, every_finding, NodeFaults, is_found, has_kept_path, IsReadBlock, AreFindingsOf, rise, IsUnreadRevision, AreDumpFindingsOf, none_passes, numbers_rise, all_read, nodes_stand, NodeReport, reported_in, present_after, IsReportedOfNode, IsReportedOf, AreReported, open_behind, is_digest_fault}
 use Rattle.std.specs.Prelude.{nat_lt}
 use Rattle.dump_text.specs.declared.fault.FaultKind.TheVariants as faults
+use Rattle.dump_history.specs.declared.findings.Finding.TheVariants as findings
 
 -- the order of records
 
@@ -131,23 +132,23 @@ module _ (settings : Settings) (before : List DumpRecord) (r : DumpRecord) (none
   node_digests faults.Sha1 h order = refl
   node_digests faults.Order h order = absurd (order h)
   node_digests faults.Props (kept, bad) order =
-      absurd (bad (read_there block none.2 (absent Finding.UnreadBlock (0, omega arith, refl))))
+      absurd (bad (read_there block none.2 (absent findings.UnreadBlock (0, omega arith, refl))))
   node_digests faults.CopySource h order =
       let lost = first_true (is_kept_node settings r && has_lost_source settings r) (not (is_whole_file r)) h in
-      absurd (absent Finding.NoWholeFile (4, omega arith, refl)
+      absurd (absent findings.NoWholeFile (4, omega arith, refl)
       (rw (
         second_true (is_node r) (has_kept_path settings r) (first_true (is_kept_node settings r) (has_lost_source settings r) lost),
         second_true (is_kept_node settings r) (has_lost_source settings r) lost,
         second_true (is_kept_node settings r && has_lost_source settings r) (not (is_whole_file r)) h,
       ) refl))
   node_digests faults.CopyRevision h order =
-      absurd (absent Finding.MissingCopyRevision (5, omega arith, refl) (none.3.copy_revision.1 h))
+      absurd (absent findings.MissingCopyRevision (5, omega arith, refl) (none.3.copy_revision.1 h))
   node_digests faults.MergeInfo h order =
-      absurd (absent Finding.UnreadMergeinfo (6, omega arith, refl) (none.3.unread.1 h))
+      absurd (absent findings.UnreadMergeinfo (6, omega arith, refl) (none.3.unread.1 h))
   node_digests faults.MergeSource h order =
-      absurd (absent Finding.MissingMergeSource (7, omega arith, refl) (none.3.missing.1 h))
+      absurd (absent findings.MissingMergeSource (7, omega arith, refl) (none.3.missing.1 h))
   node_digests faults.MergeRange h order =
-      absurd (absent Finding.MissingMergeRevision (8, omega arith, refl) (none.3.outside.1 h))
+      absurd (absent findings.MissingMergeRevision (8, omega arith, refl) (none.3.outside.1 h))
   node_digests faults.HeaderCut h order = absurd h
   node_digests faults.Header h order = absurd h
   node_digests faults.Kind h order = absurd h

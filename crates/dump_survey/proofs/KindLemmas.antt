@@ -1,46 +1,47 @@
 -- How often each kind is reported of nodes, node by node.
-use Rattle.dump_survey.proofs.Prelude.{◌≡◌, ◌≤◌, ℕ, ◌+◌, ◌==◌, Bool, true, false, List, [], ◌∷◌, ◌++◌, length, get_or, map, flat_map, filter, cond, refl, sym, ap, ap₂, ◌∙◌, arith, list_any, eqb-true, or_parts, Finding, every_finding, Counts, Found, SurveyedNode, finding_place, times_reported, NodeReport, AreWithNode, count_in, no_counts, has_found, listed, reported_of_node}
+use Rattle.dump_survey.proofs.Prelude.{◌≡◌, ◌≤◌, ℕ, ◌+◌, ◌==◌, Bool, true, false, List, [], ◌∷◌, ◌++◌, length, get_or, map, flat_map, filter, cond, refl, sym, ap, ap₂, ◌∙◌, arith, list_any, eqb-true, or_parts, Finding, every_finding, Counts, Found, SurveyedNode, finding_place, times_reported, NodeReport, AreWithNode, count_in, has_found, listed, reported_of_node}
+use Rattle.dump_history.specs.declared.findings.Finding.TheVariants as findings
 
 -- the index of a finding determines it
-at_place : (f : Finding) → get_or every_finding (finding_place f) Finding.UnreadBlock ≡ f
-at_place Finding.UnreadBlock = refl
-at_place Finding.Delta = refl
-at_place Finding.UnknownAction = refl
-at_place Finding.TextReadDifferently = refl
-at_place Finding.NoWholeFile = refl
-at_place Finding.MissingCopyRevision = refl
-at_place Finding.UnreadMergeinfo = refl
-at_place Finding.MissingMergeSource = refl
-at_place Finding.MissingMergeRevision = refl
-at_place Finding.PropertiesLost = refl
-at_place Finding.CopyLoses = refl
-at_place Finding.CopyLetsIn = refl
-at_place Finding.FolderTakes = refl
-at_place Finding.FolderBrings = refl
-at_place Finding.TextComesIn = refl
+at_place : (f : Finding) → get_or every_finding (finding_place f) findings.UnreadBlock ≡ f
+at_place findings.UnreadBlock = refl
+at_place findings.Delta = refl
+at_place findings.UnknownAction = refl
+at_place findings.TextReadDifferently = refl
+at_place findings.NoWholeFile = refl
+at_place findings.MissingCopyRevision = refl
+at_place findings.UnreadMergeinfo = refl
+at_place findings.MissingMergeSource = refl
+at_place findings.MissingMergeRevision = refl
+at_place findings.PropertiesLost = refl
+at_place findings.CopyLoses = refl
+at_place findings.CopyLetsIn = refl
+at_place findings.FolderTakes = refl
+at_place findings.FolderBrings = refl
+at_place findings.TextComesIn = refl
 
-same_place : (f g : Finding) → (finding_place g == finding_place f) ≡ true → g ≡ f
+pub same_place : (f g : Finding) → (finding_place g == finding_place f) ≡ true → g ≡ f
 same_place f g is = sym (at_place g)
-    ∙ (ap (λ n. get_or every_finding n Finding.UnreadBlock) (eqb-true (finding_place g) (finding_place f) is)
+    ∙ (ap (λ n. get_or every_finding n findings.UnreadBlock) (eqb-true (finding_place g) (finding_place f) is)
     ∙ at_place f)
 
 -- each finding occurs once in the list of all findings
 once : (f : Finding) → length (filter (λ g. finding_place g == finding_place f) every_finding) ≡ 1
-once Finding.UnreadBlock = refl
-once Finding.Delta = refl
-once Finding.UnknownAction = refl
-once Finding.TextReadDifferently = refl
-once Finding.NoWholeFile = refl
-once Finding.MissingCopyRevision = refl
-once Finding.UnreadMergeinfo = refl
-once Finding.MissingMergeSource = refl
-once Finding.MissingMergeRevision = refl
-once Finding.PropertiesLost = refl
-once Finding.CopyLoses = refl
-once Finding.CopyLetsIn = refl
-once Finding.FolderTakes = refl
-once Finding.FolderBrings = refl
-once Finding.TextComesIn = refl
+once findings.UnreadBlock = refl
+once findings.Delta = refl
+once findings.UnknownAction = refl
+once findings.TextReadDifferently = refl
+once findings.NoWholeFile = refl
+once findings.MissingCopyRevision = refl
+once findings.UnreadMergeinfo = refl
+once findings.MissingMergeSource = refl
+once findings.MissingMergeRevision = refl
+once findings.PropertiesLost = refl
+once findings.CopyLoses = refl
+once findings.CopyLetsIn = refl
+once findings.FolderTakes = refl
+once findings.FolderBrings = refl
+once findings.TextComesIn = refl
 
 -- an element that is put in front if a test passes adds one to the length if it does
 counted : {X : Type 0} (b : Bool) (x : X) (xs : List X) → length (cond b (x ∷ xs) xs) ≡ cond b (length xs + 1) (length xs)
@@ -100,24 +101,6 @@ module _ (f : Finding) where
           ≡ length (cond b (x ∷ filter here xs) (filter here xs)) + length (filter here ys)
       by true more = omega (arith, more)
       by false more = more
-
--- the first counts are 0
-pub none_counted : (f : Finding) → count_in no_counts f ≡ 0
-none_counted Finding.UnreadBlock = refl
-none_counted Finding.Delta = refl
-none_counted Finding.UnknownAction = refl
-none_counted Finding.TextReadDifferently = refl
-none_counted Finding.NoWholeFile = refl
-none_counted Finding.MissingCopyRevision = refl
-none_counted Finding.UnreadMergeinfo = refl
-none_counted Finding.MissingMergeSource = refl
-none_counted Finding.MissingMergeRevision = refl
-none_counted Finding.PropertiesLost = refl
-none_counted Finding.CopyLoses = refl
-none_counted Finding.CopyLetsIn = refl
-none_counted Finding.FolderTakes = refl
-none_counted Finding.FolderBrings = refl
-none_counted Finding.TextComesIn = refl
 
 -- no count is above the number of records
 pub low_with_node : (old new : Counts) (node : SurveyedNode) (count : ℕ) → ((f : Finding) → count_in old f ≤ count)

@@ -1,4 +1,5 @@
 mod Prelude
+pub mod CountLemmas
 pub mod CutLemmas
 mod CutValues
 pub mod DigestLemmas
@@ -18,10 +19,12 @@ pub mod MergeinfoLemmas
 pub mod NamedLemmas
 pub mod NeedLemmas
 pub mod NumberLemmas
+pub mod OnceLemmas
 pub mod PlaceLemmas
 pub mod PrefixLemmas
 mod PrefixValues
 pub mod RefusedLemmas
+pub mod RowLemmas
 pub mod ReportedLemmas
 pub mod RevisionMapLemmas
 mod RevisionMapValues
@@ -31,5 +34,6 @@ pub mod SurveyTextLemmas
 pub mod SurveyorLemmas
 pub mod TallyLemmas
 pub mod TieLemmas
+pub mod TieValues
 pub mod UnreadLemmas
 pub mod WritingLemmas

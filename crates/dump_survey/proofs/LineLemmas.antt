@@ -15,23 +15,17 @@ lines_of_those test line (f ∷ fs) = by (test f) (lines_of_those test line fs)
     by false more = more
 
 -- the lines of the findings in the dump as a whole, each if it is found
-abbrev pub lines_if : (DumpFinding → List ℕ) → DumpFindings → List (List ℕ)
-lines_if line found = cond found.no_revision (line DumpFinding.NoRevision) []
-    ∷ cond found.other_numbers (line DumpFinding.OtherNumbers) []
-    ∷ cond found.number_falls (line DumpFinding.NumberFalls) []
-    ∷ cond found.unread_revision (line DumpFinding.UnreadRevision) []
-    ∷ cond found.node_in_first (line DumpFinding.NodeInFirst) []
-    ∷ cond found.source_before (line DumpFinding.SourceBefore) []
-    ∷ cond found.node_outside (line DumpFinding.NodeOutside) []
-    ∷ cond found.numbers_left (line DumpFinding.NumbersLeft) [] ∷ []
+abbrev pub lines_if : (DumpFinding → List ℕ) → DumpFindings → List DumpFinding → List ℕ
+lines_if line found fs = flat_map (λ f. cond (has_dump_finding found f) (line f) []) fs
 
 pub dump_lines : (line : DumpFinding → List ℕ) (found : DumpFindings)
-    → flat_map line (listed_findings found) ≡ concat (lines_if line found)
+    → flat_map line (listed_findings found) ≡ lines_if line found every_dump_finding
 dump_lines line found = lines_of_those (λ f. has_dump_finding found f) line every_dump_finding
 
 -- the lines of their reports at the end, one after the other
 pub reported_lines : (end : SurveyEnd)
-    → flat_map dump_line (reported_at_end end) ≡ concat (lines_if (λ f. dump_line (reported_of_dump end f)) end.dump)
+    → flat_map dump_line (reported_at_end end)
+    ≡ lines_if (λ f. dump_line (reported_of_dump end f)) end.dump every_dump_finding
 reported_lines end = each (listed_findings end.dump) ∙ dump_lines (λ f. dump_line (reported_of_dump end f)) end.dump
   where
     each : (fs : List DumpFinding)

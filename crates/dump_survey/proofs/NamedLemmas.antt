@@ -1,6 +1,7 @@
 -- A prefix is reported with each copy that is cut differently from its source, and with nothing else.
 use Rattle.dump_survey.proofs.Prelude.{◌≡◌, ℕ, Bool, true, false, ◌&&◌, List, [], ◌∷◌, ◌++◌, length, map, filter, cond, Option, Some, None, is_some, MatchBool, refl, sym, ap, ap₂, ◌∙◌, map-append, Property, DumpRecord, Settings, is_node, node_path, copy_path, Finding, NodeFaults, cuts, every_finding, has_kept_path, has_kept_source, is_found, makes_copy, cutting_prefix, tells_cut, EachCutNamesPrefix, NodeReport, reported_in, present_after, IsReportedOfNode, IsReportedOf, AreReported}
 use Rattle.dump_survey.proofs.CutLemmas.{cut_there}
+use Rattle.dump_history.specs.declared.findings.Finding.TheVariants as findings
 
 -- for each report, whether it has a prefix
 abbrev named : List NodeReport → List Bool
@@ -17,25 +18,25 @@ last_holds false b c d is = cc
 
 module _ (settings : Settings) (r : DumpRecord) (ps : Option (List Property)) (m : NodeFaults) where
   found_named : (f : Finding) → is_found settings r ps m f ≡ true → is_some (cutting_prefix settings r f) ≡ tells_cut f
-  found_named Finding.UnreadBlock is = refl
-  found_named Finding.Delta is = refl
-  found_named Finding.UnknownAction is = refl
-  found_named Finding.TextReadDifferently is = refl
-  found_named Finding.NoWholeFile is = refl
-  found_named Finding.MissingCopyRevision is = refl
-  found_named Finding.UnreadMergeinfo is = refl
-  found_named Finding.MissingMergeSource is = refl
-  found_named Finding.MissingMergeRevision is = refl
-  found_named Finding.PropertiesLost is = refl
-  found_named Finding.CopyLoses is = cut_there settings (copy_path r) (node_path r)
+  found_named findings.UnreadBlock is = refl
+  found_named findings.Delta is = refl
+  found_named findings.UnknownAction is = refl
+  found_named findings.TextReadDifferently is = refl
+  found_named findings.NoWholeFile is = refl
+  found_named findings.MissingCopyRevision is = refl
+  found_named findings.UnreadMergeinfo is = refl
+  found_named findings.MissingMergeSource is = refl
+  found_named findings.MissingMergeRevision is = refl
+  found_named findings.PropertiesLost is = refl
+  found_named findings.CopyLoses is = cut_there settings (copy_path r) (node_path r)
       ∙ last_holds (has_kept_path settings r) (makes_copy r) (has_kept_source settings r)
       (cuts settings (copy_path r) (node_path r)) is
-  found_named Finding.CopyLetsIn is = cut_there settings (node_path r) (copy_path r)
+  found_named findings.CopyLetsIn is = cut_there settings (node_path r) (copy_path r)
       ∙ last_holds (has_kept_path settings r) (makes_copy r) (has_kept_source settings r)
       (cuts settings (node_path r) (copy_path r)) is
-  found_named Finding.FolderTakes is = refl
-  found_named Finding.FolderBrings is = refl
-  found_named Finding.TextComesIn is = refl
+  found_named findings.FolderTakes is = refl
+  found_named findings.FolderBrings is = refl
+  found_named findings.TextComesIn is = refl
 
   all_named : (number revision : ℕ) (fs : List Finding)
       → named (map (reported_in settings number revision r) (filter (λ f. is_found settings r ps m f) fs))

@@ -1,63 +1,64 @@
 -- The records that cause the findings in a dump as a whole.
 use Rattle.dump_survey.proofs.Prelude.{◌≡◌, ◌⊎◌, ℕ, ◌<◌, ◌==◌, Bool, true, false, not, ◌&&◌, ◌||◌, List, [], ◌∷◌, ◌++◌, length, get_or, map, filter, cond, Contains, Option, Some, None, MatchBool, refl, sym, ap, ap₂, ◌∙◌, subst, inl, inr, append-nil, append_assoc, arith, AllZip, list_any, both_ways, eqb-true, false_from_ne_true, list_any_at, DumpRecord, Settings, found, finds, DumpFinding, every_dump_finding, HasUnreadRevision, AreDumpFindingsOf, dump_findings_once, DumpPlaces, Place, SurveyEnd, DumpFindings, has_dump_finding, listed_findings, DumpReport, place_in, reported_at_end, IsDumpFinding, comes_up, IsNeverFound, ComesUpAt, CameUp, ArePlaces, IsDumpReport, AreDumpReports, no_places, first_place, AreNextPlaces}
+use Rattle.dump_history.specs.declared.findings.DumpFinding.TheVariants as dump_wide
 
 -- the index of a finding in the list of all findings
 abbrev place_among : DumpFinding → ℕ
-place_among DumpFinding.NoRevision = 0
-place_among DumpFinding.OtherNumbers = 1
-place_among DumpFinding.NumberFalls = 2
-place_among DumpFinding.UnreadRevision = 3
-place_among DumpFinding.NodeInFirst = 4
-place_among DumpFinding.SourceBefore = 5
-place_among DumpFinding.NodeOutside = 6
-place_among DumpFinding.NumbersLeft = 7
+place_among dump_wide.NoRevision = 0
+place_among dump_wide.OtherNumbers = 1
+place_among dump_wide.NumberFalls = 2
+place_among dump_wide.UnreadRevision = 3
+place_among dump_wide.NodeInFirst = 4
+place_among dump_wide.SourceBefore = 5
+place_among dump_wide.NodeOutside = 6
+place_among dump_wide.NumbersLeft = 7
 
 -- the finding with this index
 abbrev at_place : ℕ → DumpFinding
-at_place n = get_or every_dump_finding n DumpFinding.NoRevision
+at_place n = get_or every_dump_finding n dump_wide.NoRevision
 
 back : (f : DumpFinding) → at_place (place_among f) ≡ f
-back DumpFinding.NoRevision = refl
-back DumpFinding.OtherNumbers = refl
-back DumpFinding.NumberFalls = refl
-back DumpFinding.UnreadRevision = refl
-back DumpFinding.NodeInFirst = refl
-back DumpFinding.SourceBefore = refl
-back DumpFinding.NodeOutside = refl
-back DumpFinding.NumbersLeft = refl
+back dump_wide.NoRevision = refl
+back dump_wide.OtherNumbers = refl
+back dump_wide.NumberFalls = refl
+back dump_wide.UnreadRevision = refl
+back dump_wide.NodeInFirst = refl
+back dump_wide.SourceBefore = refl
+back dump_wide.NodeOutside = refl
+back dump_wide.NumbersLeft = refl
 
 every_there : (f : DumpFinding) → list_any (λ g. place_among g == place_among f) every_dump_finding ≡ true
-every_there DumpFinding.NoRevision = refl
-every_there DumpFinding.OtherNumbers = refl
-every_there DumpFinding.NumberFalls = refl
-every_there DumpFinding.UnreadRevision = refl
-every_there DumpFinding.NodeInFirst = refl
-every_there DumpFinding.SourceBefore = refl
-every_there DumpFinding.NodeOutside = refl
-every_there DumpFinding.NumbersLeft = refl
+every_there dump_wide.NoRevision = refl
+every_there dump_wide.OtherNumbers = refl
+every_there dump_wide.NumberFalls = refl
+every_there dump_wide.UnreadRevision = refl
+every_there dump_wide.NodeInFirst = refl
+every_there dump_wide.SourceBefore = refl
+every_there dump_wide.NodeOutside = refl
+every_there dump_wide.NumbersLeft = refl
 
 same_place : (f g : DumpFinding) → (place_among g == place_among f) ≡ true → g ≡ f
 same_place f g is = sym (back g) ∙ (ap at_place (eqb-true (place_among g) (place_among f) is) ∙ back f)
 
 within : (f : DumpFinding) → place_among f < length every_dump_finding
-within DumpFinding.NoRevision = omega arith
-within DumpFinding.OtherNumbers = omega arith
-within DumpFinding.NumberFalls = omega arith
-within DumpFinding.UnreadRevision = omega arith
-within DumpFinding.NodeInFirst = omega arith
-within DumpFinding.SourceBefore = omega arith
-within DumpFinding.NodeOutside = omega arith
-within DumpFinding.NumbersLeft = omega arith
+within dump_wide.NoRevision = omega arith
+within dump_wide.OtherNumbers = omega arith
+within dump_wide.NumberFalls = omega arith
+within dump_wide.UnreadRevision = omega arith
+within dump_wide.NodeInFirst = omega arith
+within dump_wide.SourceBefore = omega arith
+within dump_wide.NodeOutside = omega arith
+within dump_wide.NumbersLeft = omega arith
 
 refl_place : (f : DumpFinding) → (place_among f == place_among f) ≡ true
-refl_place DumpFinding.NoRevision = refl
-refl_place DumpFinding.OtherNumbers = refl
-refl_place DumpFinding.NumberFalls = refl
-refl_place DumpFinding.UnreadRevision = refl
-refl_place DumpFinding.NodeInFirst = refl
-refl_place DumpFinding.SourceBefore = refl
-refl_place DumpFinding.NodeOutside = refl
-refl_place DumpFinding.NumbersLeft = refl
+refl_place dump_wide.NoRevision = refl
+refl_place dump_wide.OtherNumbers = refl
+refl_place dump_wide.NumberFalls = refl
+refl_place dump_wide.UnreadRevision = refl
+refl_place dump_wide.NodeInFirst = refl
+refl_place dump_wide.SourceBefore = refl
+refl_place dump_wide.NodeOutside = refl
+refl_place dump_wide.NumbersLeft = refl
 
 -- whether a finding is one of these
 abbrev is_among : DumpFinding → List DumpFinding → Bool
@@ -87,14 +88,14 @@ has_or_not settings records f =
         let bad : true ≡ false = sym some ∙ none in cc)
 
 -- without records the only finding is that there is no revision
-one_alone : (f : DumpFinding) → Contains (DumpFinding.NoRevision ∷ []) f → comes_up f ≡ true → ⊥
+one_alone : (f : DumpFinding) → Contains (dump_wide.NoRevision ∷ []) f → comes_up f ≡ true → ⊥
 one_alone f there up =
-    let same = same_place f DumpFinding.NoRevision (by (among_back f (DumpFinding.NoRevision ∷ []) there)) in
+    let same = same_place f dump_wide.NoRevision (by (among_back f (dump_wide.NoRevision ∷ []) there)) in
     let bad : false ≡ true = ap comes_up same ∙ up in cc
   where
-    by : (place_among DumpFinding.NoRevision == place_among f || false) ≡ true
-        → (place_among DumpFinding.NoRevision == place_among f) ≡ true
-    by some = sides (place_among DumpFinding.NoRevision == place_among f) some
+    by : (place_among dump_wide.NoRevision == place_among f || false) ≡ true
+        → (place_among dump_wide.NoRevision == place_among f) ≡ true
+    by some = sides (place_among dump_wide.NoRevision == place_among f) some
       where
         sides : (b : Bool) → (b || false) ≡ true → b ≡ true
         sides true is = refl
@@ -109,10 +110,10 @@ none_of_none settings f up (fs, (facts, are, same), there) =
 
     -- the findings, except the one about unread revisions
     rest : Bool → Bool → List DumpFinding
-    rest renumber b = cond (not renumber && b) (DumpFinding.NumbersLeft ∷ []) []
+    rest renumber b = cond (not renumber && b) (dump_wide.NumbersLeft ∷ []) []
 
     by : (u : Bool) → (u ≡ true → ⊥) → (b : Bool) → (b ≡ true → ⊥) → (renumber : Bool)
-        → fs ≡ DumpFinding.NoRevision ∷ cond u (DumpFinding.UnreadRevision ∷ rest renumber b) (rest renumber b) → ⊥
+        → fs ≡ dump_wide.NoRevision ∷ cond u (dump_wide.UnreadRevision ∷ rest renumber b) (rest renumber b) → ⊥
     by true none b unnamed renumber is = none refl
     by false none true unnamed renumber is = unnamed refl
     by false none false unnamed true is = one_alone f (subst (λ l. Contains l f) is there) up
@@ -292,14 +293,14 @@ module _ (settings : Settings) (records : List DumpRecord) (flags : DumpFindings
 
 -- before the first record no record has caused a finding
 pub no_places_yet : (settings : Settings) → ArePlaces settings [] no_places
-no_places_yet settings DumpFinding.NoRevision up = cc
-no_places_yet settings DumpFinding.OtherNumbers up = never_at_first settings DumpFinding.OtherNumbers refl
-no_places_yet settings DumpFinding.NumberFalls up = never_at_first settings DumpFinding.NumberFalls refl
-no_places_yet settings DumpFinding.UnreadRevision up = never_at_first settings DumpFinding.UnreadRevision refl
-no_places_yet settings DumpFinding.NodeInFirst up = never_at_first settings DumpFinding.NodeInFirst refl
-no_places_yet settings DumpFinding.SourceBefore up = never_at_first settings DumpFinding.SourceBefore refl
-no_places_yet settings DumpFinding.NodeOutside up = never_at_first settings DumpFinding.NodeOutside refl
-no_places_yet settings DumpFinding.NumbersLeft up = never_at_first settings DumpFinding.NumbersLeft refl
+no_places_yet settings dump_wide.NoRevision up = cc
+no_places_yet settings dump_wide.OtherNumbers up = never_at_first settings dump_wide.OtherNumbers refl
+no_places_yet settings dump_wide.NumberFalls up = never_at_first settings dump_wide.NumberFalls refl
+no_places_yet settings dump_wide.UnreadRevision up = never_at_first settings dump_wide.UnreadRevision refl
+no_places_yet settings dump_wide.NodeInFirst up = never_at_first settings dump_wide.NodeInFirst refl
+no_places_yet settings dump_wide.SourceBefore up = never_at_first settings dump_wide.SourceBefore refl
+no_places_yet settings dump_wide.NodeOutside up = never_at_first settings dump_wide.NodeOutside refl
+no_places_yet settings dump_wide.NumbersLeft up = never_at_first settings dump_wide.NumbersLeft refl
 
 -- the places after one more record
 pub places_next : (settings : Settings) (before : List DumpRecord) (r : DumpRecord) (old new : DumpPlaces)
@@ -354,14 +355,14 @@ reported_where_ended settings records end are places = (
             → (p : Place) × (o ≡ Some p) × ComesUpAt settings records f p
         came None none = absurd (not_now settings f records none some)
         came (Some p) at = (p, refl, at)
-    one DumpFinding.NoRevision some false up = refl
-    one DumpFinding.OtherNumbers some false up = cc
-    one DumpFinding.NumberFalls some false up = cc
-    one DumpFinding.UnreadRevision some false up = cc
-    one DumpFinding.NodeInFirst some false up = cc
-    one DumpFinding.SourceBefore some false up = cc
-    one DumpFinding.NodeOutside some false up = cc
-    one DumpFinding.NumbersLeft some false up = cc
+    one dump_wide.NoRevision some false up = refl
+    one dump_wide.OtherNumbers some false up = cc
+    one dump_wide.NumberFalls some false up = cc
+    one dump_wide.UnreadRevision some false up = cc
+    one dump_wide.NodeInFirst some false up = cc
+    one dump_wide.SourceBefore some false up = cc
+    one dump_wide.NodeOutside some false up = cc
+    one dump_wide.NumbersLeft some false up = cc
 
     those : (fs : List DumpFinding) → ((f : DumpFinding) → Contains fs f → IsDumpFinding settings records f)
         → AllZip (IsDumpReport settings records) fs (map (λ f. record { finding = f; at = place_in end.places f }) fs)
@@ -393,5 +394,5 @@ none_comes_up old flags here none f up =
 
     not_found : has_dump_finding flags f ≡ false
     not_found = false_from_ne_true _ (λ is. both_ways _ none
-        (list_any_at (has_dump_finding flags) every_dump_finding (place_among f) DumpFinding.NoRevision (within f)
+        (list_any_at (has_dump_finding flags) every_dump_finding (place_among f) dump_wide.NoRevision (within f)
         (ap (has_dump_finding flags) (back f) ∙ is)))

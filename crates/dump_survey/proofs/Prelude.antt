@@ -47,7 +47,7 @@ pub use Rattle.dump_history.proofs.survey.NamingTest.{behind_told, dump_findings
 pub use Rattle.dump_history.proofs.survey.SurveyLemmas.{all_read, nodes_stand, numbers_rise, surveyed_dump}
 pub use Rattle.dump_history.proofs.values.WorkedDump.{line, one, other, record_at, records, three, trunk, two, version}
 pub use Rattle.dump_history.specs.DumpChanges.{counts_from, has_ordered_nodes}
-pub use Rattle.dump_history.specs.Findings.{AreDumpFindingsOf, AreFindingsOf, AreNodeFaultsOf, DumpFinding, Finding, HasUnreadRevision, IsReadBlock, IsUnreadRevision, NodeFaults, begins_at, copies_from_before, cuts, every_dump_finding, every_finding, first_has_node, has_kept_path, has_kept_source, has_source_before, is_alarm, is_exclude, is_found, is_found_in_dump, is_obstacle, makes_copy, rise}
+pub use Rattle.dump_history.specs.Findings.{AreDumpFindingsOf, AreFindingsOf, AreNodeFaultsOf, HasUnreadRevision, IsReadBlock, IsUnreadRevision, NodeFaults, begins_at, copies_from_before, cuts, every_dump_finding, every_finding, first_has_node, has_kept_path, has_kept_source, has_source_before, is_alarm, is_exclude, is_found, is_found_in_dump, is_obstacle, makes_copy, rise}
 pub use Rattle.dump_history.specs.NumberGaps.{NamesRevision, SetsMergeinfo, go_up}
 pub use Rattle.dump_history.specs.RecordChanges.{Patching, copy_path, is_plain_line, makes}
 pub use Rattle.dump_history.specs.SurveyLaws.{AreFindingsBehind, DumpRestricts, HaveFindingsBehind, none_is}
@@ -84,11 +84,11 @@ pub use Rattle.dump_survey.specs.DumpFindings.{has_dump_finding, listed_findings
 pub use Rattle.dump_survey.specs.DumpReport.{AreDumpReports, ArePlaces, CameUp, ComesUpAt, DumpReport, IsDumpFinding, IsDumpReport, IsNeverFound, comes_up, place_in, reported_at_end}
 pub use Rattle.dump_survey.specs.Folders.{AreFoldersToMake, each_once, fronts, left_above, paths_above, with_new}
 pub use Rattle.dump_survey.specs.PrefixesToAdd.{ArePrefixesToAdd, ArePrefixesToAddIn, AreWanted, are_apart, covers, is_wanted, matches_itself, stops_at, stops_somewhere, uncovered, wanted_path, with_prefixes}
-pub use Rattle.dump_survey.specs.Kinds.{ending_kind_line, finding_kind, finding_place, kind_line, kind_lines, prefix_kind, times_in_prefixes, times_reported}
+pub use Rattle.dump_survey.specs.Kinds.{ending_kind_line, finding_place, kind_line, kind_lines, prefix_kind, times_in_prefixes, times_reported}
 pub use Rattle.dump_survey.specs.LeftOutMergeinfo.{AddUpTo, AreLeftOutIn, AreLeftOutOf, AreLeftOutOfProperties, AreLeftOutOfRecords, AreLeftOutOfValue, leaving_lines, mergeinfo_values}
-pub use Rattle.dump_survey.specs.Lines.{dump_line, finding_words, shown_path, tells_source}
+pub use Rattle.dump_survey.specs.FindingRows.{finding_row}
+pub use Rattle.dump_survey.specs.Lines.{dump_line, shown_path}
 pub use Rattle.dump_survey.specs.AdviceLines.{TakesSome, folder_lines}
-pub use Rattle.dump_survey.specs.Meaning.{meaning}
 pub use Rattle.dump_survey.specs.PrefixFindings.{PrefixReport, is_short_prefix, prefix_finding, prefix_view, reported_of_prefix, reported_prefixes}
 pub use Rattle.dump_survey.specs.PrefixLines.{prefix_lines}
 pub use Rattle.dump_survey.specs.RevisionMap.{map_lines}
@@ -96,7 +96,7 @@ pub use Rattle.dump_survey.specs.SurveyEnds.{survey_ending}
 pub use Rattle.dump_survey.specs.SurveyText.{BreaksOffSurvey, FindsNothing, IsSurveyText, survey_lines}
 pub use Rattle.dump_survey.specs.SurveyTies.{EachCutNamesPrefix, SilentSurveyRestricts, SilentTextLeavesDigests, SilentTextRestricts, ReportsAreFindings, ReportedOnce, all_findings, is_digest_fault, none_reported, tells_cut}
 pub use Rattle.dump_survey.specs.Reported.{AreReported, IsReportedOf, IsReportedOfNode, NodeReport, present_after, reported_in, reported_naming, reported_view}
-pub use Rattle.dump_survey.specs.steps.Counts.{AreWithNode, count_in, no_counts}
+pub use Rattle.dump_survey.specs.steps.Counts.{AreWithNode, count_in}
 pub use Rattle.dump_survey.specs.steps.Folders.{BeginSame, HaveSame}
 pub use Rattle.dump_survey.specs.steps.Found.{AreFaultsBy, IsFoundIn, has_found, listed, node_faults}
 pub use Rattle.dump_survey.specs.steps.IdlePrefixes.{AreIdle, AreWithout, is_among, is_begun_by, is_below_copy, is_touched_by, prefixes_by, reported_by}
@@ -137,7 +137,6 @@ pub use Rattle.dump_rules.specs.declared.options.Side.TheVariants.{Exclude, Incl
 pub use Rattle.dump_survey.specs.declared.report.counts.Counts.{Counts}
 pub use Rattle.dump_survey.specs.declared.findings.node_finding.Found.{Found}
 pub use Rattle.dump_survey.specs.declared.findings.node_finding.Losses.{Losses}
-pub use Rattle.dump_survey.specs.declared.findings.node_finding.NodeFinding.{NodeFinding}
 pub use Rattle.dump_survey.specs.declared.report.revision_map.KeptNumbers.{KeptNumbers}
 pub use Rattle.dump_survey.specs.declared.advice.copy_needs.CopyNeed.{CopyNeed}
 pub use Rattle.dump_survey.specs.declared.findings.places.DumpPlaces.{DumpPlaces}
@@ -160,3 +159,5 @@ pub use Rattle.dump_text.specs.declared.fault.FaultKind.{FaultKind}
 pub use Rattle.dump_text.specs.declared.fault.FaultKind.TheVariants.{CopySource}
 pub use Rattle.dump_text.specs.declared.props.Entry.{Entry}
 pub use Rattle.dump_text.specs.declared.props.Props.{Props}
+pub use Rattle.dump_history.specs.declared.findings.DumpFinding.{DumpFinding}
+pub use Rattle.dump_history.specs.declared.findings.Finding.{Finding}

@@ -1,9 +1,11 @@
 -- If nothing that matters is reported, nothing that matters is found in the groups.
 use Rattle.dump_survey.proofs.Prelude.{◌≡◌, ℕ, Bool, true, false, not, ◌&&◌, ◌||◌, ◌==◌, List, [], ◌∷◌, ◌++◌, length, flat_map, map, None, IsTrue, IsFalse, refl, sym, ap, ◌∙◌, subst, arith, append-nil, append_assoc, list_all, list_any, and_from, ne_eqb, first_true, second_true, both_true, first_false, second_false, not_true, not_false, not_so, false_true, records_once, DumpRecord, Ending, HasRecords, FaultKind, CopySource, Settings, keeps_path, is_node, node_path, has_lost_source, is_whole_file, HoldsOfRecord, LengthsFit, IsCleanText, Patching, Finding, DumpFinding, AreDumpFindingsOf, is_obstacle, is_alarm, none_is, DumpRestricts, surveyed_dump, DumpReport, place_in, AreDumpReports, reported_prefixes, prefix_lines, NodeReport, reported_view, AreReported, survey_ending, all_findings, none_reported, SilentSurveyRestricts, SilentTextRestricts, SilentTextLeavesDigests, is_digest_fault, IsSurveyText, FindsNothing, stops_at, stops_somewhere, wanted_path, matches_itself, ArePrefixesToAddIn, AreAddedPrefixLines}
-use Rattle.dump_survey.specs.Lines.{node_line, dump_line, dump_words, broken_line, ending_line}
+use Rattle.dump_survey.specs.FindingRows.{dump_row}
+use Rattle.dump_survey.specs.Lines.{node_line, dump_line, broken_line, ending_line}
 use Rattle.dump_survey.proofs.DigestLemmas.{digests_alone}
 use Rattle.dump_survey.proofs.PlaceLemmas.{nothing_found}
 use Rattle.dump_survey.proofs.TieLemmas.{reported_are_findings}
+use Rattle.dump_history.specs.declared.findings.DumpFinding.TheVariants as dump_wide
 
 any_both : (test : Finding → Bool) (xs ys : List Finding)
     → list_any test (xs ++ ys) ≡ (list_any test xs || list_any test ys)
@@ -76,16 +78,16 @@ no_lines [] none = refl
 no_lines (t ∷ reported) none = cc
 
 -- the line of a finding in the dump as a whole isn't empty
-some_words : (f : DumpFinding) → dump_words f ≡ [] → ⊥
-unfolding dump_words
-some_words DumpFinding.NoRevision none = cc
-some_words DumpFinding.OtherNumbers none = cc
-some_words DumpFinding.NumberFalls none = cc
-some_words DumpFinding.UnreadRevision none = cc
-some_words DumpFinding.NodeInFirst none = cc
-some_words DumpFinding.SourceBefore none = cc
-some_words DumpFinding.NodeOutside none = cc
-some_words DumpFinding.NumbersLeft none = cc
+some_words : (f : DumpFinding) → (dump_row f).words ≡ [] → ⊥
+unfolding dump_row
+some_words dump_wide.NoRevision none = cc
+some_words dump_wide.OtherNumbers none = cc
+some_words dump_wide.NumberFalls none = cc
+some_words dump_wide.UnreadRevision none = cc
+some_words dump_wide.NodeInFirst none = cc
+some_words dump_wide.SourceBefore none = cc
+some_words dump_wide.NodeOutside none = cc
+some_words dump_wide.NumbersLeft none = cc
 
 -- the line about the end of the list of records isn't empty
 no_ending : (count : ℕ) (ending : Ending) → ending_line count ending ≡ [] → ending ≡ Ending.Whole
@@ -97,7 +99,7 @@ no_dump_lines : (reported : List DumpReport) → flat_map dump_line reported ≡
 unfolding dump_line
 no_dump_lines [] none = refl
 no_dump_lines (t ∷ reported) none = absurd (some_words t.finding
-    (both_none (dump_words t.finding) _ (both_none (dump_line t) (flat_map dump_line reported) none).0).0)
+    (both_none (dump_row t.finding).words _ (both_none (dump_line t) (flat_map dump_line reported) none).0).0)
 
 -- if no line is written, nothing is reported
 module _ (settings : Settings) (dump said : List ℕ) (is : IsSurveyText settings dump said false) where

@@ -1,6 +1,7 @@
 -- The tally of a dump's revisions, record by record, says what is found in the dump as a whole.
 use Rattle.dump_survey.proofs.Prelude.{◌≡◌, ℕ, suc, ◌+◌, ◌≤◌, ◌==◌, Bool, true, false, not, ◌&&◌, ◌||◌, List, [], ◌∷◌, ◌++◌, length, filter, map, take_while, Option, Some, None, is_some, option_map, if◌then◌else◌, cond, refl, sym, ap, ap₂, ◌∙◌, arith, and-true, and_assoc, or-false, or-true, or_assoc, list_all, list_any, and_parts, eqb-true, take_while-cons, DumpRecord, Settings, is_revision_record, is_node, is_kept_node, group_of, groups, group_number, first_number, revision_number, revision_numbers, keeps_empty, counts_from, has_ordered_nodes, go_up, DumpFinding, rise, begins_at, copies_from_before, has_source_before, is_found_in_dump, first_has_node, Present, Tally, open_behind, no_tally, keeps_open, first_with, is_above_last, revision_tally, node_tally, other_tally, next_tally, tally_behind, is_tallied}
 use Rattle.std.proofs.Common.{zero}
+use Rattle.dump_history.specs.declared.findings.DumpFinding.TheVariants as dump_wide
 
 -- one more record
 pub tally_more : (settings : Settings) (t : Tally) (records : List DumpRecord) (r : DumpRecord)
@@ -457,20 +458,20 @@ pub each_tallied : (settings : Settings) (records : List DumpRecord) → list_al
     → (left named unread : Bool) → left ≡ (not settings.renumber && named) → (f : DumpFinding)
     → is_tallied (tally_behind settings no_tally records) left unread f
     ≡ is_found_in_dump settings records (record { named = named; unread = unread }) f
-each_tallied settings records single left named unread left_is DumpFinding.NoRevision =
+each_tallied settings records single left named unread left_is dump_wide.NoRevision =
     ap (λ c. c == 0) (count_is settings no_tally records ∙ zero_more (length (groups records)))
-each_tallied settings records single left named unread left_is DumpFinding.OtherNumbers = ap not (numbered_is settings no_tally records
+each_tallied settings records single left named unread left_is dump_wide.OtherNumbers = ap not (numbered_is settings no_tally records
     ∙ ap (λ n. counts_from n (revision_numbers records))
     (let same : begins_at records + 0 ≡ begins_at records = omega arith in same))
-each_tallied settings records single left named unread left_is DumpFinding.NumberFalls =
+each_tallied settings records single left named unread left_is dump_wide.NumberFalls =
     ap not (rising_is settings no_tally records)
-each_tallied settings records single left named unread left_is DumpFinding.UnreadRevision = refl
-each_tallied settings records single left named unread left_is DumpFinding.NodeInFirst =
+each_tallied settings records single left named unread left_is dump_wide.UnreadRevision = refl
+each_tallied settings records single left named unread left_is dump_wide.NodeInFirst =
     ap₂ (λ f b. f == 0 && b) (begins_at_is settings records)
     (first_is settings no_tally records single 0 refl)
-each_tallied settings records single left named unread left_is DumpFinding.SourceBefore = source_is settings no_tally records single
-each_tallied settings records single left named unread left_is DumpFinding.NodeOutside = outside_is settings no_tally records single
-each_tallied settings records single left named unread left_is DumpFinding.NumbersLeft = left_is
+each_tallied settings records single left named unread left_is dump_wide.SourceBefore = source_is settings no_tally records single
+each_tallied settings records single left named unread left_is dump_wide.NodeOutside = outside_is settings no_tally records single
+each_tallied settings records single left named unread left_is dump_wide.NumbersLeft = left_is
 
 -- equal tests filter equally
 pub filter_same : {X : Type 0} (p q : X → Bool) → ((x : X) → p x ≡ q x) → (xs : List X) → filter p xs ≡ filter q xs

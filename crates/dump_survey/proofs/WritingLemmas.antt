@@ -1,10 +1,10 @@
 -- What a sink has taken of a survey so far, and what it takes next.
-use Rattle.dump_survey.proofs.Prelude.{◌≡◌, ◌≤◌, ℕ, ◌+◌, Bool, true, false, not, ◌||◌, ◌==◌, List, [], ◌∷◌, ◌++◌, length, map, flat_map, Option, refl, sym, ap, ap₂, ◌∙◌, subst, append_assoc, append-nil, arith, Result, Ok, Err, OnErr, list_any, or-false, ne_eqb, Appends, Appends-nil, Appends-trans, flat_map-append, Ending, Settings, Finding, every_finding, DumpFinding, each_dump_has_one_list, begins_prefix, IsPrefixOf, Counts, NotShort, Idle, Node, Finished, SurveyEnd, SurveyedNode, listed_findings, reported_at_end, ending_kind_line, finding_kind, kind_line, kind_lines, prefix_kind, times_in_prefixes, times_reported, dump_line, PrefixReport, reported_prefixes, prefix_lines, survey_ending, IsSurveyText, BreaksOffSurvey, NodeReport, AreWithNode, count_in, no_counts, has_found, SurveyStep, reported_of_finding, reported_of_node, Surveying, TakesSome}
+use Rattle.dump_survey.proofs.Prelude.{◌≡◌, ◌≤◌, ℕ, ◌+◌, Bool, true, false, not, ◌||◌, ◌==◌, List, [], ◌∷◌, ◌++◌, length, map, flat_map, Option, refl, sym, ap, ap₂, ◌∙◌, subst, append_assoc, append-nil, arith, Result, Ok, Err, OnErr, list_any, or-false, ne_eqb, Appends, Appends-nil, Appends-trans, flat_map-append, Ending, Settings, Finding, every_finding, DumpFinding, each_dump_has_one_list, begins_prefix, IsPrefixOf, Counts, NotShort, Idle, Node, Finished, SurveyEnd, SurveyedNode, listed_findings, reported_at_end, ending_kind_line, finding_row, kind_line, kind_lines, prefix_kind, times_in_prefixes, times_reported, dump_line, PrefixReport, reported_prefixes, prefix_lines, survey_ending, IsSurveyText, BreaksOffSurvey, NodeReport, AreWithNode, count_in, has_found, SurveyStep, reported_of_finding, reported_of_node, Surveying, TakesSome}
 use Rattle.dump_survey.specs.declared.findings.surveyor.Step.TheVariants.{Other}
 use Rattle.dump_survey.specs.Kinds.{dump_kind_line}
 use Rattle.dump_survey.specs.Lines.{node_line, ending_line}
 use Rattle.dump_survey.proofs.PlaceLemmas.{findings_at_end}
-use Rattle.dump_survey.proofs.KindLemmas.{counts_with_node, low_with_node, none_counted, nothing_listed, same_counts, same_lines}
+use Rattle.dump_survey.proofs.KindLemmas.{counts_with_node, low_with_node, nothing_listed, same_counts, same_lines}
 use Rattle.dump_survey.proofs.SurveyLemmas.{HaveReported, node_reported, nothing_reported, node_nearer, other_nearer, all_reported}
 use Rattle.dump_survey.proofs.SurveyTextLemmas.{begins_text}
 
@@ -46,10 +46,10 @@ pub no_error : {X E : Type 0} {x : X} {e : E} → Ok x ≡ Err e → ⊥
 no_error is = cc
 
 -- before the first record nothing was written
-pub nothing_written : (settings : Settings) (dump : List ℕ) (state : Surveying) (taken : Option (List ℕ))
-    → state ≡ record { dump = dump; settings = settings; number = 0 }
-    → HasWritten settings dump state taken taken false 0 no_counts
-nothing_written settings dump state taken is = record {
+pub nothing_written : (settings : Settings) (dump : List ℕ) (state : Surveying) (taken : Option (List ℕ)) (counts : Counts)
+    → state ≡ record { dump = dump; settings = settings; number = 0 } → ((f : Finding) → count_in counts f ≡ 0)
+    → HasWritten settings dump state taken taken false 0 counts
+nothing_written settings dump state taken counts is none = record {
   reported = [];
   have = record {
     dump_is = ap (λ (s : Surveying). s.dump) is;
@@ -63,8 +63,8 @@ nothing_written settings dump state taken is = record {
   appended = Appends-nil taken;
   found_is = refl;
   counted = sym (ap (λ (s : Surveying). s.number) is);
-  counts_are = none_counted;
-  low = λ f. let none = none_counted f in omega (arith, none);
+  counts_are = none;
+  low = λ f. let its = none f in omega (arith, its);
 }
 
 module _ (settings : Settings) (dump : List ℕ) (state after : Surveying) (old new newer : Option (List ℕ)) (found : Bool)
@@ -175,7 +175,7 @@ module _ (settings : Settings) (dump : List ℕ) (state after : Surveying) (old 
               ++ (ending_line (length so_far.have.before) (survey_ending end.end) ++ (ks
               ++ kinds_behind (listed_findings end.dump)
               (reported_prefixes so_far.have.before settings.prefixes) (survey_ending end.end)))))
-              (same_lines (λ n f. kind_line n (finding_kind f)) (count_in counts) (times_reported so_far.reported)
+              (same_lines (λ n f. kind_line n (finding_row f).kind) (count_in counts) (times_reported so_far.reported)
               so_far.counts_are every_finding)
               ∙ ap (λ fs. flat_map dump_line (reported_at_end end)
               ++ (prefix_lines (reported_prefixes so_far.have.before settings.prefixes)

@@ -8,7 +8,8 @@ use Rattle.dump_digest.specs.RecordParts.{node_path}
 use Rattle.dump_trees.specs.Paths.{path_of}
 use Rattle.dump_trees.specs.Quiet.{cuts_one}
 use Rattle.dump_history.specs.RecordChanges.{copy_path}
-use Rattle.dump_history.specs.Findings.{Finding}
+use Rattle.dump_history.specs.declared.findings.Finding.{Finding}
+use Rattle.dump_history.specs.declared.findings.Finding.TheVariants as findings
 
 -- the first of the prefixes, in the order of the call, that cuts below one path what is kept below the other, if there
 -- is one; under include no prefix cuts
@@ -19,6 +20,6 @@ first_cut Exclude settings path other =
 
 -- the prefix that is reported with a finding in the node, if there is one
 abbrev pub cutting_prefix : Settings → DumpRecord → Finding → Option (List ℕ)
-cutting_prefix settings r Finding.CopyLoses = first_cut settings.side settings (copy_path r) (node_path r)
-cutting_prefix settings r Finding.CopyLetsIn = first_cut settings.side settings (node_path r) (copy_path r)
+cutting_prefix settings r findings.CopyLoses = first_cut settings.side settings (copy_path r) (node_path r)
+cutting_prefix settings r findings.CopyLetsIn = first_cut settings.side settings (node_path r) (copy_path r)
 cutting_prefix settings r _ = None

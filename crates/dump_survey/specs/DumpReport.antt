@@ -3,11 +3,13 @@ use Rattle.std.specs.Prelude.{◌≡◌, Bool, true, false, List, [], ◌∷◌,
 use Rattle.std.specs.List.{AllZip}
 use Rattle.dump_records.specs.RecordText.{DumpRecord}
 use Rattle.dump_rules.specs.Settings.{Settings}
-use Rattle.dump_history.specs.Findings.{DumpFinding, AreDumpFindingsOf}
+use Rattle.dump_history.specs.Findings.{AreDumpFindingsOf}
 use Rattle.dump_survey.specs.declared.findings.places.DumpPlaces.{DumpPlaces}
 use Rattle.dump_survey.specs.declared.findings.places.Place.{Place}
 use Rattle.dump_survey.specs.declared.findings.surveyor.SurveyEnd.{SurveyEnd}
 use Rattle.dump_survey.specs.DumpFindings.{listed_findings}
+use Rattle.dump_history.specs.declared.findings.DumpFinding.{DumpFinding}
+use Rattle.dump_history.specs.declared.findings.DumpFinding.TheVariants as dump_wide
 
 -- a finding, and the place of the first record that causes it, if there is one
 pub record DumpReport : Type 0 where
@@ -16,14 +18,14 @@ pub record DumpReport : Type 0 where
 
 -- the place that the program has for a finding
 abbrev pub place_in : DumpPlaces → DumpFinding → Option Place
-place_in places DumpFinding.NoRevision = None
-place_in places DumpFinding.OtherNumbers = places.other_numbers
-place_in places DumpFinding.NumberFalls = places.number_falls
-place_in places DumpFinding.UnreadRevision = places.unread_revision
-place_in places DumpFinding.NodeInFirst = places.node_in_first
-place_in places DumpFinding.SourceBefore = places.source_before
-place_in places DumpFinding.NodeOutside = places.node_outside
-place_in places DumpFinding.NumbersLeft = places.numbers_left
+place_in places dump_wide.NoRevision = None
+place_in places dump_wide.OtherNumbers = places.other_numbers
+place_in places dump_wide.NumberFalls = places.number_falls
+place_in places dump_wide.UnreadRevision = places.unread_revision
+place_in places dump_wide.NodeInFirst = places.node_in_first
+place_in places dump_wide.SourceBefore = places.source_before
+place_in places dump_wide.NodeOutside = places.node_outside
+place_in places dump_wide.NumbersLeft = places.numbers_left
 
 -- the report of a finding at the end of the survey, as the program represents it
 abbrev pub reported_of_dump : SurveyEnd → DumpFinding → DumpReport
@@ -40,7 +42,7 @@ IsDumpFinding settings records f =
 
 -- whether a record causes the finding; none causes the finding that there is no revision
 abbrev pub comes_up : DumpFinding → Bool
-comes_up DumpFinding.NoRevision = false
+comes_up dump_wide.NoRevision = false
 comes_up _ = true
 
 -- neither these records nor any first part of them have the finding

@@ -3,12 +3,13 @@ pub mod AdviceLines
 pub mod CuttingPrefix
 pub mod DumpFindings
 pub mod DumpReport
+pub mod FindingRows
 pub mod Folders
 pub mod Kinds
 pub mod LeftOutLine
 pub mod LeftOutMergeinfo
 pub mod Lines
-pub mod Meaning
+pub mod OnceLaws
 pub mod PrefixFindings
 pub mod PrefixLines
 pub mod PrefixesToAdd

@@ -1,29 +1,43 @@
 -- The exact text of the lines of a survey.
-use Rattle.std.specs.Prelude.{ℕ, ◌+◌, ◌/◌, ◌%◌, Bool, true, false, ◌||◌, ◌==◌, List, [], ◌∷◌, Option, Some, None, flat_map, nat_lt, codes, decimal, if◌then◌else◌}
+use Rattle.std.specs.Prelude.{ℕ, Bool, ◌+◌, ◌/◌, ◌%◌, ◌||◌, ◌&&◌, ◌==◌, List, [], ◌∷◌, ◌++◌, Option, Some, None, nat_le, nat_lt, codes, decimal, if◌then◌else◌}
 use Rattle.std.specs.List.{concat}
 use Rattle.dump_text.specs.declared.fault.FaultKind.{FaultKind}
-use Rattle.dump_text.specs.declared.fault.FaultKind.TheVariants.{Order, Props, CopySource, CopyRevision, MergeInfo, MergeSource, MergeRange}
 use Rattle.dump_text.specs.FaultTable.{fault_code}
 use Rattle.dump_text.specs.FaultNames.{fault_name}
 use Rattle.dump_records.specs.DumpText.{Ending}
 use Rattle.dump_rules.specs.Prefix.{bare_path}
-use Rattle.dump_history.specs.Findings.{Finding, DumpFinding}
 use Rattle.dump_survey.specs.declared.findings.places.Place.{Place}
 use Rattle.dump_survey.specs.DumpReport.{DumpReport}
+use Rattle.dump_survey.specs.FindingRows.{finding_row, dump_row}
 use Rattle.dump_survey.specs.Reported.{NodeReport}
 
 -- a hexadecimal digit, with small letters
 abbrev pub small_digit : ℕ → ℕ
 small_digit n = if nat_lt n 10 then 48 + n else 87 + n
 
--- a byte of a path as it is shown; a control byte is shown as \x and its two digits
+-- a control character as it is shown: \x and the two digits of its number
+unfoldable pub shown_control : ℕ → List ℕ
+shown_control n = 92 ∷ 120 ∷ small_digit (n / 16) ∷ small_digit (n % 16) ∷ []
+
+-- a byte as it is shown
 unfoldable pub shown_byte : ℕ → List ℕ
-shown_byte b =
-    if nat_lt b 32 || b == 127 then 92 ∷ 120 ∷ small_digit (b / 16) ∷ small_digit (b % 16) ∷ [] else b ∷ []
+shown_byte b = if nat_lt b 32 || b == 127 then shown_control b else b ∷ []
+
+-- whether the two bytes are a control character from U+0080 to U+009F in UTF-8; the second one is its number
+abbrev pub is_control_pair : ℕ → ℕ → Bool
+is_control_pair first second = first == 194 && nat_le 128 second && nat_lt second 160
+
+-- a text as it is shown
+abbrev pub shown_text : List ℕ → List ℕ
+shown_text [] = []
+shown_text (first ∷ []) = shown_byte first
+shown_text (first ∷ second ∷ rest) =
+    if is_control_pair first second then shown_control second ++ shown_text rest
+    else shown_byte first ++ shown_text (second ∷ rest)
 
 -- a path as it is shown, with a leading slash, whether or not the dump has one
 unfoldable pub shown_path : List ℕ → List ℕ
-shown_path path = 47 ∷ flat_map shown_byte (bare_path path)
+shown_path path = 47 ∷ shown_text (bare_path path)
 
 -- the place of a record: its number, from 0, and the offset of its first byte
 unfoldable pub place_text : ℕ → ℕ → List ℕ
@@ -42,83 +56,22 @@ unfoldable pub source_text : NodeReport → List ℕ
 source_text t = concat (codes ", copied from " ∷ shown_path t.copy_path
     ∷ codes "@" ∷ decimal t.copy_revision ∷ [])
 
--- whether a finding's line states the copy source of the node
-abbrev pub tells_source : Finding → Bool
-tells_source Finding.NoWholeFile = true
-tells_source Finding.MissingCopyRevision = true
-tells_source Finding.PropertiesLost = true
-tells_source Finding.CopyLoses = true
-tells_source Finding.CopyLetsIn = true
-tells_source Finding.FolderBrings = true
-tells_source Finding.TextComesIn = true
-tells_source _ = false
-
--- the words of the line of a finding in a node
-unfoldable pub finding_words : Finding → List ℕ
-finding_words Finding.UnreadBlock = codes "its properties cannot be read"
-finding_words Finding.Delta = codes "a delta in a dump of format version 2"
-finding_words Finding.UnknownAction = codes "no action, or an unknown one"
-finding_words Finding.TextReadDifferently = codes "a path, a copy source or another text that svnadmin load reads differently"
-finding_words Finding.NoWholeFile = codes "the source is excluded: svndumpfilter stops here"
-finding_words Finding.MissingCopyRevision =
-    codes "the source's revision gets no new number: svndumpfilter stops here"
-finding_words Finding.UnreadMergeinfo = codes "invalid svn:mergeinfo: svndumpfilter stops here"
-finding_words Finding.MissingMergeSource = codes "svn:mergeinfo of an excluded path: svndumpfilter stops here"
-finding_words Finding.MissingMergeRevision =
-    codes "svn:mergeinfo of a revision outside of the dump: svndumpfilter stops here"
-finding_words Finding.PropertiesLost = codes "the source is excluded: the copy may lack its properties"
-finding_words Finding.CopyLoses = codes "the copy may lack paths that are excluded at its source"
-finding_words Finding.CopyLetsIn = codes "the copy may bring back paths that are excluded here"
-finding_words Finding.FolderTakes =
-    codes "this excluded directory is deleted: what is included below it may stay"
-finding_words Finding.FolderBrings =
-    codes "this copy of a directory is excluded: what is included below it may be missing"
-finding_words Finding.TextComesIn = codes "the source is excluded, and the copy has a text from there"
-
--- the fault with which the filter stops at a node that has this finding, if it stops
-abbrev pub finding_fault : Finding → Option FaultKind
-finding_fault Finding.NoWholeFile = Some CopySource
-finding_fault Finding.MissingCopyRevision = Some CopyRevision
-finding_fault Finding.UnreadMergeinfo = Some MergeInfo
-finding_fault Finding.MissingMergeSource = Some MergeSource
-finding_fault Finding.MissingMergeRevision = Some MergeRange
-finding_fault _ = None
-
 -- the words about the prefix that cuts, which is shown as the caller gave it: without an additional slash
 unfoldable pub cut_words : Option (List ℕ) → List ℕ
 cut_words None = []
-cut_words (Some prefix) = concat (codes ": prefix " ∷ flat_map shown_byte prefix ∷ [])
+cut_words (Some prefix) = concat (codes ": prefix " ∷ shown_text prefix ∷ [])
 
 -- the line of a finding in a node
 unfoldable pub node_line : NodeReport → List ℕ
 node_line t = concat (codes "r" ∷ decimal t.revision ∷ codes ": " ∷ shown_path t.path
-    ∷ (if tells_source t.finding then source_text t else []) ∷ codes ": "
-    ∷ finding_words t.finding ∷ cut_words t.prefix
-    ∷ fault_and_place (finding_fault t.finding) (Some (record { number = t.number; place = t.place }))
+    ∷ (if (finding_row t.finding).states_source then source_text t else []) ∷ codes ": "
+    ∷ (finding_row t.finding).words ∷ cut_words t.prefix
+    ∷ fault_and_place (finding_row t.finding).kind.fault (Some (record { number = t.number; place = t.place }))
     ∷ codes "\n" ∷ [])
-
--- the words of the line of a finding in the dump as a whole
-unfoldable pub dump_words : DumpFinding → List ℕ
-dump_words DumpFinding.NoRevision = codes "the dump has no revision"
-dump_words DumpFinding.OtherNumbers = codes "the revision numbers of the dump do not rise by one"
-dump_words DumpFinding.NumberFalls = codes "the number of a revision is not above the one before it"
-dump_words DumpFinding.UnreadRevision = codes "the properties of a revision cannot be read"
-dump_words DumpFinding.NodeInFirst = codes "revision 0 of the dump has a node"
-dump_words DumpFinding.SourceBefore = codes "a node of the dump is copied from a revision before the first one"
-dump_words DumpFinding.NodeOutside = codes "a node of the dump is outside of a revision"
-dump_words DumpFinding.NumbersLeft =
-    codes "a revision is dropped, and a later copy or svn:mergeinfo names revisions by their old numbers: use --renumber-revs"
-
--- the fault with which the filter stops if the dump has this finding, if it stops
-abbrev pub dump_fault : DumpFinding → Option FaultKind
-dump_fault DumpFinding.NumberFalls = Some Order
-dump_fault DumpFinding.UnreadRevision = Some Props
-dump_fault DumpFinding.NodeOutside = Some Order
-dump_fault _ = None
 
 -- the line of a finding in the dump as a whole, with the first record that causes it, if there is one
 unfoldable pub dump_line : DumpReport → List ℕ
-dump_line t = concat (dump_words t.finding ∷ fault_and_place (dump_fault t.finding) t.at ∷ codes "\n" ∷ [])
+dump_line t = concat ((dump_row t.finding).words ∷ fault_and_place (dump_row t.finding).kind.fault t.at ∷ codes "\n" ∷ [])
 
 -- the line of a fault: no record begins at this place
 unfoldable pub broken_line : FaultKind → Place → List ℕ

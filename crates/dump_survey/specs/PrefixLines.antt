@@ -3,7 +3,7 @@ use Rattle.std.specs.Prelude.{ℕ, List, [], ◌∷◌, flat_map, codes}
 use Rattle.std.specs.List.{concat}
 use Rattle.dump_survey.specs.declared.findings.prefix_findings.PrefixFinding.{PrefixFinding}
 use Rattle.dump_survey.specs.declared.findings.prefix_findings.PrefixFinding.TheVariants.{NotShort, Idle}
-use Rattle.dump_survey.specs.Lines.{shown_byte}
+use Rattle.dump_survey.specs.Lines.{shown_text}
 use Rattle.dump_survey.specs.PrefixFindings.{PrefixReport}
 
 -- the words that follow the prefix on such a line
@@ -13,7 +13,7 @@ prefix_line_words Idle = codes ": no node has a path at or below it, and none is
 
 -- the line of a prefix, which is shown as the caller gave it: without an additional slash
 unfoldable pub prefix_line : PrefixReport → List ℕ
-prefix_line t = concat (codes "prefix " ∷ flat_map shown_byte t.prefix ∷ prefix_line_words t.finding ∷ [])
+prefix_line t = concat (codes "prefix " ∷ shown_text t.prefix ∷ prefix_line_words t.finding ∷ [])
 
 -- one line for each report
 abbrev pub prefix_lines : List PrefixReport → List ℕ

@@ -5,10 +5,10 @@ use Rattle.dump_rules.specs.Settings.{Settings}
 use Rattle.dump_digest.specs.RecordParts.{is_revision_record, is_node, node_path}
 use Rattle.dump_filter.specs.Groups.{revision_number}
 use Rattle.dump_history.specs.RecordChanges.{copy_path, copy_revision}
-use Rattle.dump_history.specs.Findings.{Finding, AreFindingsOf}
+use Rattle.dump_history.specs.Findings.{AreFindingsOf}
 use Rattle.dump_survey.specs.CuttingPrefix.{cutting_prefix}
-use Rattle.dump_survey.specs.Meaning.{meaning}
 use Rattle.dump_survey.specs.declared.findings.reported.ReportedFinding.{ReportedFinding}
+use Rattle.dump_history.specs.declared.findings.Finding.{Finding}
 
 -- a report of a finding in a node. It has the record's number and place, the number of the node's revision, the path
 -- and the copy source. If the node is no copy, the source path is empty and the source revision is 0. The prefix is
@@ -26,7 +26,7 @@ pub record NodeReport : Type 0 where
 -- the report that a value of the program means
 abbrev pub reported_view : ReportedFinding → NodeReport
 reported_view t = record {
-  finding = meaning t.finding;
+  finding = t.finding;
   number = t.number;
   place = t.place;
   revision = t.revision;

@@ -11,13 +11,15 @@ use Rattle.dump_filter.specs.FilterLaws.{LengthsFit}
 use Rattle.dump_filter.specs.RecordFaults.{HoldsOfRecord}
 use Rattle.dump_filter.specs.WholeText.{IsCleanText}
 use Rattle.dump_history.specs.RecordChanges.{Patching}
-use Rattle.dump_history.specs.Findings.{Finding, is_obstacle, is_alarm}
+use Rattle.dump_history.specs.Findings.{is_obstacle, is_alarm}
 use Rattle.dump_history.specs.SurveyLaws.{FindingsByGroup, HaveFindings, DumpRestricts}
 use Rattle.dump_survey.specs.declared.findings.survey.Survey.{Survey}
 use Rattle.dump_survey.specs.DumpFindings.{listed_findings}
 use Rattle.dump_survey.specs.Reported.{NodeReport, reported_view, AreReported}
 use Rattle.dump_survey.specs.Surveys.{IsSurveyOf}
 use Rattle.dump_survey.specs.SurveyText.{IsSurveyText}
+use Rattle.dump_history.specs.declared.findings.Finding.{Finding}
+use Rattle.dump_history.specs.declared.findings.Finding.TheVariants as findings
 
 -- the findings of groups, node by node, as one list
 abbrev pub all_findings : FindingsByGroup → List Finding
@@ -37,8 +39,8 @@ ReportedOnce = (settings : Settings) (records : List DumpRecord) (reported other
 
 -- whether the finding says that a copy is filtered differently from its source
 abbrev pub tells_cut : Finding → Bool
-tells_cut Finding.CopyLoses = true
-tells_cut Finding.CopyLetsIn = true
+tells_cut findings.CopyLoses = true
+tells_cut findings.CopyLetsIn = true
 tells_cut _ = false
 
 -- each such finding is reported with a prefix that causes it, and no other finding is reported with a prefix

@@ -14,4 +14,3 @@ pub(crate) mod survey;
 pub(crate) mod surveyor;
 pub(crate) mod tally;
 pub(crate) mod unread_revision;
-pub(crate) mod whole_finding;

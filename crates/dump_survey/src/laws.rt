@@ -1,4 +1,5 @@
 //! Laws of surveys; each is the contract of a function that does nothing.
+ghost use Rattle.dump_survey.specs.OnceLaws.{RevisionMapIsOnce, SurveyTextIsOnce};
 ghost use Rattle.dump_survey.specs.SurveyTies.{EachCutNamesPrefix, SilentSurveyRestricts, SilentTextLeavesDigests, SilentTextRestricts, ReportsAreFindings, ReportedOnce};
 
 /// A survey reports one list of findings in a dump's nodes, and the list has exactly the findings in them, in order.
@@ -20,4 +21,10 @@ pub fn each_silent_survey_restricts()
 /// the records reach the end of the dump, and none of them has another fault.
 pub fn each_silent_survey_leaves_digests()
     ensures { SilentTextLeavesDigests }
+{}
+
+/// Under given options a dump has one text of a survey and one map of revisions.
+pub fn each_dump_has_one_survey()
+    ensures text { SurveyTextIsOnce }
+    ensures map { RevisionMapIsOnce }
 {}

@@ -3,7 +3,7 @@
 //!
 //! A [`Surveyor`] reads a dump record by record, and finds the same records as the filter. [`Surveyor::next`] returns
 //! the findings in each record. For a node of a revision these are a [`Found`], which [`SurveyedNode::report`] turns
-//! into one [`ReportedFinding`] for each [`NodeFinding`]. A [`ReportedFinding`] has the record's number and place, the
+//! into one [`ReportedFinding`] for each [`Finding`]. A [`ReportedFinding`] has the record's number and place, the
 //! revision and the path. If a copy is filtered differently from its source, it also has the first prefix that causes
 //! this. After the last record, `next` returns the findings in the dump as a whole, [`DumpFindings`], and whether the
 //! records reach the end of the dump. Then [`Surveyor::reported_prefixes`] returns the prefixes that have no effect,
@@ -60,8 +60,9 @@ mod report;
 pub use advice::added_prefixes::prefixes_to_add;
 pub use advice::folders::folders_to_make;
 pub use advice::left_out_mergeinfo::left_out_lines;
+pub use dump_history::{DumpFinding, EVERY_FINDING, Finding};
 pub use dump_rules::Memory;
-pub use findings::node_finding::{EVERY_FINDING, Found, NodeFinding};
+pub use findings::node_finding::Found;
 pub use findings::places::{DumpPlaces, Place};
 pub use findings::prefix_findings::{PrefixFinding, ReportedPrefix};
 pub use findings::reported::{ReportedFinding, SurveyedNode};

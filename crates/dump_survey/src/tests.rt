@@ -1,6 +1,6 @@
 //! Tests of what no contract says: example dumps that have each finding once.
-use crate::laws::{each_report_is_found, each_silent_survey_restricts};
-use crate::{DumpFindings, End, Memory, NodeFinding, Survey, survey_dump};
+use crate::laws::{each_dump_has_one_survey, each_report_is_found, each_silent_survey_restricts};
+use crate::{DumpFindings, End, Finding, Memory, Survey, survey_dump};
 use dump_rules::{Empty, Options, Side};
 use dump_text::FaultKind;
 use std::alloc::{AllocError, Global};
@@ -68,7 +68,7 @@ Node-path: trunk//a\nNode-action: change\n\n\n";
 fn is_odd_alone(survey: &Survey<'_, '_>) -> bool {
     match survey.reported.as_slice() {
         [reported] => {
-            reported.finding == NodeFinding::TextReadDifferently
+            reported.finding == Finding::TextReadDifferently
                 && (reported.number, reported.place, reported.revision) == (3, 71, 7)
                 && reported.path == b"trunk//a".as_slice()
                 && reported.prefix.is_none()
@@ -80,6 +80,7 @@ fn is_odd_alone(survey: &Survey<'_, '_>) -> bool {
 #[test]
 fn a_finding_is_reported_with_its_place(rt: HostRuntime) -> Result<(), Fail> {
     each_report_is_found();
+    each_dump_has_one_survey();
     each_silent_survey_restricts();
     let options = rules(rt.alloc(), Side::Include, "trunk")?;
     let survey = survey_dump(rt.alloc(), ONE_NODE, &options)?;

@@ -1,7 +1,8 @@
 -- Examples of the changes that deltas make, and of what a survey finds in them.
-use Rattle.dump_history.proofs.Prelude.{◌≡◌, true, ◌++◌, None, refl, inr, Header, Property, DumpRecord, HasPropertyList, path_of, PropertyChange, TextChange, Change, Patching, change_of, MakesChange, Finding, is_found, no_node_faults}
+use Rattle.dump_history.proofs.Prelude.{◌≡◌, true, ◌++◌, None, refl, inr, Header, Property, DumpRecord, HasPropertyList, path_of, PropertyChange, TextChange, Change, Patching, change_of, MakesChange, is_found, no_node_faults}
 use Rattle.std.proofs.Common.{ℕ, false, List, [], ◌∷◌, Some, codes}
 use Rattle.dump_history.proofs.values.WorkedDump.{line, settings}
+use Rattle.dump_history.specs.declared.findings.Finding.TheVariants as findings
 
 -- a reading of text deltas: the delta is appended to the old text
 abbrev pub behind : Patching
@@ -77,8 +78,8 @@ unread_under_2 list = absurd (let bad : false ≡ true = list.1 refl in cc)
 
 -- findings
 
-delta_under_2 : is_found settings (node 2 edit_lines block []) (Some []) no_node_faults Finding.Delta ≡ true
+delta_under_2 : is_found settings (node 2 edit_lines block []) (Some []) no_node_faults findings.Delta ≡ true
 delta_under_2 = refl
 
-no_finding : is_found settings (node 3 edit_lines block []) (Some (removal ∷ [])) no_node_faults Finding.Delta ≡ false
+no_finding : is_found settings (node 3 edit_lines block []) (Some (removal ∷ [])) no_node_faults findings.Delta ≡ false
 no_finding = refl

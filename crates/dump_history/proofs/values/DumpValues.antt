@@ -1,9 +1,10 @@
 -- Examples of what a dump makes, and of what is true of the filtered one. Each of them shows that a definition differs
 -- from a weaker one or from another one.
-use Rattle.dump_history.proofs.Prelude.{◌≡◌, true, ◌++◌, length, Option, None, refl, ap, ◌∙◌, inl, inr, slice_get, Header, Property, first_true, second_true, DumpRecord, Pad, DropAll, Settings, HasPropertyList, HasPropertyBlock, Group, padding_log, path_of, is_short, Node, Tree, root_alone, put, PropertyChange, TextChange, Change, given, loaded_over, Patching, copy_path, change_of, MakesChange, counts_from, has_ordered_nodes, MakeRevisions, HaveRevisionProperties, LoadsAs, keeps_numbering, TreesRestrict, KeepsProperties, RevisionsKeepProperties, LoadsRestricted, FrontLoadsRestricted, sets_no_mergeinfo, Finding, AreFindingsOf, no_node_faults}
+use Rattle.dump_history.proofs.Prelude.{◌≡◌, true, ◌++◌, length, Option, None, refl, ap, ◌∙◌, inl, inr, slice_get, Header, Property, first_true, second_true, DumpRecord, Pad, DropAll, Settings, HasPropertyList, HasPropertyBlock, Group, padding_log, path_of, is_short, Node, Tree, root_alone, put, PropertyChange, TextChange, Change, given, loaded_over, Patching, copy_path, change_of, MakesChange, counts_from, has_ordered_nodes, MakeRevisions, HaveRevisionProperties, LoadsAs, keeps_numbering, TreesRestrict, KeepsProperties, RevisionsKeepProperties, LoadsRestricted, FrontLoadsRestricted, sets_no_mergeinfo, AreFindingsOf, no_node_faults}
 use Rattle.std.proofs.Common.{ℕ, false, List, [], ◌∷◌, Some, codes}
 use Rattle.dump_history.proofs.survey.FindingLemmas.{faults_of_unread}
 use Rattle.dump_history.proofs.values.WorkedDump.{line, record_at, version, zero, one, two, three, trunk, other, copy, records, settings, folder, revisions, none_of, third_tree}
+use Rattle.dump_history.specs.declared.findings.Finding.TheVariants as findings
 
 -- a property
 abbrev date : Property
@@ -105,7 +106,7 @@ makes_none_unread : (c : Change) → ¬ MakesChange refused (with_props trunk (c
 makes_none_unread c (ps, list, plain, is) = unreadable trunk (ps, list)
 
 -- it is found, and nothing else is
-unread_found : AreFindingsOf settings [] (with_props trunk (codes "x")) (Finding.UnreadBlock ∷ [])
+unread_found : AreFindingsOf settings [] (with_props trunk (codes "x")) (findings.UnreadBlock ∷ [])
 unread_found = (
   None,
   no_node_faults,

@@ -1,9 +1,11 @@
 -- Examples of what a survey finds in a node and in a dump; the checker computes and proves them.
-use Rattle.dump_history.proofs.Prelude.{true, ◌≡◌, ◌++◌, None, refl, Header, DumpRecord, Include, Exclude, Pad, Settings, has_ordered_nodes, Finding, findings_of, DumpFinding, dump_findings, no_node_faults}
+use Rattle.dump_history.proofs.Prelude.{true, ◌≡◌, ◌++◌, None, refl, Header, DumpRecord, Include, Exclude, Pad, Settings, has_ordered_nodes, findings_of, dump_findings, no_node_faults}
 use Rattle.std.proofs.Common.{false, [], ◌∷◌, Some, codes}
 use Rattle.dump_history.proofs.values.WorkedDump.{line, record_at, records, version, zero, one, two, three, trunk}
 use Rattle.dump_history.proofs.values.WorkedDump.{settings as worked_settings}
 use Rattle.dump_history.proofs.values.FindingParts.{cut_by, include_a, exclude_a, node, from, whole_from, in_node, facts}
+use Rattle.dump_history.specs.declared.findings.Finding.TheVariants as findings
+use Rattle.dump_history.specs.declared.findings.DumpFinding.TheVariants as dump_wide
 
 -- a property length
 abbrev block : Header
@@ -22,7 +24,7 @@ deleted_kept = refl
 
 -- nodes that make no change that the definitions describe
 
-unread : findings_of include_a (node (codes "p/a") (codes "change") []) None no_node_faults ≡ Finding.UnreadBlock ∷ []
+unread : findings_of include_a (node (codes "p/a") (codes "change") []) None no_node_faults ≡ findings.UnreadBlock ∷ []
 unread = refl
 
 -- under version 3 nothing is found in deltas, nor in a deleted property
@@ -41,54 +43,54 @@ deleted_property = refl
 -- under version 2 a delta is found
 
 text_delta : in_node include_a (node (codes "p/a") (codes "change") (line (codes "Text-delta") (codes "true") ∷ []))
-    ≡ Finding.Delta ∷ []
+    ≡ findings.Delta ∷ []
 text_delta = refl
 
 property_delta : in_node include_a (node (codes "p/a") (codes "change") (line (codes "Prop-delta") (codes "true") ∷ []))
-    ≡ Finding.Delta ∷ []
+    ≡ findings.Delta ∷ []
 property_delta = refl
 
 no_delta : in_node include_a (node (codes "p/a") (codes "change") (line (codes "Prop-delta") (codes "false") ∷ [])) ≡ []
 no_delta = refl
 
-odd_action : in_node include_a (node (codes "p/a") (codes "rename") []) ≡ Finding.UnknownAction ∷ []
+odd_action : in_node include_a (node (codes "p/a") (codes "rename") []) ≡ findings.UnknownAction ∷ []
 odd_action = refl
 
-no_action : in_node include_a (record_at 0 (line (codes "Node-path") (codes "p/a") ∷ [])) ≡ Finding.UnknownAction ∷ []
+no_action : in_node include_a (record_at 0 (line (codes "Node-path") (codes "p/a") ∷ [])) ≡ findings.UnknownAction ∷ []
 no_action = refl
 
 -- the filter stops because of a copy's revision or of mergeinfo
 
 missing_copy_revision : findings_of include_a (node (codes "p/a/g") (codes "add") (from (codes "p/a/f"))) (Some [])
-    (record no_node_faults { copy_revision = true }) ≡ Finding.MissingCopyRevision ∷ []
+    (record no_node_faults { copy_revision = true }) ≡ findings.MissingCopyRevision ∷ []
 missing_copy_revision = refl
 
 unread_mergeinfo : findings_of include_a (node (codes "p/a") (codes "change") []) (Some [])
-    (record no_node_faults { unread = true }) ≡ Finding.UnreadMergeinfo ∷ []
+    (record no_node_faults { unread = true }) ≡ findings.UnreadMergeinfo ∷ []
 unread_mergeinfo = refl
 
 missing_merge_source : findings_of include_a (node (codes "p/a") (codes "change") []) (Some [])
-    (record no_node_faults { missing = true }) ≡ Finding.MissingMergeSource ∷ []
+    (record no_node_faults { missing = true }) ≡ findings.MissingMergeSource ∷ []
 missing_merge_source = refl
 
 missing_merge_revision : findings_of include_a (node (codes "p/a") (codes "change") []) (Some [])
-    (record no_node_faults { outside = true }) ≡ Finding.MissingMergeRevision ∷ []
+    (record no_node_faults { outside = true }) ≡ findings.MissingMergeRevision ∷ []
 missing_merge_revision = refl
 
 -- texts that the load reads differently
 
-dot_in_path : in_node include_a (node (codes "p/a/./f") (codes "add") []) ≡ Finding.TextReadDifferently ∷ []
+dot_in_path : in_node include_a (node (codes "p/a/./f") (codes "add") []) ≡ findings.TextReadDifferently ∷ []
 dot_in_path = refl
 
 empty_name_in_source : in_node include_a (node (codes "p/a/g") (codes "add") (from (codes "p/a//f")))
-    ≡ Finding.TextReadDifferently ∷ []
+    ≡ findings.TextReadDifferently ∷ []
 empty_name_in_source = refl
 
-zero_in_line : in_node include_a (node (codes "p/a/g" ++ 0 ∷ []) (codes "add") []) ≡ Finding.TextReadDifferently ∷ []
+zero_in_line : in_node include_a (node (codes "p/a/g" ++ 0 ∷ []) (codes "add") []) ≡ findings.TextReadDifferently ∷ []
 zero_in_line = refl
 
 zero_in_name : findings_of include_a (node (codes "p/a") (codes "change") (block ∷ []))
-    (Some (record { name = codes "k" ++ 0 ∷ []; value = Some [] } ∷ [])) no_node_faults ≡ Finding.TextReadDifferently ∷ []
+    (Some (record { name = codes "k" ++ 0 ∷ []; value = Some [] } ∷ [])) no_node_faults ≡ findings.TextReadDifferently ∷ []
 zero_in_name = refl
 
 leading_slash : in_node include_a (node (codes "/p/a/g") (codes "add") (from (codes "/p/a/f"))) ≡ []
@@ -97,7 +99,7 @@ leading_slash = refl
 -- a copy of a path that isn't kept
 
 folder_from_left_out : in_node include_a (node (codes "p/a/g") (codes "add") (block ∷ from (codes "q/g")))
-    ≡ Finding.NoWholeFile ∷ []
+    ≡ findings.NoWholeFile ∷ []
 folder_from_left_out = refl
 
 left_out_from_left_out : in_node include_a (node (codes "q/h") (codes "add") (from (codes "q/g"))) ≡ []
@@ -111,16 +113,16 @@ file_with_block : in_node include_a (node (codes "p/a/g") (codes "add") (block �
 file_with_block = refl
 
 file_without_block : in_node include_a (node (codes "p/a/g") (codes "add") (whole_from (codes "q/g")))
-    ≡ Finding.PropertiesLost ∷ []
+    ≡ findings.PropertiesLost ∷ []
 file_without_block = refl
 
 -- under exclude its text is an excluded one
 text_comes_in : in_node exclude_a (node (codes "q/g") (codes "add") (block ∷ whole_from (codes "p/a/g")))
-    ≡ Finding.TextComesIn ∷ []
+    ≡ findings.TextComesIn ∷ []
 text_comes_in = refl
 
 both_come : in_node exclude_a (node (codes "q/g") (codes "add") (whole_from (codes "p/a/g")))
-    ≡ Finding.PropertiesLost ∷ Finding.TextComesIn ∷ []
+    ≡ findings.PropertiesLost ∷ findings.TextComesIn ∷ []
 both_come = refl
 
 -- in a change the text is the file's own
@@ -133,10 +135,10 @@ text_stays_out = refl
 
 -- a copy above an excluded prefix, out of it or onto it
 
-copy_loses : in_node exclude_a (node (codes "q") (codes "add") (from (codes "p"))) ≡ Finding.CopyLoses ∷ []
+copy_loses : in_node exclude_a (node (codes "q") (codes "add") (from (codes "p"))) ≡ findings.CopyLoses ∷ []
 copy_loses = refl
 
-copy_lets_in : in_node exclude_a (node (codes "p") (codes "replace") (from (codes "q"))) ≡ Finding.CopyLetsIn ∷ []
+copy_lets_in : in_node exclude_a (node (codes "p") (codes "replace") (from (codes "q"))) ≡ findings.CopyLetsIn ∷ []
 copy_lets_in = refl
 
 -- both sides are cut in the same way if the same rest is excluded below each
@@ -145,7 +147,7 @@ copy_cut_alike : in_node (cut_by Exclude (codes "p/a" ∷ codes "q/a" ∷ []))
 copy_cut_alike = refl
 
 copy_loses_and_lets_in : in_node (cut_by Exclude (codes "p/a" ∷ codes "q/b" ∷ []))
-    (node (codes "q") (codes "add") (from (codes "p"))) ≡ Finding.CopyLoses ∷ Finding.CopyLetsIn ∷ []
+    (node (codes "q") (codes "add") (from (codes "p"))) ≡ findings.CopyLoses ∷ findings.CopyLetsIn ∷ []
 copy_loses_and_lets_in = refl
 
 -- included prefixes cut nothing below a kept path
@@ -159,14 +161,14 @@ change_with_source = refl
 
 -- a directory above an included prefix
 
-folder_takes : in_node include_a (node (codes "p") (codes "delete") []) ≡ Finding.FolderTakes ∷ []
+folder_takes : in_node include_a (node (codes "p") (codes "delete") []) ≡ findings.FolderTakes ∷ []
 folder_takes = refl
 
-folder_brings : in_node include_a (node (codes "p") (codes "add") (from (codes "q"))) ≡ Finding.FolderBrings ∷ []
+folder_brings : in_node include_a (node (codes "p") (codes "add") (from (codes "q"))) ≡ findings.FolderBrings ∷ []
 folder_brings = refl
 
 folder_takes_and_brings : in_node include_a (node (codes "p") (codes "replace") (from (codes "q")))
-    ≡ Finding.FolderTakes ∷ Finding.FolderBrings ∷ []
+    ≡ findings.FolderTakes ∷ findings.FolderBrings ∷ []
 folder_takes_and_brings = refl
 
 folder_stays : in_node include_a (node (codes "p") (codes "change") []) ≡ []
@@ -194,7 +196,7 @@ nothing_padded = refl
 
 -- a revision is dropped, and a kept node after it names one
 dropped_not_renumbered : dump_findings (record worked_settings { renumber = false }) records (facts true false)
-    ≡ DumpFinding.NumbersLeft ∷ []
+    ≡ dump_wide.NumbersLeft ∷ []
 dropped_not_renumbered = refl
 
 -- if none is named, no number matters
@@ -205,24 +207,24 @@ none_named = refl
 none_dropped : dump_findings (record worked_settings { renumber = false }) (version ∷ zero ∷ one ∷ trunk ∷ []) (facts false false) ≡ []
 none_dropped = refl
 
-no_revision : dump_findings padded (version ∷ []) (facts false false) ≡ DumpFinding.NoRevision ∷ []
+no_revision : dump_findings padded (version ∷ []) (facts false false) ≡ dump_wide.NoRevision ∷ []
 no_revision = refl
 
 -- a partial dump begins at a higher number, and has a node in its first revision; but revision 0 has none
 numbers_from_two : dump_findings padded (version ∷ two ∷ trunk ∷ three ∷ []) (facts false false) ≡ []
 numbers_from_two = refl
 
-number_left_out : dump_findings padded (version ∷ zero ∷ two ∷ []) (facts false false) ≡ DumpFinding.OtherNumbers ∷ []
+number_left_out : dump_findings padded (version ∷ zero ∷ two ∷ []) (facts false false) ≡ dump_wide.OtherNumbers ∷ []
 number_left_out = refl
 
-node_in_first : dump_findings padded (version ∷ zero ∷ trunk ∷ []) (facts false false) ≡ DumpFinding.NodeInFirst ∷ []
+node_in_first : dump_findings padded (version ∷ zero ∷ trunk ∷ []) (facts false false) ≡ dump_wide.NodeInFirst ∷ []
 node_in_first = refl
 
 -- a node before any revision, and one after a record that is no revision
-node_outside : dump_findings padded (version ∷ trunk ∷ zero ∷ []) (facts false false) ≡ DumpFinding.NodeOutside ∷ []
+node_outside : dump_findings padded (version ∷ trunk ∷ zero ∷ []) (facts false false) ≡ dump_wide.NodeOutside ∷ []
 node_outside = refl
 
-node_behind_another : dump_findings padded (zero ∷ one ∷ version ∷ trunk ∷ []) (facts false false) ≡ DumpFinding.NodeOutside ∷ []
+node_behind_another : dump_findings padded (zero ∷ one ∷ version ∷ trunk ∷ []) (facts false false) ≡ dump_wide.NodeOutside ∷ []
 node_behind_another = refl
 
 -- where nodes may be

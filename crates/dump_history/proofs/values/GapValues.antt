@@ -1,10 +1,11 @@
 -- Examples of gaps in a dump's numbers, and of nodes that name a revision after a dropped one.
-use Rattle.dump_history.proofs.Prelude.{◌≡◌, zero, suc, Bool, true, ◌||◌, None, refl, ap, inl, inr, arith, Property, DumpRecord, Settings, HasPropertyList, property_list_once, groups, first_number, path_of, root_alone, Made, PropertyChange, Change, Patching, names_revision, name_no_revision, go_up, count_to_gap, MakeRevisionsWithGaps, LoadsWithGapsAs, NamesRevision, NamesRevisionBehind, KeepsNamedNumbers, MakePartRevisionsWithGaps, DumpFinding, AreDumpFindingsOf}
+use Rattle.dump_history.proofs.Prelude.{◌≡◌, zero, suc, Bool, true, ◌||◌, None, refl, ap, inl, inr, arith, Property, DumpRecord, Settings, HasPropertyList, property_list_once, groups, first_number, path_of, root_alone, Made, PropertyChange, Change, Patching, names_revision, name_no_revision, go_up, count_to_gap, MakeRevisionsWithGaps, LoadsWithGapsAs, NamesRevision, NamesRevisionBehind, KeepsNamedNumbers, MakePartRevisionsWithGaps, AreDumpFindingsOf}
 use Rattle.std.proofs.Common.{ℕ, false, List, [], ◌∷◌, Some, codes}
 use Rattle.dump_history.proofs.survey.NamingTest.{names_test, test_tells, behind_told}
 use Rattle.dump_history.proofs.values.WorkedDump.{line, record_at, version, one, two, three, trunk, other, copy, records, settings, folder, none_of, makes_trunk}
 use Rattle.dump_history.proofs.values.WorkedDump.{zero as revision_0}
 use Rattle.dump_history.proofs.values.UnreadValues.{told_read}
+use Rattle.dump_history.specs.declared.findings.DumpFinding.TheVariants as dump_wide
 
 -- changes that name a revision
 
@@ -200,7 +201,7 @@ copy_before names = let bad : false ≡ true =
 
 -- what is found
 
-numbers_found : AreDumpFindingsOf left_numbers records (DumpFinding.NumbersLeft ∷ [])
+numbers_found : AreDumpFindingsOf left_numbers records (dump_wide.NumbersLeft ∷ [])
 numbers_found = (
   record { named = true; unread = false },
   record { named = (λ so. copy_behind, λ names. refl); unread = told_read records refl },

@@ -1,8 +1,10 @@
 -- More examples of what a survey finds. Each shows that a definition differs from one that lacks a part of it.
-use Rattle.dump_history.proofs.Prelude.{◌≡◌, true, None, refl, DumpRecord, Include, Exclude, DropAll, Settings, Finding, every_finding, findings_of, is_obstacle, is_alarm, DumpFinding, every_dump_finding, rise, dump_findings, none_is, no_node_faults}
+use Rattle.dump_history.proofs.Prelude.{◌≡◌, true, None, refl, DumpRecord, Include, Exclude, DropAll, Settings, every_finding, findings_of, is_obstacle, is_alarm, every_dump_finding, rise, dump_findings, none_is, no_node_faults}
 use Rattle.std.proofs.Common.{false, [], ◌∷◌, filter, codes}
 use Rattle.dump_history.proofs.values.WorkedDump.{line, record_at, version, zero, one, two, trunk, three, copy}
 use Rattle.dump_history.proofs.values.FindingParts.{cut_by, include_a, exclude_a, node, from, whole_from, in_node, facts}
+use Rattle.dump_history.specs.declared.findings.Finding.TheVariants as findings
+use Rattle.dump_history.specs.declared.findings.DumpFinding.TheVariants as dump_wide
 
 -- a directory and what is below it, both included
 abbrev include_both : Settings
@@ -22,37 +24,37 @@ changed = node (codes "trunk") (codes "change")
 
 -- what can be found
 
-all_findings : every_finding ≡ Finding.UnreadBlock ∷ Finding.Delta ∷ Finding.UnknownAction ∷ Finding.TextReadDifferently
-    ∷ Finding.NoWholeFile ∷ Finding.MissingCopyRevision ∷ Finding.UnreadMergeinfo ∷ Finding.MissingMergeSource
-    ∷ Finding.MissingMergeRevision ∷ Finding.PropertiesLost ∷ Finding.CopyLoses ∷ Finding.CopyLetsIn ∷ Finding.FolderTakes ∷ Finding.FolderBrings ∷ Finding.TextComesIn ∷ []
+all_findings : every_finding ≡ findings.UnreadBlock ∷ findings.Delta ∷ findings.UnknownAction ∷ findings.TextReadDifferently
+    ∷ findings.NoWholeFile ∷ findings.MissingCopyRevision ∷ findings.UnreadMergeinfo ∷ findings.MissingMergeSource
+    ∷ findings.MissingMergeRevision ∷ findings.PropertiesLost ∷ findings.CopyLoses ∷ findings.CopyLetsIn ∷ findings.FolderTakes ∷ findings.FolderBrings ∷ findings.TextComesIn ∷ []
 all_findings = refl
 
 obstacles : filter is_obstacle every_finding
-    ≡ Finding.UnreadBlock ∷ Finding.Delta ∷ Finding.UnknownAction ∷ Finding.TextReadDifferently ∷ []
+    ≡ findings.UnreadBlock ∷ findings.Delta ∷ findings.UnknownAction ∷ findings.TextReadDifferently ∷ []
 obstacles = refl
 
-alarms : filter is_alarm every_finding ≡ Finding.PropertiesLost ∷ Finding.CopyLoses ∷ Finding.CopyLetsIn
-    ∷ Finding.FolderTakes ∷ Finding.FolderBrings ∷ []
+alarms : filter is_alarm every_finding ≡ findings.PropertiesLost ∷ findings.CopyLoses ∷ findings.CopyLetsIn
+    ∷ findings.FolderTakes ∷ findings.FolderBrings ∷ []
 alarms = refl
 
 -- several findings are in this order
 
 three_found : in_node include_a (node (codes "p/a//g") (codes "add") (from (codes "q/g")))
-    ≡ Finding.TextReadDifferently ∷ Finding.NoWholeFile ∷ Finding.PropertiesLost ∷ []
+    ≡ findings.TextReadDifferently ∷ findings.NoWholeFile ∷ findings.PropertiesLost ∷ []
 three_found = refl
 
 unread_and_odd : findings_of include_a (node (codes "p/a/./g") (codes "rename") []) None no_node_faults
-    ≡ Finding.UnreadBlock ∷ Finding.UnknownAction ∷ Finding.TextReadDifferently ∷ []
+    ≡ findings.UnreadBlock ∷ findings.UnknownAction ∷ findings.TextReadDifferently ∷ []
 unread_and_odd = refl
 
 -- the filter stops under exclude too, and under each action: a copy source counts wherever it is
 
 excluded_folder : in_node exclude_a (node (codes "q/g") (codes "add") (from (codes "p/a/g")))
-    ≡ Finding.NoWholeFile ∷ Finding.PropertiesLost ∷ []
+    ≡ findings.NoWholeFile ∷ findings.PropertiesLost ∷ []
 excluded_folder = refl
 
 changed_from_left_out : in_node include_a (node (codes "p/a/g") (codes "change") (from (codes "q/g")))
-    ≡ Finding.NoWholeFile ∷ []
+    ≡ findings.NoWholeFile ∷ []
 changed_from_left_out = refl
 
 -- a kept file that stays a copy brings no text in
@@ -61,7 +63,7 @@ text_of_kept = refl
 
 -- a replaced file that becomes a plain one has an excluded text
 replaced_text : in_node exclude_a (node (codes "q/g") (codes "replace") (whole_from (codes "p/a/g")))
-    ≡ Finding.PropertiesLost ∷ Finding.TextComesIn ∷ []
+    ≡ findings.PropertiesLost ∷ findings.TextComesIn ∷ []
 replaced_text = refl
 
 -- a copy lets in nothing below a path that isn't kept
@@ -71,7 +73,7 @@ nothing_let_in = refl
 
 -- a copy of what isn't kept loses its properties, and isn't compared with its source
 nothing_to_lose : in_node (cut_by Exclude (codes "p" ∷ codes "p/a" ∷ []))
-    (node (codes "q") (codes "add") (from (codes "p"))) ≡ Finding.NoWholeFile ∷ Finding.PropertiesLost ∷ []
+    (node (codes "q") (codes "add") (from (codes "p"))) ≡ findings.NoWholeFile ∷ findings.PropertiesLost ∷ []
 nothing_to_lose = refl
 
 -- under a change a copy source lets nothing in
@@ -95,33 +97,33 @@ folder_changed : in_node include_a (node (codes "p") (codes "change") (from (cod
 folder_changed = refl
 
 -- a directory that is replaced by a new one takes what is below it
-folder_replaced : in_node include_a (node (codes "p") (codes "replace") []) ≡ Finding.FolderTakes ∷ []
+folder_replaced : in_node include_a (node (codes "p") (codes "replace") []) ≡ findings.FolderTakes ∷ []
 folder_replaced = refl
 
 -- a directory far above the prefix counts too
 root_of_prefix : in_node (cut_by Include (codes "p/a/b" ∷ [])) (node (codes "p") (codes "delete") [])
-    ≡ Finding.FolderTakes ∷ []
+    ≡ findings.FolderTakes ∷ []
 root_of_prefix = refl
 
 -- of a dump
 
-all_dump_findings : every_dump_finding ≡ DumpFinding.NoRevision ∷ DumpFinding.OtherNumbers ∷ DumpFinding.NumberFalls
-    ∷ DumpFinding.UnreadRevision ∷ DumpFinding.NodeInFirst ∷ DumpFinding.SourceBefore ∷ DumpFinding.NodeOutside
-    ∷ DumpFinding.NumbersLeft ∷ []
+all_dump_findings : every_dump_finding ≡ dump_wide.NoRevision ∷ dump_wide.OtherNumbers ∷ dump_wide.NumberFalls
+    ∷ dump_wide.UnreadRevision ∷ dump_wide.NodeInFirst ∷ dump_wide.SourceBefore ∷ dump_wide.NodeOutside
+    ∷ dump_wide.NumbersLeft ∷ []
 all_dump_findings = refl
 
 -- a number that comes twice
 number_again : dump_findings include_a (version ∷ zero ∷ one ∷ one ∷ []) (facts false false)
-    ≡ DumpFinding.OtherNumbers ∷ DumpFinding.NumberFalls ∷ []
+    ≡ dump_wide.OtherNumbers ∷ dump_wide.NumberFalls ∷ []
 number_again = refl
 
 -- a number below that of the revision before it, after a node, and one below the first number
 number_falls : dump_findings include_a (version ∷ one ∷ two ∷ trunk ∷ one ∷ []) (facts false false)
-    ≡ DumpFinding.OtherNumbers ∷ DumpFinding.NumberFalls ∷ []
+    ≡ dump_wide.OtherNumbers ∷ dump_wide.NumberFalls ∷ []
 number_falls = refl
 
 below_first : dump_findings include_a (version ∷ two ∷ one ∷ two ∷ []) (facts false false)
-    ≡ DumpFinding.OtherNumbers ∷ DumpFinding.NumberFalls ∷ []
+    ≡ dump_wide.OtherNumbers ∷ dump_wide.NumberFalls ∷ []
 below_first = refl
 
 none_rises : rise [] ≡ true
@@ -143,12 +145,12 @@ node_in_second = refl
 -- three findings in one dump: a node in revision 0, and after it revision 2, which is dropped, and a kept copy
 three_in_dump : dump_findings (record (cut_by Include (codes "trunk" ∷ [])) { empty = DropAll })
     (version ∷ zero ∷ trunk ∷ two ∷ three ∷ copy ∷ []) (facts true false)
-    ≡ DumpFinding.OtherNumbers ∷ DumpFinding.NodeInFirst ∷ DumpFinding.NumbersLeft ∷ []
+    ≡ dump_wide.OtherNumbers ∷ dump_wide.NodeInFirst ∷ dump_wide.NumbersLeft ∷ []
 three_in_dump = refl
 
 -- a copy of revision 2 is from before a dump that begins at revision 3, and isn't in one that begins at 2
 
-copied_from_before : dump_findings include_trunk (version ∷ three ∷ copy ∷ []) (facts false false) ≡ DumpFinding.SourceBefore ∷ []
+copied_from_before : dump_findings include_trunk (version ∷ three ∷ copy ∷ []) (facts false false) ≡ dump_wide.SourceBefore ∷ []
 copied_from_before = refl
 
 copied_from_first : dump_findings include_trunk (version ∷ two ∷ three ∷ copy ∷ []) (facts false false) ≡ []
@@ -157,18 +159,18 @@ copied_from_first = refl
 -- a copy that isn't kept is reported too, and so is one after the first revision; in a change a copy source doesn't
 -- count
 
-dropped_from_before : dump_findings include_a (version ∷ three ∷ copy ∷ []) (facts false false) ≡ DumpFinding.SourceBefore ∷ []
+dropped_from_before : dump_findings include_a (version ∷ three ∷ copy ∷ []) (facts false false) ≡ dump_wide.SourceBefore ∷ []
 dropped_from_before = refl
 
 later_from_before : dump_findings include_trunk (version ∷ three ∷ trunk ∷ four ∷ copy ∷ []) (facts false false)
-    ≡ DumpFinding.SourceBefore ∷ []
+    ≡ dump_wide.SourceBefore ∷ []
 later_from_before = refl
 
 changed_from_before : dump_findings include_trunk (version ∷ three ∷ changed ∷ []) (facts false false) ≡ []
 changed_from_before = refl
 
 -- a copy after another node of its revision is reported too
-second_from_before : dump_findings include_trunk (version ∷ three ∷ trunk ∷ copy ∷ []) (facts false false) ≡ DumpFinding.SourceBefore ∷ []
+second_from_before : dump_findings include_trunk (version ∷ three ∷ trunk ∷ copy ∷ []) (facts false false) ≡ dump_wide.SourceBefore ∷ []
 second_from_before = refl
 
 -- none of the findings of a dump's nodes
@@ -176,8 +178,8 @@ second_from_before = refl
 none_of_none : none_is is_alarm ([] ∷ ([] ∷ []) ∷ []) ≡ true
 none_of_none = refl
 
-other_than_alarms : none_is is_alarm (((Finding.TextReadDifferently ∷ []) ∷ []) ∷ []) ≡ true
+other_than_alarms : none_is is_alarm (((findings.TextReadDifferently ∷ []) ∷ []) ∷ []) ≡ true
 other_than_alarms = refl
 
-one_alarm : none_is is_alarm ([] ∷ ([] ∷ (Finding.TextReadDifferently ∷ Finding.CopyLoses ∷ []) ∷ []) ∷ []) ≡ false
+one_alarm : none_is is_alarm ([] ∷ ([] ∷ (findings.TextReadDifferently ∷ findings.CopyLoses ∷ []) ∷ []) ∷ []) ≡ false
 one_alarm = refl

@@ -1,9 +1,10 @@
 -- Examples of revisions whose properties can't be read.
-use Rattle.dump_history.proofs.Prelude.{◌↔◌, Bool, true, ◌≡◌, ◌&&◌, IsTrue, refl, ap, arith, list_any, and_from, both_ways, DumpRecord, finds, is_revision_record, groups, NamesRevisionBehind, DumpFinding, HasUnreadRevision, AreDumpFindingsOf, groups_name_behind}
+use Rattle.dump_history.proofs.Prelude.{◌↔◌, Bool, true, ◌≡◌, ◌&&◌, IsTrue, refl, ap, arith, list_any, and_from, both_ways, DumpRecord, finds, is_revision_record, groups, NamesRevisionBehind, HasUnreadRevision, AreDumpFindingsOf, groups_name_behind}
 use Rattle.std.proofs.Common.{ℕ, false, List, [], ◌∷◌, codes}
 use Rattle.dump_history.proofs.survey.NamingTest.{names_test, test_tells, behind_told}
 use Rattle.dump_history.proofs.values.WorkedDump.{version, zero, one, two, trunk, settings, none_of}
 use Rattle.dump_history.proofs.values.DumpValues.{with_props, unreadable}
+use Rattle.dump_history.specs.declared.findings.DumpFinding.TheVariants as dump_wide
 
 abbrev pub has_bytes : List ℕ → Bool
 has_bytes [] = false
@@ -40,7 +41,7 @@ named_told rs = behind_told settings names_test test_tells (groups rs)
 abbrev with_unread : List DumpRecord
 with_unread = version ∷ zero ∷ unread_one ∷ two ∷ []
 
-unread_found : AreDumpFindingsOf settings with_unread (DumpFinding.UnreadRevision ∷ [])
+unread_found : AreDumpFindingsOf settings with_unread (dump_wide.UnreadRevision ∷ [])
 unread_found = (
   record { named = named with_unread; unread = true },
   record {
@@ -55,7 +56,7 @@ abbrev unread_again : List DumpRecord
 unread_again = version ∷ zero ∷ one ∷ unread_one ∷ []
 
 both_found : AreDumpFindingsOf settings unread_again
-    (DumpFinding.OtherNumbers ∷ DumpFinding.NumberFalls ∷ DumpFinding.UnreadRevision ∷ [])
+    (dump_wide.OtherNumbers ∷ dump_wide.NumberFalls ∷ dump_wide.UnreadRevision ∷ [])
 both_found = (
   record { named = named unread_again; unread = true },
   record {

@@ -3,35 +3,37 @@ use Rattle.std.specs.Prelude.{◌≡◌, ℕ, Bool, List, Option, None, is_some,
 use Rattle.dump_text.specs.PropertyList.{Property}
 use Rattle.dump_records.specs.RecordText.{DumpRecord}
 use Rattle.dump_rules.specs.Settings.{Settings}
-use Rattle.dump_history.specs.Findings.{Finding, every_finding, NodeFaults, AreNodeFaultsOf, is_found, IsReadBlock}
+use Rattle.dump_history.specs.Findings.{every_finding, NodeFaults, AreNodeFaultsOf, is_found, IsReadBlock}
 use Rattle.dump_survey.specs.CuttingPrefix.{cutting_prefix}
 use Rattle.dump_survey.specs.declared.findings.node_finding.Found.{Found}
 use Rattle.dump_survey.specs.declared.findings.revision_numbers.Numbers.{Numbers}
 use Rattle.dump_survey.specs.declared.findings.refused.Refused.{Refused}
 use Rattle.dump_survey.specs.steps.RevisionNumbers.{AreNumbersBehind}
+use Rattle.dump_history.specs.declared.findings.Finding.{Finding}
+use Rattle.dump_history.specs.declared.findings.Finding.TheVariants as findings
 
 -- whether this finding is one of them
 abbrev pub has_found : Found → Finding → Bool
-has_found found Finding.UnreadBlock = found.obstacles.unread_block
-has_found found Finding.Delta = found.obstacles.delta
-has_found found Finding.UnknownAction = found.obstacles.unknown_action
-has_found found Finding.TextReadDifferently = found.obstacles.text_read_differently
-has_found found Finding.NoWholeFile = found.losses.no_whole_file
-has_found found Finding.MissingCopyRevision = found.refused.copy_revision
-has_found found Finding.UnreadMergeinfo = found.refused.unread
-has_found found Finding.MissingMergeSource = found.refused.missing
-has_found found Finding.MissingMergeRevision = found.refused.outside
-has_found found Finding.PropertiesLost = found.losses.properties_lost
-has_found found Finding.CopyLoses = is_some found.losses.copy_loses
-has_found found Finding.CopyLetsIn = is_some found.losses.copy_lets_in
-has_found found Finding.FolderTakes = found.losses.folder_takes
-has_found found Finding.FolderBrings = found.losses.folder_brings
-has_found found Finding.TextComesIn = found.losses.text_comes_in
+has_found found findings.UnreadBlock = found.obstacles.unread_block
+has_found found findings.Delta = found.obstacles.delta
+has_found found findings.UnknownAction = found.obstacles.unknown_action
+has_found found findings.TextReadDifferently = found.obstacles.text_read_differently
+has_found found findings.NoWholeFile = found.losses.no_whole_file
+has_found found findings.MissingCopyRevision = found.refused.copy_revision
+has_found found findings.UnreadMergeinfo = found.refused.unread
+has_found found findings.MissingMergeSource = found.refused.missing
+has_found found findings.MissingMergeRevision = found.refused.outside
+has_found found findings.PropertiesLost = found.losses.properties_lost
+has_found found findings.CopyLoses = is_some found.losses.copy_loses
+has_found found findings.CopyLetsIn = is_some found.losses.copy_lets_in
+has_found found findings.FolderTakes = found.losses.folder_takes
+has_found found findings.FolderBrings = found.losses.folder_brings
+has_found found findings.TextComesIn = found.losses.text_comes_in
 
 -- the prefix that is reported with this finding, if there is one
 abbrev pub found_prefix : Found → Finding → Option (List ℕ)
-found_prefix found Finding.CopyLoses = option_copied found.losses.copy_loses
-found_prefix found Finding.CopyLetsIn = option_copied found.losses.copy_lets_in
+found_prefix found findings.CopyLoses = option_copied found.losses.copy_loses
+found_prefix found findings.CopyLetsIn = option_copied found.losses.copy_lets_in
 found_prefix found _ = None
 
 -- the faults that the filter finds in a node

@@ -4,11 +4,12 @@ use Rattle.dump_text.specs.PropertyList.{Property}
 use Rattle.dump_records.specs.RecordText.{DumpRecord}
 use Rattle.dump_rules.specs.Settings.{Settings}
 use Rattle.dump_history.specs.RecordChanges.{has_known_action, has_odd_delta, has_plain_texts}
-use Rattle.dump_history.specs.Findings.{Finding, is_found, lacks_source}
+use Rattle.dump_history.specs.Findings.{is_found, lacks_source}
 use Rattle.dump_history.specs.steps.NodeReading.{no_node_faults}
 use Rattle.dump_survey.specs.CuttingPrefix.{cutting_prefix}
 use Rattle.dump_survey.specs.declared.findings.node_finding.Obstacles.{Obstacles}
 use Rattle.dump_survey.specs.declared.findings.node_finding.Losses.{Losses}
+use Rattle.dump_history.specs.declared.findings.Finding.TheVariants as findings
 
 -- these are the obstacles of the node, which has these properties
 pub record AreObstaclesOf (r : DumpRecord) (ps : Option (List Property)) (o : Obstacles) : Type 0 where
@@ -20,13 +21,13 @@ pub record AreObstaclesOf (r : DumpRecord) (ps : Option (List Property)) (o : Ob
 -- these are the losses of the node, with the prefixes that cut; the node's properties don't matter
 pub record AreLossesOf (settings : Settings) (r : DumpRecord) (l : Losses) : Type 0 where
   pub no_whole_file : l.no_whole_file ≡ lacks_source settings r
-  pub properties_lost : l.properties_lost ≡ is_found settings r None no_node_faults Finding.PropertiesLost
-  pub copy_loses : is_some l.copy_loses ≡ is_found settings r None no_node_faults Finding.CopyLoses
+  pub properties_lost : l.properties_lost ≡ is_found settings r None no_node_faults findings.PropertiesLost
+  pub copy_loses : is_some l.copy_loses ≡ is_found settings r None no_node_faults findings.CopyLoses
   pub loses_by : IsTrue (is_some l.copy_loses)
-      → option_copied l.copy_loses ≡ cutting_prefix settings r Finding.CopyLoses
-  pub copy_lets_in : is_some l.copy_lets_in ≡ is_found settings r None no_node_faults Finding.CopyLetsIn
+      → option_copied l.copy_loses ≡ cutting_prefix settings r findings.CopyLoses
+  pub copy_lets_in : is_some l.copy_lets_in ≡ is_found settings r None no_node_faults findings.CopyLetsIn
   pub lets_in_by : IsTrue (is_some l.copy_lets_in)
-      → option_copied l.copy_lets_in ≡ cutting_prefix settings r Finding.CopyLetsIn
-  pub folder_takes : l.folder_takes ≡ is_found settings r None no_node_faults Finding.FolderTakes
-  pub folder_brings : l.folder_brings ≡ is_found settings r None no_node_faults Finding.FolderBrings
-  pub text_comes_in : l.text_comes_in ≡ is_found settings r None no_node_faults Finding.TextComesIn
+      → option_copied l.copy_lets_in ≡ cutting_prefix settings r findings.CopyLetsIn
+  pub folder_takes : l.folder_takes ≡ is_found settings r None no_node_faults findings.FolderTakes
+  pub folder_brings : l.folder_brings ≡ is_found settings r None no_node_faults findings.FolderBrings
+  pub text_comes_in : l.text_comes_in ≡ is_found settings r None no_node_faults findings.TextComesIn

@@ -1,11 +1,11 @@
 -- The first record that causes each finding in a dump as a whole, record by record.
 use Rattle.std.specs.Prelude.{◌≡◌, Bool, Option, Some, None, IsTrue, if◌then◌else◌}
-use Rattle.dump_history.specs.Findings.{DumpFinding}
 use Rattle.dump_survey.specs.declared.findings.places.DumpPlaces.{DumpPlaces}
 use Rattle.dump_survey.specs.declared.findings.places.Place.{Place}
 use Rattle.dump_survey.specs.declared.findings.tally.DumpFindings.{DumpFindings}
 use Rattle.dump_survey.specs.DumpFindings.{has_dump_finding}
 use Rattle.dump_survey.specs.DumpReport.{place_in, comes_up}
+use Rattle.dump_history.specs.declared.findings.DumpFinding.{DumpFinding}
 
 -- the places before the first record: there are none
 abbrev pub no_places : DumpPlaces

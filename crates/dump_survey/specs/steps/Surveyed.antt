@@ -2,9 +2,9 @@
 use Rattle.std.specs.Prelude.{List, map}
 use Rattle.dump_records.specs.steps.RecordViews.{record_item, record_number}
 use Rattle.dump_survey.specs.declared.findings.reported.SurveyedNode.{SurveyedNode}
-use Rattle.dump_history.specs.Findings.{Finding}
 use Rattle.dump_survey.specs.steps.Found.{found_prefix, listed}
 use Rattle.dump_survey.specs.Reported.{NodeReport, reported_naming}
+use Rattle.dump_history.specs.declared.findings.Finding.{Finding}
 
 -- the report of a finding in the node
 abbrev pub reported_of_finding : SurveyedNode → Finding → NodeReport

@@ -4,10 +4,12 @@ use Rattle.dump_records.specs.RecordText.{DumpRecord}
 use Rattle.dump_rules.specs.Settings.{Settings}
 use Rattle.dump_digest.specs.RecordParts.{is_revision_record, is_node, is_kept_node}
 use Rattle.dump_filter.specs.Groups.{revision_number, keeps_empty}
-use Rattle.dump_history.specs.Findings.{DumpFinding, every_dump_finding, copies_from_before}
+use Rattle.dump_history.specs.Findings.{every_dump_finding, copies_from_before}
 use Rattle.dump_survey.specs.declared.findings.revision_numbers.Numbers.{Numbers}
 use Rattle.dump_survey.specs.declared.findings.tally.Present.{Present}
 use Rattle.dump_survey.specs.declared.findings.tally.Tally.{Tally}
+use Rattle.dump_history.specs.declared.findings.DumpFinding.{DumpFinding}
+use Rattle.dump_history.specs.declared.findings.DumpFinding.TheVariants as dump_wide
 
 -- the tally before the first record
 abbrev pub no_tally : Tally
@@ -107,14 +109,14 @@ tally_behind settings t (r ∷ records) = tally_behind settings (next_tally sett
 -- whether a dump that ends here has this finding. The flags say whether numbers are left, and whether the properties
 -- of a revision can't be read.
 abbrev pub is_tallied : Tally → (left unread : Bool) → DumpFinding → Bool
-is_tallied t left unread DumpFinding.NoRevision = t.count == 0
-is_tallied t left unread DumpFinding.OtherNumbers = not t.numbered
-is_tallied t left unread DumpFinding.NumberFalls = not t.rising
-is_tallied t left unread DumpFinding.UnreadRevision = unread
-is_tallied t left unread DumpFinding.NodeInFirst = t.first == 0 && t.node_in_first
-is_tallied t left unread DumpFinding.SourceBefore = t.source_before
-is_tallied t left unread DumpFinding.NodeOutside = t.node_outside
-is_tallied t left unread DumpFinding.NumbersLeft = left
+is_tallied t left unread dump_wide.NoRevision = t.count == 0
+is_tallied t left unread dump_wide.OtherNumbers = not t.numbered
+is_tallied t left unread dump_wide.NumberFalls = not t.rising
+is_tallied t left unread dump_wide.UnreadRevision = unread
+is_tallied t left unread dump_wide.NodeInFirst = t.first == 0 && t.node_in_first
+is_tallied t left unread dump_wide.SourceBefore = t.source_before
+is_tallied t left unread dump_wide.NodeOutside = t.node_outside
+is_tallied t left unread dump_wide.NumbersLeft = left
 
 -- the findings in a dump that ends here
 abbrev pub tally_findings : Tally → (left unread : Bool) → List DumpFinding

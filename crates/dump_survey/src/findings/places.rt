@@ -2,10 +2,9 @@
 ghost use Rattle.std.specs.Prelude.{◌≡◌};
 ghost use Rattle.dump_survey.specs.DumpReport.{place_in};
 ghost use Rattle.dump_survey.specs.steps.Places.{AreNextPlaces, first_place, no_places};
-ghost use Rattle.dump_survey.specs.steps.LineViews.{whole_meaning};
 
 use crate::findings::tally::DumpFindings;
-use crate::findings::whole_finding::WholeFinding;
+use dump_history::DumpFinding;
 
 /// The place of a record in a dump.
 #[derive(Clone, Copy, Debug, PartialEq, Eq)]
@@ -58,18 +57,18 @@ impl DumpPlaces {
     }
 
     /// The place of the finding, if it has one.
-    pub(crate) fn of(&self, finding: WholeFinding) -> Option<Place>
-        ensures { result ≡ place_in self.now (whole_meaning finding) }
+    pub(crate) fn of(&self, finding: DumpFinding) -> Option<Place>
+        ensures { result ≡ place_in self.now finding }
     {
         match finding {
-            WholeFinding::NoRevision => None,
-            WholeFinding::OtherNumbers => self.other_numbers,
-            WholeFinding::NumberFalls => self.number_falls,
-            WholeFinding::UnreadRevision => self.unread_revision,
-            WholeFinding::NodeInFirst => self.node_in_first,
-            WholeFinding::SourceBefore => self.source_before,
-            WholeFinding::NodeOutside => self.node_outside,
-            WholeFinding::NumbersLeft => self.numbers_left,
+            DumpFinding::NoRevision => None,
+            DumpFinding::OtherNumbers => self.other_numbers,
+            DumpFinding::NumberFalls => self.number_falls,
+            DumpFinding::UnreadRevision => self.unread_revision,
+            DumpFinding::NodeInFirst => self.node_in_first,
+            DumpFinding::SourceBefore => self.source_before,
+            DumpFinding::NodeOutside => self.node_outside,
+            DumpFinding::NumbersLeft => self.numbers_left,
         }
     }
 

@@ -2,11 +2,11 @@
 ghost use Rattle.std.specs.Prelude.{◌≡◌, ◌++◌, IsTrue, OnOk, map};
 ghost use Rattle.dump_records.specs.steps.RecordViews.{record_item};
 ghost use Rattle.dump_digest.specs.RecordParts.{is_node};
-ghost use Rattle.dump_survey.specs.Meaning.{meaning};
 ghost use Rattle.dump_survey.specs.Reported.{reported_view};
 ghost use Rattle.dump_survey.specs.steps.Surveyed.{reported_of_finding, reported_of_node};
 
-use crate::findings::node_finding::{EVERY_FINDING, Found, NodeFinding};
+use crate::findings::node_finding::Found;
+use dump_history::{EVERY_FINDING, Finding};
 use dump_nodes::{copy_path_of, copy_revision_of, path_of};
 use dump_records::Record;
 use dump_rules::Memory;
@@ -14,7 +14,7 @@ use dump_rules::Memory;
 /// A finding in a node, and the node's place.
 #[derive(Clone, Copy, Debug, PartialEq, Eq)]
 pub struct ReportedFinding<'o, 'a> {
-    pub finding: NodeFinding,
+    pub finding: Finding,
     /// The number of the node's record in the dump, from 0.
     pub number: u64,
     /// The offset of the record's first byte in the dump.
@@ -43,9 +43,9 @@ pub struct SurveyedNode<'o, 'a> {
 
 impl<'o, 'a> SurveyedNode<'o, 'a> {
     /// The report of one finding in the node.
-    pub(crate) fn reported(&self, finding: NodeFinding) -> ReportedFinding<'o, 'a>
+    pub(crate) fn reported(&self, finding: Finding) -> ReportedFinding<'o, 'a>
         requires { IsTrue (is_node (record_item self.now.item)) }
-        ensures { reported_view result ≡ reported_of_finding self.now (meaning finding) }
+        ensures { reported_view result ≡ reported_of_finding self.now finding }
     {
         ReportedFinding {
             finding,

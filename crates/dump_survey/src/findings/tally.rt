@@ -7,10 +7,9 @@ ghost use Rattle.dump_history.specs.Findings.{copies_from_before, every_dump_fin
 ghost use Rattle.dump_survey.specs.steps.Tally.{first_with, is_above_last, least_behind, lesser, no_tally, keeps_open, keeps_present, node_tally, next_tally, numbers_of, tally_findings};
 ghost use Rattle.dump_survey.specs.steps.NamedRevisions.{is_behind_dropped};
 ghost use Rattle.dump_survey.specs.DumpFindings.{has_dump_finding, listed_findings};
-ghost use Rattle.dump_survey.specs.steps.LineViews.{whole_meaning};
 
 use crate::findings::revision_numbers::Numbers;
-use crate::findings::whole_finding::WholeFinding;
+use dump_history::DumpFinding;
 use dump_nodes::{copy_revision_of, makes_copy};
 use dump_records::Record;
 use dump_rules::{Empty, Options};
@@ -38,18 +37,18 @@ pub struct DumpFindings {
 
 impl DumpFindings {
     /// Whether this finding is one of them.
-    pub(crate) fn has(&self, finding: WholeFinding) -> bool
-        ensures { result ≡ has_dump_finding self.now (whole_meaning finding) }
+    pub(crate) fn has(&self, finding: DumpFinding) -> bool
+        ensures { result ≡ has_dump_finding self.now finding }
     {
         match finding {
-            WholeFinding::NoRevision => self.no_revision,
-            WholeFinding::OtherNumbers => self.other_numbers,
-            WholeFinding::NumberFalls => self.number_falls,
-            WholeFinding::UnreadRevision => self.unread_revision,
-            WholeFinding::NodeInFirst => self.node_in_first,
-            WholeFinding::SourceBefore => self.source_before,
-            WholeFinding::NodeOutside => self.node_outside,
-            WholeFinding::NumbersLeft => self.numbers_left,
+            DumpFinding::NoRevision => self.no_revision,
+            DumpFinding::OtherNumbers => self.other_numbers,
+            DumpFinding::NumberFalls => self.number_falls,
+            DumpFinding::UnreadRevision => self.unread_revision,
+            DumpFinding::NodeInFirst => self.node_in_first,
+            DumpFinding::SourceBefore => self.source_before,
+            DumpFinding::NodeOutside => self.node_outside,
+            DumpFinding::NumbersLeft => self.numbers_left,
         }
     }
 

@@ -1,107 +1,21 @@
 //! The lines that count the findings, one line for each kind, with advice.
 ghost use Rattle.std.specs.Prelude.{◌≡◌, ◌++◌, [], if◌then◌else◌, OnOk, flat_map, map};
 ghost use Rattle.dump_survey.specs.DumpFindings.{has_dump_finding, listed_findings};
-ghost use Rattle.dump_survey.specs.Kinds.{broken_kind, dump_kind_line, ending_kind_line, finding_advice, finding_kind, finding_what, kind_line, kind_lines, prefix_kind, times_in_prefixes};
-ghost use Rattle.dump_survey.specs.Meaning.{meaning};
+ghost use Rattle.dump_survey.specs.FindingRows.{finding_row};
+ghost use Rattle.dump_survey.specs.Kinds.{broken_kind, dump_kind_line, ending_kind_line, kind_line, kind_lines, prefix_kind, times_in_prefixes};
 ghost use Rattle.dump_survey.specs.PrefixFindings.{prefix_view};
 ghost use Rattle.dump_survey.specs.SurveyEnds.{survey_ending};
 ghost use Rattle.dump_survey.specs.steps.Counts.{count_in};
-ghost use Rattle.dump_survey.specs.steps.LineViews.{kind_view, whole_meaning};
+ghost use Rattle.dump_survey.specs.steps.LineViews.{kind_view};
 
-use crate::findings::node_finding::{EVERY_FINDING, NodeFinding};
 use crate::findings::prefix_findings::{PrefixFinding, ReportedPrefix};
 use crate::findings::surveyor::{End, SurveyEnd};
 use crate::findings::tally::DumpFindings;
-use crate::findings::whole_finding::WholeFinding;
 use crate::report::counts::Counts;
+use crate::report::finding_rows::{Kind, dump_row, node_row};
 use crate::report::survey_lines::{push_fault_and_place, push_number};
+use dump_history::{DumpFinding, EVERY_DUMP_FINDING, EVERY_FINDING, Finding};
 use dump_rules::Memory;
-use dump_text::FaultKind;
-
-/// The parts of the line of a kind.
-#[derive(Clone, Copy, Debug, PartialEq, Eq)]
-pub(crate) struct Kind {
-    /// What the survey found.
-    pub(crate) what: &'static [u8],
-    /// The fault with which the filter stops because of it, if it stops.
-    pub(crate) fault: Option<FaultKind>,
-    /// What the user can do about it.
-    pub(crate) advice: &'static [u8],
-}
-
-/// What a finding in nodes is, in words.
-#[tactic(auto, unfolding(crate::specs::Kinds::finding_what))]
-fn finding_what(finding: NodeFinding) -> &'static [u8]
-    ensures { result.now ≡ finding_what (meaning finding) }
-{
-    match finding {
-        NodeFinding::UnreadBlock => b"properties that cannot be read",
-        NodeFinding::Delta => b"deltas in a dump of format version 2",
-        NodeFinding::UnknownAction => b"nodes with no action, or an unknown one",
-        NodeFinding::TextReadDifferently => b"texts that svnadmin load reads differently",
-        NodeFinding::NoWholeFile => b"copies whose source is excluded",
-        NodeFinding::MissingCopyRevision => b"copies whose source's revision gets no new number",
-        NodeFinding::UnreadMergeinfo => b"invalid svn:mergeinfo",
-        NodeFinding::MissingMergeSource => b"svn:mergeinfo of excluded paths",
-        NodeFinding::MissingMergeRevision => b"svn:mergeinfo of revisions outside of the dump",
-        NodeFinding::PropertiesLost => {
-            b"copies that may lack the properties of their excluded source"
-        }
-        NodeFinding::CopyLoses => b"copies that may lack paths that are excluded at their source",
-        NodeFinding::CopyLetsIn => b"copies that may bring back paths that are excluded",
-        NodeFinding::FolderTakes => b"excluded directories that are deleted",
-        NodeFinding::FolderBrings => b"excluded copies of directories",
-        NodeFinding::TextComesIn => b"copies with a text from their excluded source",
-    }
-}
-
-/// What the user can do about a finding in nodes.
-#[tactic(auto, unfolding(crate::specs::Kinds::finding_advice))]
-fn finding_advice(finding: NodeFinding) -> &'static [u8]
-    ensures { result.now ≡ finding_advice (meaning finding) }
-{
-    match finding {
-        NodeFinding::UnreadBlock => b"dump the repository again",
-        NodeFinding::Delta => b"use svnadmin dump --deltas, which writes version 3",
-        NodeFinding::UnknownAction => b"dump the repository again",
-        NodeFinding::TextReadDifferently => {
-            b"correct them in the dump, since a prefix may not match what is loaded"
-        }
-        NodeFinding::NoWholeFile => b"include the source too, or exclude the copy",
-        NodeFinding::MissingCopyRevision => {
-            b"do not use --renumber-revs, or dump from an earlier revision on"
-        }
-        NodeFinding::UnreadMergeinfo => {
-            b"correct the property and dump the repository again, or exclude the path"
-        }
-        NodeFinding::MissingMergeSource => {
-            b"use --skip-missing-merge-sources, or include these paths too"
-        }
-        NodeFinding::MissingMergeRevision => {
-            b"do not use --renumber-revs, or use --skip-missing-merge-sources if all of them are before the first one"
-        }
-        NodeFinding::PropertiesLost => b"include the source too",
-        NodeFinding::CopyLoses => {
-            b"exclude these paths below the copy too, or not below the source"
-        }
-        NodeFinding::CopyLetsIn => b"exclude these paths below the source too",
-        NodeFinding::FolderTakes => b"include the directory, or delete what stays after the load",
-        NodeFinding::FolderBrings => b"include the copy and its source",
-        NodeFinding::TextComesIn => b"exclude the copy too if its text has to go",
-    }
-}
-
-/// The parts of the line of a kind of finding in nodes.
-#[tactic(auto, unfolding(crate::specs::Kinds::finding_kind, crate::specs::steps::LineViews::kind_view))]
-fn finding_kind(finding: NodeFinding) -> Kind
-    ensures { kind_view result ≡ finding_kind (meaning finding) }
-{
-    Kind {
-        what: finding_what(finding),
-        fault: finding.fault(),
-        advice: finding_advice(finding),
-    }
-}
 
 /// The parts of the line of a kind of finding in prefixes.
 #[tactic(auto, unfolding(crate::specs::Kinds::prefix_kind, crate::specs::steps::LineViews::kind_view))]
@@ -153,17 +67,13 @@ fn push_kind_line(lines: &mut Vec<u8>, times: u64, kind: &Kind) -> Result<(), Me
 }
 
 /// Adds the lines of these kinds, each if it was reported of a node.
-fn push_node_kinds(
-    lines: &mut Vec<u8>,
-    counts: &Counts,
-    findings: &[NodeFinding],
-) -> Result<(), Memory>
+fn push_node_kinds(lines: &mut Vec<u8>, counts: &Counts, findings: &[Finding]) -> Result<(), Memory>
     ensures { OnOk result (lines.new.items ≡ lines.old.items
-        ++ flat_map (λ f. kind_line (count_in counts.now f) (finding_kind f)) (map meaning findings.now)) }
+        ++ flat_map (λ f. kind_line (count_in counts.now f) (finding_row f).kind) findings.now) }
 {
     let mut left = findings;
     while let [finding, others @ ..] = left {
-        push_kind_line(lines, counts.of(*finding), &finding_kind(*finding))?;
+        push_kind_line(lines, counts.of(*finding), &node_row(*finding).kind)?;
         left = others;
     }
     Ok(())
@@ -173,13 +83,13 @@ fn push_node_kinds(
 fn push_dump_kind(
     lines: &mut Vec<u8>,
     found: &DumpFindings,
-    finding: WholeFinding,
+    finding: DumpFinding,
 ) -> Result<(), Memory>
     ensures { OnOk result (lines.new.items ≡ lines.old.items
-        ++ (if has_dump_finding found.now (whole_meaning finding) then dump_kind_line (whole_meaning finding) else [])) }
+        ++ (if has_dump_finding found.now finding then dump_kind_line finding else [])) }
 {
     if found.has(finding) {
-        push_kind_line(lines, 1, &finding.kind())?;
+        push_kind_line(lines, 1, &dump_row(finding).kind)?;
     }
     Ok(())
 }
@@ -189,14 +99,11 @@ fn push_dump_kinds(lines: &mut Vec<u8>, found: &DumpFindings) -> Result<(), Memo
     ensures { OnOk result (lines.new.items ≡ lines.old.items
         ++ flat_map dump_kind_line (listed_findings found.now)) }
 {
-    push_dump_kind(lines, found, WholeFinding::NoRevision)?;
-    push_dump_kind(lines, found, WholeFinding::OtherNumbers)?;
-    push_dump_kind(lines, found, WholeFinding::NumberFalls)?;
-    push_dump_kind(lines, found, WholeFinding::UnreadRevision)?;
-    push_dump_kind(lines, found, WholeFinding::NodeInFirst)?;
-    push_dump_kind(lines, found, WholeFinding::SourceBefore)?;
-    push_dump_kind(lines, found, WholeFinding::NodeOutside)?;
-    push_dump_kind(lines, found, WholeFinding::NumbersLeft)?;
+    let mut left = EVERY_DUMP_FINDING.as_slice();
+    while let [finding, others @ ..] = left {
+        push_dump_kind(lines, found, *finding)?;
+        left = others;
+    }
     Ok(())
 }
 

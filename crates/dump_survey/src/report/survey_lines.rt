@@ -5,28 +5,27 @@ ghost use Rattle.dump_digest.specs.RecordParts.{is_node};
 ghost use Rattle.dump_survey.specs.AddedPrefixLines.{added_prefix_line, added_prefix_lines, added_prefix_words};
 ghost use Rattle.dump_survey.specs.DumpFindings.{has_dump_finding, listed_findings};
 ghost use Rattle.dump_survey.specs.DumpReport.{reported_at_end, reported_of_dump};
+ghost use Rattle.dump_survey.specs.FindingRows.{finding_row};
 ghost use Rattle.dump_survey.specs.Kinds.{kind_lines};
 ghost use Rattle.dump_survey.specs.LeftOutLine.{left_out_line, left_out_words};
 ghost use Rattle.dump_survey.specs.AdviceLines.{folder_line, folder_lines};
-ghost use Rattle.dump_survey.specs.Lines.{broken_line, cut_words, dump_line, ending_line, fault_and_place, finding_words, node_line, place_text, shown_byte, shown_path, small_digit, source_text, tells_source};
-ghost use Rattle.dump_survey.specs.Meaning.{meaning};
+ghost use Rattle.dump_survey.specs.Lines.{broken_line, cut_words, dump_line, ending_line, fault_and_place, node_line, place_text, is_control_pair, shown_byte, shown_control, shown_path, shown_text, small_digit, source_text};
 ghost use Rattle.dump_survey.specs.PrefixFindings.{prefix_view};
 ghost use Rattle.dump_survey.specs.PrefixLines.{prefix_lines};
 ghost use Rattle.dump_survey.specs.SurveyEnds.{survey_ending};
 ghost use Rattle.dump_survey.specs.Reported.{reported_view};
 ghost use Rattle.dump_survey.specs.steps.Counts.{count_in};
 ghost use Rattle.dump_survey.specs.steps.Surveyed.{reported_of_node};
-ghost use Rattle.dump_survey.specs.steps.LineViews.{whole_meaning};
 
-use crate::findings::node_finding::{EVERY_FINDING, NodeFinding};
 use crate::findings::places::Place;
 use crate::findings::prefix_findings::ReportedPrefix;
 use crate::findings::reported::{ReportedFinding, SurveyedNode};
 use crate::findings::surveyor::{End, SurveyEnd};
-use crate::findings::whole_finding::WholeFinding;
 use crate::report::counts::Counts;
+use crate::report::finding_rows::{dump_row, node_row};
 use crate::report::kind_lines::push_kind_lines;
 use crate::report::prefix_lines::push_prefix_lines;
+use dump_history::{DumpFinding, EVERY_DUMP_FINDING, EVERY_FINDING};
 use dump_rules::{Memory, Side, bare_path};
 use dump_text::{FaultKind, spell};
 use std::alloc::Global;
@@ -43,30 +42,57 @@ fn small_digit(value: u8) -> u8
     }
 }
 
+/// Adds a control character in the form in which it is shown.
+#[tactic(auto, unfolding(crate::specs::Lines::shown_control))]
+fn push_control(line: &mut Vec<u8>, number: u8) -> Result<(), Memory>
+    ensures { OnOk result (line.new.items ≡ line.old.items ++ shown_control number) }
+{
+    let shown = [
+        b'\\',
+        b'x',
+        small_digit(number / 16),
+        small_digit(number % 16),
+    ];
+    Ok(line.extend_from_slice(&shown)?)
+}
+
 /// Adds a byte in the form in which it is shown.
 #[tactic(auto, unfolding(crate::specs::Lines::shown_byte))]
 fn push_byte(line: &mut Vec<u8>, byte: u8) -> Result<(), Memory>
     ensures { OnOk result (line.new.items ≡ line.old.items ++ shown_byte byte) }
 {
     if byte < 32 || byte == 127 {
-        let shown = [b'\\', b'x', small_digit(byte / 16), small_digit(byte % 16)];
-        line.extend_from_slice(&shown)?;
+        push_control(line, byte)
     } else {
-        line.push(byte)?;
+        Ok(line.push(byte)?)
     }
-    Ok(())
+}
+
+/// Whether the two bytes are a control character from U+0080 to U+009F in UTF-8.
+fn is_control_pair(first: u8, second: u8) -> bool
+    ensures { result ≡ is_control_pair first second }
+{
+    first == 0xc2 && 128 <= second && second < 160
 }
 
 /// Adds a text in the form in which it is shown.
 pub(crate) fn push_shown(line: &mut Vec<u8>, text: &[u8]) -> Result<(), Memory>
-    ensures { OnOk result (line.new.items ≡ line.old.items ++ flat_map shown_byte text.now) }
+    ensures { OnOk result (line.new.items ≡ line.old.items ++ shown_text text.now) }
 {
     let mut rest = text;
-    while let [byte, behind @ ..] = rest {
-        push_byte(line, *byte)?;
-        rest = behind;
+    loop {
+        rest = match rest {
+            [] => return Ok(()),
+            [first, second, behind @ ..] if is_control_pair(*first, *second) => {
+                push_control(line, *second)?;
+                behind
+            }
+            [byte, behind @ ..] => {
+                push_byte(line, *byte)?;
+                behind
+            }
+        };
     }
-    Ok(())
 }
 
 /// Adds a path in the form in which it is shown.
@@ -138,70 +164,18 @@ fn push_source(line: &mut Vec<u8>, reported: &ReportedFinding<'_, '_>) -> Result
     push_number(line, reported.copy_revision)
 }
 
-/// Whether the finding's line states the copy source of the node.
-fn tells_source(finding: NodeFinding) -> bool
-    ensures { result ≡ tells_source (meaning finding) }
-{
-    matches!(
-        finding,
-        NodeFinding::NoWholeFile
-            | NodeFinding::MissingCopyRevision
-            | NodeFinding::PropertiesLost
-            | NodeFinding::CopyLoses
-            | NodeFinding::CopyLetsIn
-            | NodeFinding::FolderBrings
-            | NodeFinding::TextComesIn
-    )
-}
-
 /// Adds the copy source of the node, if the finding's line states it.
 fn push_reported_source(
     line: &mut Vec<u8>,
     reported: &ReportedFinding<'_, '_>,
 ) -> Result<(), Memory>
     ensures { OnOk result (line.new.items ≡ line.old.items
-        ++ (if tells_source (meaning reported.now.finding) then source_text (reported_view reported.now) else [])) }
+        ++ (if (finding_row reported.now.finding).states_source then source_text (reported_view reported.now) else [])) }
 {
-    if tells_source(reported.finding) {
+    if node_row(reported.finding).states_source {
         push_source(line, reported)?;
     }
     Ok(())
-}
-
-/// The words of the finding's line.
-#[tactic(auto, unfolding(crate::specs::Lines::finding_words))]
-fn words(finding: NodeFinding) -> &'static [u8]
-    ensures { result.now ≡ finding_words (meaning finding) }
-{
-    match finding {
-        NodeFinding::UnreadBlock => b"its properties cannot be read",
-        NodeFinding::Delta => b"a delta in a dump of format version 2",
-        NodeFinding::UnknownAction => b"no action, or an unknown one",
-        NodeFinding::TextReadDifferently => {
-            b"a path, a copy source or another text that svnadmin load reads differently"
-        }
-        NodeFinding::NoWholeFile => b"the source is excluded: svndumpfilter stops here",
-        NodeFinding::MissingCopyRevision => {
-            b"the source's revision gets no new number: svndumpfilter stops here"
-        }
-        NodeFinding::UnreadMergeinfo => b"invalid svn:mergeinfo: svndumpfilter stops here",
-        NodeFinding::MissingMergeSource => {
-            b"svn:mergeinfo of an excluded path: svndumpfilter stops here"
-        }
-        NodeFinding::MissingMergeRevision => {
-            b"svn:mergeinfo of a revision outside of the dump: svndumpfilter stops here"
-        }
-        NodeFinding::PropertiesLost => b"the source is excluded: the copy may lack its properties",
-        NodeFinding::CopyLoses => b"the copy may lack paths that are excluded at its source",
-        NodeFinding::CopyLetsIn => b"the copy may bring back paths that are excluded here",
-        NodeFinding::FolderTakes => {
-            b"this excluded directory is deleted: what is included below it may stay"
-        }
-        NodeFinding::FolderBrings => {
-            b"this copy of a directory is excluded: what is included below it may be missing"
-        }
-        NodeFinding::TextComesIn => b"the source is excluded, and the copy has a text from there",
-    }
 }
 
 /// Adds the prefix that causes the finding, if there is one.
@@ -224,6 +198,7 @@ pub(crate) fn push_node_line(
 ) -> Result<(), Memory>
     ensures { OnOk result (lines.new.items ≡ lines.old.items ++ node_line (reported_view reported.now)) }
 {
+    let row = node_row(reported.finding);
     let at = Place {
         number: reported.number,
         place: reported.place,
@@ -234,25 +209,26 @@ pub(crate) fn push_node_line(
     push_path(lines, reported.path)?;
     push_reported_source(lines, reported)?;
     lines.extend_from_slice(b": ")?;
-    lines.extend_from_slice(words(reported.finding))?;
+    lines.extend_from_slice(row.words)?;
     push_cut(lines, reported.prefix)?;
-    push_fault_and_place(lines, reported.finding.fault(), Some(at))?;
+    push_fault_and_place(lines, row.kind.fault, Some(at))?;
     Ok(lines.push(b'\n')?)
 }
 
 /// Adds the line of a finding in the dump as a whole, if it is found, with the place of the first record that causes
 /// it.
-#[tactic(auto, unfolding(crate::specs::Lines::dump_line))]
-fn push_dump_line(lines: &mut Vec<u8>, end: &SurveyEnd, finding: WholeFinding) -> Result<(), Memory>
+#[tactic(auto, unfolding(crate::specs::Lines::dump_line, crate::specs::steps::LineViews::kind_view))]
+fn push_dump_line(lines: &mut Vec<u8>, end: &SurveyEnd, finding: DumpFinding) -> Result<(), Memory>
     ensures { OnOk result (lines.new.items ≡ lines.old.items
-        ++ (if has_dump_finding end.now.dump (whole_meaning finding)
-        then dump_line (reported_of_dump end.now (whole_meaning finding)) else [])) }
+        ++ (if has_dump_finding end.now.dump finding
+        then dump_line (reported_of_dump end.now finding) else [])) }
 {
     if !end.dump.has(finding) {
         return Ok(());
     }
-    lines.extend_from_slice(finding.words())?;
-    push_fault_and_place(lines, finding.fault(), end.places.of(finding))?;
+    let row = dump_row(finding);
+    lines.extend_from_slice(row.words)?;
+    push_fault_and_place(lines, row.kind.fault, end.places.of(finding))?;
     Ok(lines.push(b'\n')?)
 }
 
@@ -260,14 +236,11 @@ fn push_dump_line(lines: &mut Vec<u8>, end: &SurveyEnd, finding: WholeFinding) -
 fn push_dump_lines(lines: &mut Vec<u8>, end: &SurveyEnd) -> Result<(), Memory>
     ensures { OnOk result (lines.new.items ≡ lines.old.items ++ flat_map dump_line (reported_at_end end.now)) }
 {
-    push_dump_line(lines, end, WholeFinding::NoRevision)?;
-    push_dump_line(lines, end, WholeFinding::OtherNumbers)?;
-    push_dump_line(lines, end, WholeFinding::NumberFalls)?;
-    push_dump_line(lines, end, WholeFinding::UnreadRevision)?;
-    push_dump_line(lines, end, WholeFinding::NodeInFirst)?;
-    push_dump_line(lines, end, WholeFinding::SourceBefore)?;
-    push_dump_line(lines, end, WholeFinding::NodeOutside)?;
-    push_dump_line(lines, end, WholeFinding::NumbersLeft)?;
+    let mut left = EVERY_DUMP_FINDING.as_slice();
+    while let [finding, others @ ..] = left {
+        push_dump_line(lines, end, *finding)?;
+        left = others;
+    }
     Ok(())
 }
 

@@ -1,11 +1,11 @@
 //! The prefix that a survey reports with a copy that is filtered differently from its source.
 use super::{COPIED, rules};
-use crate::{NodeFinding, ReportedFinding, survey_dump};
+use crate::{Finding, ReportedFinding, survey_dump};
 use dump_rules::Side;
 use std::test::Fail;
 
 /// Whether this finding names this prefix.
-fn names(reported: &ReportedFinding<'_, '_>, finding: NodeFinding, prefix: &[u8]) -> bool {
+fn names(reported: &ReportedFinding<'_, '_>, finding: Finding, prefix: &[u8]) -> bool {
     reported.finding == finding && reported.prefix == Some(prefix)
 }
 
@@ -13,8 +13,8 @@ fn names(reported: &ReportedFinding<'_, '_>, finding: NodeFinding, prefix: &[u8]
 fn are_cut(reported: &[ReportedFinding<'_, '_>]) -> bool {
     match reported {
         [loses, lets_in] => {
-            names(loses, NodeFinding::CopyLoses, b"/t/f/")
-                && names(lets_in, NodeFinding::CopyLetsIn, b"b/g")
+            names(loses, Finding::CopyLoses, b"/t/f/")
+                && names(lets_in, Finding::CopyLetsIn, b"b/g")
         }
         _ => false,
     }

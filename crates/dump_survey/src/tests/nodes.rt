@@ -1,13 +1,13 @@
 //! The findings in single nodes.
 use super::rules;
-use crate::{NodeFinding, ReportedFinding, survey_dump};
+use crate::{Finding, ReportedFinding, survey_dump};
 use dump_rules::{Empty, Options, Side};
 use std::alloc::Global;
 use std::process::Abort;
 use std::test::Fail;
 
 /// Whether the survey reports exactly these findings.
-fn are_reported(reported: &[ReportedFinding<'_, '_>], wanted: &[NodeFinding]) -> bool {
+fn are_reported(reported: &[ReportedFinding<'_, '_>], wanted: &[Finding]) -> bool {
     for (reported, finding) in reported.iter().zip(wanted) {
         if reported.finding != *finding {
             return false;
@@ -23,7 +23,7 @@ fn assert_found(
     options: &Options,
     dump: &str,
     node: &str,
-    wanted: &[NodeFinding],
+    wanted: &[Finding],
 ) -> Result<(), Fail> {
     let survey = survey_dump(alloc, dump.as_bytes(), options)?;
     assert!(rt; are_reported(&survey.reported, wanted), "{node}");
@@ -37,7 +37,7 @@ fn assert_found_alone(
     side: Side,
     prefix: &str,
     node: &str,
-    wanted: &[NodeFinding],
+    wanted: &[Finding],
 ) -> Result<(), Fail> {
     let options = rules(alloc, side, prefix)?;
     let dump = format!(in alloc;
@@ -46,28 +46,28 @@ fn assert_found_alone(
     assert_found(rt, alloc, &options, dump.as_str(), node, wanted)
 }
 
-const NO: &[NodeFinding] = &[];
+const NO: &[Finding] = &[];
 
-const ODD: &[NodeFinding] = &[NodeFinding::TextReadDifferently];
+const ODD: &[Finding] = &[Finding::TextReadDifferently];
 
-const LOST: &[NodeFinding] = &[NodeFinding::PropertiesLost];
+const LOST: &[Finding] = &[Finding::PropertiesLost];
 
-const LOSES: &[NodeFinding] = &[NodeFinding::CopyLoses];
+const LOSES: &[Finding] = &[Finding::CopyLoses];
 
-const TAKES: &[NodeFinding] = &[NodeFinding::FolderTakes];
+const TAKES: &[Finding] = &[Finding::FolderTakes];
 
-const UNCHANGED: [(&str, &[NodeFinding]); 11] = [
+const UNCHANGED: [(&str, &[Finding]); 11] = [
     (
         "Node-path: a\nNode-action: change\nProp-content-length: 10\nContent-length: 10\n\nPROPS-ENDX",
-        &[NodeFinding::UnreadBlock],
+        &[Finding::UnreadBlock],
     ),
     (
         "Node-path: a\nNode-action: change\nText-delta: true\n\n",
-        &[NodeFinding::Delta],
+        &[Finding::Delta],
     ),
     (
         "Node-path: a\nNode-action: move\n\n",
-        &[NodeFinding::UnknownAction],
+        &[Finding::UnknownAction],
     ),
     ("Node-path: /a\nNode-action: change\n\n", NO),
     ("Node-path: a/b/\nNode-action: change\n\n", ODD),
@@ -105,26 +105,21 @@ const LOST_FILE: &str =
 Node-kind: file\nProp-content-length: 10\nText-content-length: 1\nContent-length: 11\n\nPROPS-END\na";
 
 /// Each row has the side, the prefix, the node, and the findings in it.
-const COPIES: [(Side, &str, &str, &[NodeFinding]); 13] = [
-    (
-        Side::Include,
-        "trunk",
-        LOST_FOLDER,
-        &[NodeFinding::NoWholeFile],
-    ),
+const COPIES: [(Side, &str, &str, &[Finding]); 13] = [
+    (Side::Include, "trunk", LOST_FOLDER, &[Finding::NoWholeFile]),
     (Side::Include, "trunk", LOST_BARE_FILE, LOST),
     (Side::Include, "trunk", LOST_FILE, NO),
-    (Side::Exclude, "o", LOST_FILE, &[NodeFinding::TextComesIn]),
+    (Side::Exclude, "o", LOST_FILE, &[Finding::TextComesIn]),
     (
         Side::Exclude,
         "o",
         LOST_BARE_FILE,
-        &[NodeFinding::PropertiesLost, NodeFinding::TextComesIn],
+        &[Finding::PropertiesLost, Finding::TextComesIn],
     ),
     (Side::Exclude, "trunk", LOST_FOLDER, NO),
     (Side::Exclude, "t/f", COPY, LOSES),
     (Side::Exclude, "/t/f//", COPY, LOSES),
-    (Side::Exclude, "b/f", COPY, &[NodeFinding::CopyLetsIn]),
+    (Side::Exclude, "b/f", COPY, &[Finding::CopyLetsIn]),
     (Side::Exclude, "bt/f", COPY, NO),
     (Side::Exclude, "c/f", COPY, NO),
     (Side::Include, "t/f", COPY, NO),
@@ -167,30 +162,30 @@ const COPIED: &str =
 const REPLACED: &str =
     "Node-path: o\nNode-kind: dir\nNode-action: replace\nNode-copyfrom-rev: 0\nNode-copyfrom-path: t\n\n";
 
-const FOLDERS_AND_MERGES: [(Side, &str, &str, &[NodeFinding]); 10] = [
+const FOLDERS_AND_MERGES: [(Side, &str, &str, &[Finding]); 10] = [
     (Side::Include, "o/s", DELETED, TAKES),
     (Side::Include, "o", DELETED, NO),
     (Side::Include, "os/s", DELETED, NO),
     (Side::Exclude, "o/s", DELETED, NO),
-    (Side::Include, "o/s", COPIED, &[NodeFinding::FolderBrings]),
+    (Side::Include, "o/s", COPIED, &[Finding::FolderBrings]),
     (
         Side::Include,
         "o/s",
         REPLACED,
-        &[NodeFinding::FolderTakes, NodeFinding::FolderBrings],
+        &[Finding::FolderTakes, Finding::FolderBrings],
     ),
     (Side::Include, "trunk", MERGED_FROM_TRUNK, NO),
     (
         Side::Include,
         "trunk",
         MERGED_FROM_O,
-        &[NodeFinding::MissingMergeSource],
+        &[Finding::MissingMergeSource],
     ),
     (
         Side::Include,
         "trunk",
         MERGED_WITHOUT_COLON,
-        &[NodeFinding::UnreadMergeinfo],
+        &[Finding::UnreadMergeinfo],
     ),
     (Side::Include, "o", MERGED_WITHOUT_COLON, NO),
 ];
@@ -208,7 +203,7 @@ fn assert_found_in_part(
     rt: &impl Abort,
     alloc: Global,
     node: &str,
-    wanted: &[NodeFinding],
+    wanted: &[Finding],
 ) -> Result<(), Fail> {
     let (side, prefixes) = (Side::Include, [b"trunk".as_slice()]);
     let options = Options::new(
@@ -227,11 +222,11 @@ fn assert_found_in_part(
     assert_found(rt, alloc, &options, dump.as_str(), node, wanted)
 }
 
-const NO_COPY: &[NodeFinding] = &[NodeFinding::MissingCopyRevision];
+const NO_COPY: &[Finding] = &[Finding::MissingCopyRevision];
 
-const NO_MERGE: &[NodeFinding] = &[NodeFinding::MissingMergeRevision];
+const NO_MERGE: &[Finding] = &[Finding::MissingMergeRevision];
 
-const IN_PART: [(&str, &[NodeFinding]); 8] = [
+const IN_PART: [(&str, &[Finding]); 8] = [
     (
         "Node-path: trunk/f\nNode-action: add\nNode-copyfrom-rev: 5\nNode-copyfrom-path: trunk\n\n",
         NO_COPY,

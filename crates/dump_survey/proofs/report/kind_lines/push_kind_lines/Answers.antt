@@ -1,4 +1,4 @@
-use Rattle.dump_survey.proofs.Prelude.{List, [], ◌∷◌, ◌++◌, flat_map, map, refl, ap, ◌∙◌, append-nil, every_finding, NodeFinding, NotShort, Idle, listed_findings, ending_kind_line, finding_kind, kind_line, prefix_kind, times_in_prefixes, meaning, prefix_view, survey_ending, count_in}
+use Rattle.dump_survey.proofs.Prelude.{List, [], ◌∷◌, ◌++◌, flat_map, map, refl, ap, ◌∙◌, append-nil, every_finding, Finding, NotShort, Idle, listed_findings, ending_kind_line, finding_row, kind_line, prefix_kind, times_in_prefixes, prefix_view, survey_ending, count_in}
 use Rattle.dump_survey.specs.Kinds.{dump_kind_line}
 use Rattle.dump_survey.proofs.LineLemmas.{all_added, map_ok}
 use Rattle.dump_survey.proofs.report.kind_lines.push_kind_lines.Goals as goal
@@ -8,7 +8,7 @@ returns c =
     let counts = c.args.counts.now in
     let old = c.args.lines.now.items in
     let reported = map prefix_view c.args.prefixes.now in
-    let node = flat_map (λ f. kind_line (count_in counts f) (finding_kind f)) every_finding in
+    let node = flat_map (λ f. kind_line (count_in counts f) (finding_row f).kind) every_finding in
     let dump = flat_map dump_kind_line (listed_findings c.args.end.now.dump) in
     let not_short = kind_line (times_in_prefixes reported NotShort) (prefix_kind NotShort) in
     let idle = kind_line (times_in_prefixes reported Idle) (prefix_kind Idle) in
@@ -16,8 +16,8 @@ returns c =
     map_ok c.push_ending_kind.result (λ is. all_added old c.push_ending_kind.new.lines.items
     (node ∷ dump ∷ not_short ∷ idle ∷ ending ∷ []) (
       c.push_node_kinds.new.lines.items,
-      c.in_ok-push_node_kinds.ensures ∙ ap (λ (fs : List NodeFinding). old
-          ++ flat_map (λ f. kind_line (count_in counts f) (finding_kind f)) (map meaning fs)) c.as_slice.ensures,
+      c.in_ok-push_node_kinds.ensures ∙ ap (λ (fs : List Finding). old
+          ++ flat_map (λ f. kind_line (count_in counts f) (finding_row f).kind) fs) c.as_slice.ensures,
       (
         c.push_dump_kinds.new.lines.items,
         c.in_ok-push_dump_kinds.ensures,

@@ -1,20 +1,23 @@
-use Rattle.dump_survey.proofs.Prelude.{[], ◌∷◌, ◌++◌, ◌∙◌, Some, refl, ap, codes, decimal, if◌then◌else◌, finding_words, shown_path, tells_source, reported_view}
-use Rattle.dump_survey.specs.Lines.{cut_words, fault_and_place, finding_fault, node_line, source_text}
+use Rattle.dump_survey.proofs.Prelude.{[], ◌∷◌, ◌++◌, ◌∙◌, Some, refl, ap, codes, decimal, if◌then◌else◌, finding_row, shown_path, reported_view}
+use Rattle.dump_survey.specs.Lines.{cut_words, fault_and_place, node_line, source_text}
+use Rattle.dump_survey.specs.FindingRows.{KindText}
+use Rattle.dump_survey.specs.steps.LineViews.{kind_view}
 use Rattle.dump_survey.proofs.LineLemmas.{all_added}
 use Rattle.dump_survey.proofs.report.survey_lines.push_node_line.Goals as goal
 
 pub returns : goal.returns
-unfolding node_line
+unfolding node_line kind_view
 returns c =
     let t = reported_view c.args.reported.now in
+    let row = finding_row t.finding in
     let words = c.in_ok-extend_from_slice-3.ensures.items
-    ∙ ap (λ w. c.extend_from_slice-2.new.self.items ++ w) c.words.ensures in
+    ∙ ap (λ w. c.extend_from_slice-2.new.self.items ++ w) c.node_row-row.ensures.words in
     let fault = c.in_ok-push_fault_and_place.ensures
-    ∙ ap (λ f. c.push_cut.new.line.items ++ fault_and_place f (Some (record { number = t.number; place = t.place }))) c.fault.ensures in
+    ∙ ap (λ f. c.push_cut.new.line.items ++ fault_and_place f (Some (record { number = t.number; place = t.place }))) (ap (λ (k : KindText). k.fault) c.node_row-row.ensures.kind) in
     all_added c.args.lines.now.items c.push-2.new.self.items
     (codes "r" ∷ decimal t.revision ∷ codes ": " ∷ shown_path t.path
-    ∷ (if tells_source t.finding then source_text t else []) ∷ codes ": " ∷ finding_words t.finding ∷ cut_words t.prefix
-    ∷ fault_and_place (finding_fault t.finding) (Some (record { number = t.number; place = t.place }))
+    ∷ (if row.states_source then source_text t else []) ∷ codes ": " ∷ row.words ∷ cut_words t.prefix
+    ∷ fault_and_place row.kind.fault (Some (record { number = t.number; place = t.place }))
     ∷ codes "\n" ∷ []) (
       c.push.new.self.items,
       c.in_ok-push.ensures.items,

@@ -1,22 +1,21 @@
-use Rattle.dump_survey.proofs.Prelude.{◌∙◌, false, not, ◌==◌, List, ℕ, length, map, refl, subst, sym, ap, arith, rules, Appends, HasFailedSince, Step, prefix_view, no_counts, SurveyStep, Surveying, TakesSome}
+use Rattle.dump_survey.proofs.Prelude.{◌∙◌, false, not, ◌==◌, List, [], ℕ, Counts, length, map, refl, subst, sym, ap, arith, rules, Appends, HasFailedSince, Step, prefix_view, SurveyStep, Surveying, TakesSome}
 use Rattle.dump_survey.proofs.SurveyLemmas.{node_nearer, other_nearer, prefixes_reported}
-use Rattle.dump_survey.proofs.WritingLemmas.{HasWritten, at_err, no_error, broken_in_end, broken_in_node, broken_off, node_written, nothing_written, other_written, silent_written, whole_written}
+use Rattle.dump_survey.proofs.WritingLemmas.{at_err, no_error, broken_in_end, broken_in_node, broken_off, node_written, nothing_written, other_written, silent_written, whole_written}
 use Rattle.dump_survey.proofs.report.survey_text.write_survey.Goals as goal
 use Rattle.dump_survey.proofs.report.survey_text.write_survey.Goals.{then-is_any+in_ok-lines-in-Node+in_ok-found-in-Node, else-is_any}
 
 pub returns-in_err-surveyor-clause-part : goal.returns-in_err-surveyor-clause-part
 returns-in_err-surveyor-clause-part g c =
     let taken = g.S.Sink.taken c.args.sink.now in
+    let none : Counts = record { times = [] } in
     let start : Surveying = record { dump = c.args.dump.now; settings = c.args.options.now; number = 0 } in
     at_err c.from_residual.result (broken_off c.args.options.now c.args.dump.now start start taken taken
-    taken false 0 no_counts (nothing_written c.args.options.now c.args.dump.now start taken refl))
+    taken false 0 none (nothing_written c.args.options.now c.args.dump.now start taken none refl (λ f. refl)))
 
 pub loop-surveyor-init : goal.loop-surveyor-init
 loop-surveyor-init g c = record {
-  written = subst (HasWritten c.args.options.now c.args.dump.now c.in_ok-surveyor.surveyor
-      (g.S.Sink.taken c.args.sink.now) (g.S.Sink.taken c.args.sink.now) false 0) (sym c.new-counts.ensures)
-      (nothing_written c.args.options.now c.args.dump.now c.in_ok-surveyor.surveyor
-      (g.S.Sink.taken c.args.sink.now) c.in_ok-surveyor.ensures);
+  written = nothing_written c.args.options.now c.args.dump.now c.in_ok-surveyor.surveyor
+      (g.S.Sink.taken c.args.sink.now) c.new-counts.result c.in_ok-surveyor.ensures c.new-counts.ensures;
   failures = refl;
   through = refl;
 }

@@ -1,0 +1,178 @@
+-- The counts of the findings, one finding after the other.
+use Rattle.dump_survey.proofs.Prelude.{◌≡◌, ◌<◌, ℕ, ◌+◌, ◌==◌, Bool, true, false, not, ◌&&◌, ◌||◌, List, [], ◌∷◌, length, get_or, take-length, cond, refl, sym, ap, subst, ◌∙◌, arith, list_any, and_parts, not-true, inl, inr, Finding, every_finding, Counts, Found, finding_place, AreWithNode, count_in, has_found}
+use Rattle.std.proofs.Common.{lit<, ◌≤◌, ◌-◌, take, drop, slice_index_or, slice_set}
+use denote.Enum.Declared.{tag_of}
+use Rattle.dump_history.specs.contracts.findings.Finding as in_node
+use Rattle.std.proofs.lemmas.Bool.{cases_Bool, eqb-false}
+use Rattle.std.proofs.lemmas.List.{get_or-set_same, get_or-set_other, length-set}
+use Rattle.dump_survey.proofs.KindLemmas.{same_place}
+use Rattle.dump_history.specs.declared.findings.Finding.TheVariants as findings
+
+-- whether the finding is among these
+abbrev pub is_among : List Finding → Finding → Bool
+is_among left f = list_any (λ g. finding_place g == finding_place f) left
+
+-- whether each of these occurs once
+abbrev pub is_each_once : List Finding → Bool
+is_each_once [] = true
+is_each_once (f ∷ left) = not (is_among left f) && is_each_once left
+
+-- the new counts are the old ones after one more node, for all findings but these, whose counts are the old ones
+abbrev pub AreCounted : Counts → Found → List Finding → List ℕ → Type 0
+AreCounted old found left times = (f : Finding) → count_in (record { times = times }) f
+    ≡ cond (has_found found f && not (is_among left f)) (count_in old f + 1) (count_in old f)
+
+all_among : (f : Finding) → is_among every_finding f ≡ true
+all_among findings.UnreadBlock = refl
+all_among findings.Delta = refl
+all_among findings.UnknownAction = refl
+all_among findings.TextReadDifferently = refl
+all_among findings.NoWholeFile = refl
+all_among findings.MissingCopyRevision = refl
+all_among findings.UnreadMergeinfo = refl
+all_among findings.MissingMergeSource = refl
+all_among findings.MissingMergeRevision = refl
+all_among findings.PropertiesLost = refl
+all_among findings.CopyLoses = refl
+all_among findings.CopyLetsIn = refl
+all_among findings.FolderTakes = refl
+all_among findings.FolderBrings = refl
+all_among findings.TextComesIn = refl
+
+pub none_counted_yet : (old : Counts) (found : Found) → AreCounted old found every_finding old.times
+none_counted_yet old found f = sym (ap (λ b. cond (has_found found f && not b) (count_in old f + 1) (count_in old f)) (all_among f)
+    ∙ none (has_found found f))
+  where
+    none : (b : Bool) → cond (b && false) (count_in old f + 1) (count_in old f) ≡ count_in old f
+    none true = refl
+    none false = refl
+
+module _ (old : Counts) (found : Found) (g : Finding) (left : List Finding) (times : List ℕ)
+    (once : is_each_once (g ∷ left) ≡ true) (are : AreCounted old found (g ∷ left) times) where
+  itself : (n : ℕ) → (n == n) ≡ true
+  itself n = ne_itself n (n == n) refl
+    where
+      ne_itself : (n : ℕ) (b : Bool) → (n == n) ≡ b → b ≡ true
+      ne_itself n true is = refl
+      ne_itself n false is = absurd (eqb-false n n is refl)
+
+  -- the count of the first one is the old one so far
+  first_as_before : count_in (record { times = times }) g ≡ count_in old g
+  first_as_before = are g
+      ∙ by (has_found found g) (list_any (λ h. finding_place h == finding_place g) left) (finding_place g == finding_place g)
+      (itself (finding_place g))
+    where
+      by : (b among same : Bool) → same ≡ true
+          → cond (b && not (same || among)) (count_in old g + 1) (count_in old g) ≡ count_in old g
+      by true among true is = refl
+      by false among true is = refl
+      by b among false is = absurd (let bad : false ≡ true = is in cc)
+
+  -- the counts of the others, whether the first one is counted or not
+  others_as_before : (f : Finding) → (finding_place g == finding_place f) ≡ false
+      → count_in (record { times = times }) f
+      ≡ cond (has_found found f && not (is_among left f)) (count_in old f + 1) (count_in old f)
+  others_as_before f other = are f
+      ∙ ap (λ b. cond (has_found found f && not (b || is_among left f)) (count_in old f + 1) (count_in old f)) other
+
+  not_again : is_among left g ≡ false
+  not_again = not-true (is_among left g) (and_parts (not (is_among left g)) (is_each_once left) once).0
+
+  pub once_left : is_each_once left ≡ true
+  once_left = (and_parts (not (is_among left g)) (is_each_once left) once).1
+
+  pub counted_first : has_found found g ≡ true → finding_place g < length times
+      → AreCounted old found left (slice_set times (finding_place g) (count_in (record { times = times }) g + 1))
+  counted_first has room f = elim (cases_Bool (finding_place g == finding_place f)) [
+    | inl is ↦
+        let same : g ≡ f = same_place f g is in
+        subst (λ h. count_in (record { times = slice_set times (finding_place g) (count_in (record { times = times }) g + 1) }) h
+        ≡ cond (has_found found h && not (is_among left h)) (count_in old h + 1) (count_in old h)) same
+        (get_or-set_same times (finding_place g) _ 0 room
+        ∙ (ap (λ n. n + 1) first_as_before
+        ∙ sym (ap (λ b. cond (b && not (is_among left g)) (count_in old g + 1) (count_in old g)) has
+        ∙ ap (λ b. cond (true && not b) (count_in old g + 1) (count_in old g)) not_again)))
+    | inr other ↦
+        get_or-set_other times (finding_place g) (finding_place f) _ 0 (λ same. eqb-false (finding_place g) (finding_place f) other (sym same))
+        ∙ others_as_before f other
+  ]
+
+  pub passed_first : has_found found g ≡ false → AreCounted old found left times
+  passed_first has f = elim (cases_Bool (finding_place g == finding_place f)) [
+    | inl is ↦
+        let same : g ≡ f = same_place f g is in
+        subst (λ h. count_in (record { times = times }) h
+        ≡ cond (has_found found h && not (is_among left h)) (count_in old h + 1) (count_in old h)) same
+        (first_as_before
+        ∙ sym (ap (λ b. cond (b && not (is_among left g)) (count_in old g + 1) (count_in old g)) has))
+    | inr other ↦ others_as_before f other
+  ]
+
+-- a finding's number in the enum is its place
+place_of_tag : (f : Finding) → tag_of in_node.the_type f ≡ finding_place f
+place_of_tag findings.UnreadBlock = refl
+place_of_tag f = refl
+
+-- what is left behind the first one
+rest_of : (g : Finding) (left : List Finding) → take (length (g ∷ left) - 1) left ≡ left
+rest_of g left =
+    ap (λ n. take n left) (let e : length (g ∷ left) - 1 ≡ length left = omega arith in e) ∙ take-length left
+
+-- the state of the count: these findings are left
+pub record IsCounting (old : Counts) (found : Found) (left : List Finding) (times : List ℕ) : Type 0 where
+  pub once : is_each_once left ≡ true
+  pub size : length times ≡ length every_finding
+  pub counted : AreCounted old found left times
+
+in_table : (f : Finding) → tag_of in_node.the_type f < length every_finding
+in_table findings.UnreadBlock = lit< tt
+in_table f = lit< tt
+
+pub counting_found : (old : Counts) (found : Found) (left : List Finding) (d : Finding) (times : List ℕ)
+    → 1 ≤ length left → IsCounting old found left times → has_found found (get_or left 0 d) ≡ true
+    → IsCounting old found (take (length left - 1) (drop 1 left)) (slice_set times (tag_of in_node.the_type (get_or left 0 d))
+    (slice_index_or times (tag_of in_node.the_type (get_or left 0 d)) 0 + 1))
+counting_found old found [] d times some so_far has = absurd (omega arith)
+counting_found old found (g ∷ left) d times some so_far has = record {
+  once = ap is_each_once (rest_of g left) ∙ once_left old found g left times so_far.once so_far.counted;
+  size = length-set times (tag_of in_node.the_type g) _ ∙ so_far.size;
+  counted =
+      subst (λ l. AreCounted old found l (slice_set times (tag_of in_node.the_type g)
+      (slice_index_or times (tag_of in_node.the_type g) 0 + 1))) (sym (rest_of g left))
+      (subst (λ i. AreCounted old found left (slice_set times i (slice_index_or times i 0 + 1))) (sym (place_of_tag g))
+      (counted_first old found g left times so_far.once so_far.counted has
+      (subst (λ i. i < length times) (place_of_tag g)
+      (subst (λ n. tag_of in_node.the_type g < n) (sym so_far.size) (in_table g)))));
+}
+
+pub counting_passed : (old : Counts) (found : Found) (left : List Finding) (d : Finding) (times : List ℕ)
+    → 1 ≤ length left → IsCounting old found left times → has_found found (get_or left 0 d) ≡ false
+    → IsCounting old found (take (length left - 1) (drop 1 left)) times
+counting_passed old found [] d times some so_far has = absurd (omega arith)
+counting_passed old found (g ∷ left) d times some so_far has = record {
+  once = ap is_each_once (rest_of g left) ∙ once_left old found g left times so_far.once so_far.counted;
+  size = so_far.size;
+  counted =
+      subst (λ l. AreCounted old found l times) (sym (rest_of g left))
+      (passed_first old found g left times so_far.once so_far.counted has);
+}
+
+-- before the first one
+pub counting_begins : (old : Counts) (found : Found) (left : List Finding) → left ≡ every_finding
+    → length old.times ≡ length every_finding → IsCounting old found left old.times
+counting_begins old found left is size = record {
+  once = ap is_each_once is;
+  size = size;
+  counted = subst (λ l. AreCounted old found l old.times) (sym is) (none_counted_yet old found);
+}
+
+-- after the last one
+pub counting_ends : (old new : Counts) (found : Found) (left : List Finding) → length left < 1
+    → IsCounting old found left new.times → AreWithNode old found new
+counting_ends old new found [] short all = λ f. all.counted f ∙ by f (has_found found f)
+  where
+    by : (f : Finding) (b : Bool)
+        → cond (b && true) (count_in old f + 1) (count_in old f) ≡ cond b (count_in old f + 1) (count_in old f)
+    by f true = refl
+    by f false = refl
+counting_ends old new found (g ∷ left) short all = absurd (omega arith)
