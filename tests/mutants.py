@@ -77,6 +77,8 @@ def applied(mutants, crate):
     texts = {}
     for mutant in mutants:
         for file, old, new in mutant.pairs:
+            if not os.path.isfile(path("crates", crate, file)):
+                raise Bad(f"{mutant.name}: there is no {file}")
             text = texts.get(file) or read("crates", crate, file)
             if text.count(old) != 1:
                 raise Bad(f"{mutant.name}: {file} has its text {text.count(old)} times: {old}")

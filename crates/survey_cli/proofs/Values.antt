@@ -1,7 +1,9 @@
 -- Worked values of the definitions, computed and proved by the kernel.
-use Rattle.survey_cli.proofs.Prelude.{◌≡◌, refl, true, false, List, [], ◌∷◌, length, None, Some, Ok, Err, inl, codes, Include, Pad, DropAll, flags, TellsCall, call_of_words, Words, BothDrops}
+use Rattle.survey_cli.proofs.Prelude.{◌≡◌, refl, true, false, List, [], ◌∷◌, length, None, Some, Ok, Err, inl, inr, codes, Include, Pad, DropAll, flags, TellsCall, call_of_words, Words, BothDrops}
+use Rattle.std.proofs.Common.{arith}
 use Rattle.cli_support.specs.declared.info.Info.TheVariants.{Version}
-use Rattle.survey_cli.specs.Drive.{AnswersWords}
+use Rattle.survey_cli.specs.Drive.{AnswersWords, IsMapAskedFor, SurveysDump, SurveysOrRefuses, finding_status}
+use Rattle.survey_cli.specs.declared.words.Call.{Call}
 use Rattle.survey_cli.specs.declared.texts.TheConstants.{VERSION}
 use Rattle.survey_cli.specs.steps.LawfulLines.{is_survey_call}
 use Rattle.clap.specs.Words.{Text}
@@ -84,3 +86,52 @@ version = refl
 
 version_is_printed : AnswersWords (Some Version) (Err Words) None (Some []) (Some VERSION.now) 0
 version_is_printed = inl (refl, refl)
+
+-- Drive
+
+abbrev call : Call
+call = record {
+  options = record {
+    side = Include;
+    prefixes = codes "a" ∷ [];
+    empty = Pad;
+    renumber = false;
+    preserve = false;
+    skip_missing = false;
+  };
+  map = false;
+}
+
+nothing_found : finding_status false ≡ 0
+nothing_found = refl
+
+something_found : finding_status true ≡ 1
+something_found = refl
+
+-- what the writer held before is not lost, whatever the status is
+bytes_are_lost : ¬ SurveysDump call (codes "dump") (Some (codes "a")) (Some []) 0
+bytes_are_lost (text, found, inl (is, appended, status)) = cc
+bytes_are_lost (text, found, inr (is, (part, begins, appended), status)) = cc
+
+other_status : ¬ SurveysDump call (codes "dump") (Some []) (Some []) 2
+other_status (text, false, inl (is, appended, status)) = omega (arith, status)
+other_status (text, true, inl (is, appended, status)) = omega (arith, status)
+other_status (text, found, inr (is, takes, status)) = omega (arith, status)
+
+-- without a map there is nothing after the other lines
+no_map : ¬ IsMapAskedFor call (codes "dump") (codes "r1 becomes r1\n")
+no_map is = cc
+
+-- rejected arguments write nothing, with the status 2
+rejected : SurveysOrRefuses (Err Words) None (Some []) (Some []) 2
+rejected = (refl, refl)
+
+rejected_with_another_status : ¬ SurveysOrRefuses (Err Words) None (Some []) (Some []) 0
+rejected_with_another_status (kept, status) = omega (arith, status)
+
+rejected_and_written : ¬ SurveysOrRefuses (Err Words) None (Some []) (Some (codes "x")) 2
+rejected_and_written (kept, status) = cc
+
+-- both ways to drop revisions are rejected only if both are asked for
+not_both_drops : ¬ TellsCall (Ok call) (Err BothDrops)
+not_both_drops e = cc
