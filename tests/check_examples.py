@@ -159,7 +159,7 @@ def run_all(examples, folder, surroundings):
 
 
 def shown(page):
-    """The lines of the page as man shows them, or None where there is no man."""
+    """The lines of the page as man shows them, or None if there is no man."""
     if lacking("man"):
         return None
     more = {**os.environ, "LC_ALL": "C.UTF-8", "MANWIDTH": "200", "MAN_KEEP_FORMATTING": ""}
@@ -205,7 +205,7 @@ def untrue(line, is_difference):
 
 
 def wrong_differences():
-    """What is not true in DIFFERENCES, by the cases that it names, or None where Subversion's own tool is not installed."""
+    """What is not true in DIFFERENCES, by the cases that it names, or None if Subversion's own tool is not installed."""
     if lacking("svndumpfilter"):
         return None
     version = subprocess.run(["svndumpfilter", "--version"], capture_output=True, timeout=SECONDS).stdout

@@ -4,7 +4,7 @@
     tests/check_install.py
 
 Each installed program is run on its first case. Files of somebody else are neither overwritten nor removed. The manual pages
-and the package have no faults, where mandoc, man and lintian are installed to say so; without dpkg-deb, objdump and strip no
+and the package have no faults, if mandoc, man and lintian are installed to say so; without dpkg-deb, objdump and strip no
 package is made, and the script says so. Each program has its launcher at the top of the repository. The last line is
 'N passed, M failed'.
 """
@@ -136,7 +136,7 @@ def check_uninstall(root):
     for name in NAME, "svndumpfilter", "cut":
         expect(root.make("uninstall", f"NAME={name}")[0], f"make uninstall failed with NAME={name}")
     expect(not root.files(), f"make uninstall left {root.files()}")
-    expect(root.make("uninstall")[0], "make uninstall failed where nothing is installed")
+    expect(root.make("uninstall")[0], "make uninstall failed though nothing was installed")
 
 
 def check_package(folder):

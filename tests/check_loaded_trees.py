@@ -1,5 +1,5 @@
 #!/usr/bin/env python3
-"""Sees that a filtered or cut repository has the right trees: the filter's wherever the survey reports nothing.
+"""Sees that a filtered or cut repository has the right trees: the filter's if the survey reports nothing.
 
     tests/check_loaded_trees.py [SEED [filter] [cut]]
 
@@ -12,10 +12,10 @@ filter: each dump is surveyed and filtered by many sets of prefixes and options.
 directories that the survey lists, made in revision 1 in the order of its lines. Then the tree at each number is compared
 with the original's, restricted to the kept paths as docs/FILTER.md says: kinds, texts, properties, mergeinfo; and so are
 the properties of each kept revision. The same is done with parts of each history, as svnadmin dump -r writes them. The
-original is what svnadmin loads of such a part, and where the load lowers numbers mergeinfo is not compared.
+original is what svnadmin loads of such a part, and if the load lowers numbers, mergeinfo is not compared.
 
 A run passes if all is equal, or if the survey has a line. Where the filter stops, the survey must have a line with that
-record and fault, and none with a fault where the filter does not stop. After fault 12 the same is run once more, with all
+record and fault, and none with a fault if the filter does not stop. After fault 12 the same is run once more, with all
 the prefixes that the survey suggests: then no copy may stop the filter. (No path here begins with two slashes: no prefix
 names such a path.)
 
@@ -23,7 +23,7 @@ cut: svndumpcut excludes and includes many sets of one to three paths of each du
 also with --dry-run and with --drop-empty-revs. Where copies bring excluded content back, --keep-copies is tried too. Some
 are also written in two parts with --after: the first one has to be the cut of the dump up to there, and the second one has to
 load after it. Mergeinfo is not compared then, since svnadmin load changes it. With --follow-copies nothing may be written
-where the first part differs. Which paths are kept in the end, what copies bring back and what is deleted after copies is
+if the first part differs. Which paths are kept in the end, what copies bring back and what is deleted after copies is
 computed here, from the original's trees and copies as docs/CUT.md says: the status and the lists have to be as computed.
 Nothing may be written but with status 0. What is written then is loaded into an empty repository, with svnadmin's checks of
 properties. It has to have each revision of the original with its number and its properties, and its tree with the kept paths
@@ -443,7 +443,7 @@ class History:
 
     def __init__(self, repository, first=0):
         self.path = repository
-        # the number of the first revision that was loaded into it, above 0 where that was a part of a history
+        # the number of the first revision that was loaded into it, above 0 if that was a part of a history
         self.first = first
         self.trees, self.properties, self.nodes, self.copies, self.made = [], [], [], [], []
         tree = {b"": Node({}, None)}
@@ -679,7 +679,7 @@ class Meant:
                 if got.get(path) != wanted.get(path):
                     place = f"revision {number}, '{path.decode()}'"
                     return f"{place} is {got.get(path)}, and {wanted.get(path)} is meant"
-            # revision 0's are lost where something was in the repository before, and a part of a history has none
+            # revision 0's are lost if something was in the repository before, and a part of a history has none
             if number in self.numbers and not (number == 0 and (self.folders or self.original.first)):
                 wanted = self.own.revision_properties(properties, nodes)
                 got = dict(loaded.properties[self.image(number)])
@@ -753,7 +753,7 @@ class Run(Trial):
         self.own, self.is_validated, self.is_grown = own, is_validated, False
 
     def judge(self, built):
-        """What becomes of it, and where the filter stops for fault 12, of it with the prefixes that the survey says to add."""
+        """What becomes of it, and if the filter stops for fault 12, of it with the prefixes that the survey says to add."""
         told = ran(built["survey"], *self.words, given=self.dump)
         filtered = ran(built["filter"], *self.words, given=self.dump)
         if told.returncode not in (0, 1):
@@ -838,7 +838,7 @@ class Cut(Trial):
         return Excluded(paths)
 
     def wrong(self, answer, named, meant):
-        """What is wrong with an answer, where some paths are given, and these are meant to be excluded or included."""
+        """What is wrong with an answer to a call with some paths, if these are meant to be excluded or included."""
         status = meant.status(self.original, self.dump)
         warnings = OWN_LIFE.findall(answer.stderr) + FILE_PARENT.findall(answer.stderr)
         if answer.returncode != status or answer.stderr.count(b"warning") != len(warnings):
@@ -1126,14 +1126,14 @@ class CutOther(Trial):
         return self.fail(f"{why}: {it.stderr.decode()}") if why else self
 
     def wrong_refused(self, it):
-        """What is wrong with the answer, where svnadmin rejects the dump."""
+        """What is wrong with the answer, if svnadmin rejects the dump."""
         if it.returncode != 1 or it.stdout or not UNLOADED.search(it.stderr):
             return f"svnadmin rejects the dump, and the status is {it.returncode}, with {len(it.stdout)} bytes"
         self.verdicts.append("not cut, since svnadmin rejects it")
         return None
 
     def wrong(self, it, original, folder):
-        """The same, where the dump gives this history."""
+        """The same, if the dump gives this history."""
         named = {"exclude": Excluded, "include": Included}[self.words[0]]
         meant = named(canonical(path) for path in self.words[1:] if path[0] != "-")
         if "--follow-copies" in self.words:

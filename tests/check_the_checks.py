@@ -95,7 +95,7 @@ def tried(texts, *words):
 
 
 def edited(check, file, pairs):
-    """What a check says where a file is edited."""
+    """What a check says after a file is edited."""
     with tempfile.TemporaryDirectory(prefix="planted-") as folder:
         copied(folder, check, "tools/repository.py", "tests/statements.txt", KNOWN, "docs/TRUSTED.md", "crates.txt", "programs.txt")
         shutil.copytree(path("crates"), os.path.join(folder, "crates"), ignore=shutil.ignore_patterns("out", "proofs"))

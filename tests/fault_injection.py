@@ -7,7 +7,7 @@ The library fault_injection.c is loaded into build/svndumpfilter and build/svndu
 with the first run that has fewer requests than the number that fails. Whatever fails, the program ends at once: it
 does what its case wants, or it reports a failure of memory or threads, and its output is then the first part of the right
 one, of the length that it reports. Before the line of the failure svndumpcut may have written the first lines that its case
-wants. The unit tests whose names say that memory runs out are run in the same way, where crates/*/out has them built:
+wants. The unit tests whose names say that memory runs out are run in the same way, if crates/*/out has them built:
 such a test passes whatever fails. If nothing fails, the program starts the threads that its arguments ask
 for. The last line is 'N passed, M failed'.
 """
@@ -113,7 +113,7 @@ class CaseRound(Round):
         if int(told[2]) != len(ran.stdout) or not self.output.startswith(ran.stdout):
             return f"{ran.stderr!r} with {len(ran.stdout)} bytes"
         if is_start and (told[1] != b"22 Threads" or ran.stdout):
-            return f"{ran.stderr!r} where a start was refused"
+            return f"{ran.stderr!r} though a start was refused"
         return None
 
 

@@ -69,7 +69,7 @@ class Mutant:
             else:
                 raise Bad(f"{self.name}: a line is none of file: src/, function:, old: and new: in their order: {line}")
         if (kind == "wrong") != bool(self.function) or not self.pairs or old:
-            raise Bad(f"{self.name}: it wants a function, where it is not one of must-fail, and pairs of old and new")
+            raise Bad(f"{self.name}: it needs a function, unless it is one of must-fail, and pairs of old and new")
 
 
 def applied(mutants, crate):
@@ -231,7 +231,7 @@ class Trials:
                 trial.tell()
 
     def next(self):
-        """A round to come, its trial, a copy where one is free, and its jobs; None where no round will be."""
+        """A round to come, its trial, a copy if one is free, and its jobs; None if there will be no round."""
         with self.turn:
             self.turn.wait_for(lambda: any(it.is_ready() for it in self.trials) or not any(it.running for it in self.trials))
             trial = next((it for it in self.trials if it.is_ready()), None)
@@ -251,7 +251,7 @@ class Trials:
             self.run(*found)
 
     def run(self, trial, mutants, copy, jobs):
-        """Tries a round, in this copy where there is one."""
+        """Tries a round, in this copy if there is one."""
         said = None
         try:
             copy = copy or Copy(trial.crate, self.known, tempfile.mkdtemp(dir=self.folder))

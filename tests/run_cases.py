@@ -48,7 +48,7 @@ def difference(what, got, wanted):
 
 
 def map_name(words):
-    """The FILE of --map FILE or --map=FILE, which is in the case's directory; None where there is none."""
+    """The FILE of --map FILE or --map=FILE, which is in the case's directory; None if there is none."""
     options = words[: words.index("--")] if "--" in words else words
     named = [it.partition("=")[2] for it in options if it.startswith("--map=")]
     named += [after for it, after in zip(options, options[1:]) if it == "--map"]
@@ -56,7 +56,7 @@ def map_name(words):
 
 
 def content(folder, name):
-    """What is in a file of a directory; None where that is not there."""
+    """What is in a file of a directory; None if there is no such file."""
     try:
         with open(os.path.join(folder, name), "rb") as it:
             return it.read()

@@ -4,7 +4,7 @@
     tools/build.py [--old] [--tests] [PROGRAM..]
     tools/build.py --proved [PROGRAM..]
 
-A PROGRAM is one of programs.txt, the first one where none is given. It is run on its first case, and put into build/. With
+A PROGRAM is one of programs.txt, the first one if none is given. It is run on its first case, and put into build/. With
 --old only those are built that are not there or are older than a source. With --tests the tests of every crate are proved
 and run too, each as soon as its crate is proved and a processor is free. The last line is then 'N passed, M failed', of
 crates. With --proved nothing is proved: each program is the one that rt ci built, if no source is newer.
@@ -56,7 +56,7 @@ class Build:
         return self.failed or len(self.started) == len(self.wanted) and not self.tests
 
     def next(self):
-        """What is to be done next, and to which crate; None where nothing will be."""
+        """What is to be done next, and to which crate; None if there is nothing more."""
         with self.turn:
             self.turn.wait_for(lambda: self.is_over() or self.able())
             found = None if self.is_over() else self.able()
@@ -159,7 +159,7 @@ def take(program):
 
 
 def made(wanted, with_tests):
-    """Proves the crates of some programs, builds and runs these, and tests all crates where that is wanted; whether all
+    """Proves the crates of some programs, builds and runs these, and tests all crates if that is wanted; whether all
     went well."""
     build = Build(wanted, with_tests)
     workers = [threading.Thread(target=build.work) for _ in range(lanes())]

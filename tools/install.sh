@@ -6,7 +6,7 @@
 #
 # What was installed is noted, with digests, in share/doc/$NAME/installed. A file that is at one of the places and not as it is
 # noted there, or under another NAME, is somebody else's. It is overwritten only if $FORCE is 1, and never removed. svndumpcut
-# has one name under each NAME, so it stays where another note has it.
+# has one name under each NAME, so it stays if another note has it.
 set -eu
 cd "$(dirname -- "$0")/.."
 root=$DESTDIR$PREFIX

@@ -10,7 +10,7 @@ root=build/deb
 documents=$root/usr/share/doc/$package
 architecture=$(dpkg --print-architecture)
 
-# commit FORMAT: of the last commit, or nothing where there is none
+# commit FORMAT: of the last commit, or nothing if there is none
 commit() {
     TZ=UTC git log -1 --date=format-local:%Y%m%d%H%M%S --format="$1" 2> /dev/null || true
 }

@@ -6,7 +6,7 @@
 It looks twice a second at the processes that PROCESS has started, itself or by others. For each crate the table has the
 processor time, and in brackets the time in which such a check ran, in minutes: of its proof, of its tests (which are
 proved and compiled), of its named mutants (those of must-fail) and of the others. What ended between two looks is not seen,
-so the table has some half a second less for each check. It stops at a SIGTERM, or where PROCESS has ended.
+so the table has some half a second less for each check. It stops at a SIGTERM, or when PROCESS has ended.
 """
 import collections
 import os
@@ -39,7 +39,7 @@ def processes():
 
 
 def check_of(number):
-    """The crate and the kind of check, where a process is one of the toolchain's checks."""
+    """The crate and the kind of check, if a process is one of the toolchain's checks."""
     try:
         with open(f"/proc/{number}/cmdline", encoding="utf-8", errors="replace") as it:
             words = it.read().split("\0")

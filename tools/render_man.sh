@@ -1,5 +1,5 @@
 #!/bin/sh
-# Prints the manual page of PROGRAM with the names by which the programs are installed, where the first one is given NAME.
+# Prints the manual page of PROGRAM with the names by which the programs are installed, if the first one is given NAME.
 #
 #     tools/render_man.sh NAME PROGRAM
 #

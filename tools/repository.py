@@ -62,7 +62,7 @@ class Case(typing.NamedTuple):
     name: str
 
     def part(self, name):
-        """What is in a file of it; nothing where that is not there."""
+        """What is in a file of it; nothing if there is no such file."""
         try:
             with open(os.path.join(self.folder(), name), "rb") as it:
                 return it.read()
@@ -104,7 +104,7 @@ def cases():
 
 
 def installed_names(name):
-    """The names by which the programs are installed, by their own words, where the first one is given this name."""
+    """The names by which the programs are installed, by their own words, if the first one is given this name."""
     said = subprocess.run([path("tools", "installed_names.sh"), name], stdout=subprocess.PIPE, text=True, check=True).stdout
     return {word: line.split()[1] for word, line in zip(programs(), said.splitlines())}
 
