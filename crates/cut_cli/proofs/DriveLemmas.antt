@@ -5,7 +5,7 @@ use Rattle.std.proofs.lemmas.List.{append-nil, take-append-drop}
 use Rattle.std.specs.Io.KnownBytes.{Appends, GrowsBy, Keeps, append_known}
 use Rattle.dump_text.specs.declared.fault.FaultKind.{FaultKind}
 use Rattle.dump_rules.specs.Settings.{Settings}
-use Rattle.dump_filter.specs.declared.report.Report.{Report}
+use Rattle.dump_filter.specs.declared.state.Report.{Report}
 use Rattle.dump_writer.specs.steps.SinkCalls.{TakesOnlyFirst}
 use Rattle.dump_writer.specs.steps.SinkStates.{LentState, lent_taken}
 use Rattle.dump_pipeline.specs.RunAnswer.{IsRunAnswer, RunLeaves}

@@ -93,12 +93,12 @@ pub use Rattle.dump_text.specs.steps.Views.{lines_left}
 pub use Rattle.dump_writer.specs.SinkWords.{IsPrefixOf}
 pub use Rattle.dump_digest.specs.declared.done.Done.{Done}
 pub use Rattle.dump_digest.specs.declared.verdict.Verdict.{Verdict}
-pub use Rattle.dump_filter.specs.declared.fate.CopyChange.{CopyChange}
-pub use Rattle.dump_filter.specs.declared.fate.CopyChange.TheVariants.{Dropped, Renumbered, Same}
-pub use Rattle.dump_filter.specs.declared.fate.Fate.{Fate}
+pub use Rattle.dump_filter.specs.declared.copies.CopyChange.{CopyChange}
+pub use Rattle.dump_filter.specs.declared.copies.CopyChange.TheVariants.{Dropped, Renumbered, Same}
+pub use Rattle.dump_filter.specs.declared.decide.Fate.{Fate}
 pub use Rattle.dump_filter.specs.declared.filter.Filter.TheInside.{Inside}
 pub use Rattle.dump_filter.specs.declared.new_lines.Changes.{Changes}
-pub use Rattle.dump_filter.specs.declared.report.Report.{Report}
+pub use Rattle.dump_filter.specs.declared.state.Report.{Report}
 pub use Rattle.dump_filter.specs.declared.revisions.Revisions.{Revisions}
 pub use Rattle.dump_records.specs.declared.kind.RecordKind.{RecordKind}
 pub use Rattle.dump_records.specs.declared.record.Record.{Record}

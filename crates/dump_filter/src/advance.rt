@@ -11,9 +11,10 @@ ghost use Rattle.dump_filter.specs.steps.State.{CanCountMore, view_pending, view
 ghost use Rattle.dump_filter.specs.steps.State.PresentGroup.{Pending as IsPending};
 ghost use Rattle.dump_filter.specs.steps.Advance.{IsOwnRevision, IsEndText, IsFrontText, IsPiece, with_kept, with_kept_revision, opened, ended, text_count, fate_state, next_state};
 ghost use Rattle.dump_filter.specs.steps.Knowledge.{AreKept};
-ghost use Rattle.dump_filter.specs.declared.fate.CopyChange.{CopyChange as Change};
+ghost use Rattle.dump_filter.specs.declared.copies.CopyChange.{CopyChange as Change};
 
-use crate::fate::{CopyChange, Fate};
+use crate::copies::CopyChange;
+use crate::decide::Fate;
 use crate::output::{push_lines, push_node, push_revision};
 use crate::pending::Pending;
 use crate::state::{PresentGroup, State};
@@ -126,7 +127,7 @@ impl<'a> State<'a> {
             → view_state self.new ≡ fate_state settings (view_state self.old) r Fate.Drop }
         ensures last { self.new.last ≡ self.old.last }
     {
-        self.group.empty();
+        self.group.drop_node();
         self.report.nodes_dropped += 1;
         Piece::new(alloc)
     }

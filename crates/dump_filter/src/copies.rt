@@ -9,12 +9,22 @@ ghost use Rattle.dump_filter.specs.steps.Advance.{front_kept};
 ghost use Rattle.dump_filter.specs.steps.Decision.{takes_node, source_change, copy_change};
 ghost use Rattle.dump_filter.specs.steps.Knowledge.{AreKept};
 
-use crate::fate::CopyChange;
 use crate::state::State;
 use dump_digest::Done;
 use dump_records::Record;
 use dump_rules::Options;
 use dump_text::FaultKind;
+
+/// What the filter does with the copy source of a kept node.
+#[derive(Clone, Copy)]
+pub(crate) enum CopyChange {
+    /// The node has no copy source.
+    Same,
+    /// The copy is of the revision with this number, which is the old one if revisions aren't renumbered.
+    Renumbered(u64),
+    /// The filter removes the copy source; the node is no longer a copy.
+    Dropped,
+}
 
 /// Whether the record is a file with its text and its properties, so that it needs no copy source.
 fn is_whole_file(item: &Record<'_>) -> bool

@@ -8,14 +8,26 @@ ghost use Rattle.dump_filter.specs.steps.State.{view_group, view_state};
 ghost use Rattle.dump_filter.specs.steps.Decision.{takes_node, is_in_order, node_fate, fate_of, decided, AreAsked};
 ghost use Rattle.dump_filter.specs.steps.Knowledge.{AreKept};
 
-use crate::copies::copy_change;
-use crate::fate::Fate;
+use crate::copies::{CopyChange, copy_change};
 use crate::revisions::revision_number;
 use crate::state::State;
 use dump_digest::Done;
 use dump_records::{Record, RecordKind};
 use dump_rules::Options;
 use dump_text::FaultKind;
+
+/// What the filter does with a record.
+#[derive(Clone, Copy)]
+pub(crate) enum Fate {
+    /// It writes the node, with this copy source.
+    Keep(CopyChange),
+    /// It drops the node.
+    Drop,
+    /// It holds back the revision until a node of it is kept or its group ends.
+    Hold,
+    /// It writes the version or UUID record unchanged.
+    Pass,
+}
 
 /// Whether the record may come next in the dump.
 fn is_in_order(state: &State<'_>, item: &Record<'_>) -> bool

@@ -1,7 +1,6 @@
 //! The filter takes the records of a dump one after another, and returns what is written for each.
 use crate::decide::decide;
-use crate::report::Report;
-use crate::state::State;
+use crate::state::{Report, State};
 use dump_digest::Done;
 use dump_rules::Options;
 use dump_text::FaultKind;

@@ -41,19 +41,17 @@
 mod advance;
 mod copies;
 mod decide;
-mod fate;
 mod filter;
 pub mod laws;
 mod new_lines;
 mod new_properties;
 mod output;
 mod pending;
-mod report;
 mod revisions;
 mod state;
 
 pub use filter::{Filter, StepFault};
-pub use report::Report;
+pub use state::Report;
 
 #[cfg(test)]
 mod tests;

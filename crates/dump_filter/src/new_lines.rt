@@ -10,7 +10,7 @@ ghost use Rattle.dump_records.specs.steps.RecordViews.{record_item};
 ghost use Rattle.dump_filter.specs.steps.MadeBytes.{made_or};
 ghost use Rattle.dump_filter.specs.steps.NewLines.{AreLengths, StaysCopied, copy_number, is_copy_line, is_dropped, number_for, numbered, with_number, renewed_lines, added, new_headers};
 
-use crate::fate::CopyChange;
+use crate::copies::CopyChange;
 use dump_records::Record;
 use dump_text::{HeaderName, Line, push_header};
 use dump_writer::Memory;

@@ -13,7 +13,7 @@ ghost use Rattle.dump_digest.specs.RecordParts.{is_revision_record, HasPropertyL
 ghost use Rattle.dump_filter.specs.steps.NewProperties.{IsReadNode};
 ghost use Rattle.dump_filter.specs.steps.Advance.{IsOwnNode};
 
-use crate::fate::CopyChange;
+use crate::copies::CopyChange;
 use crate::new_lines::{Changes, new_lines};
 use crate::new_properties::{node_properties, read_props, revision_properties};
 use dump_digest::Done;

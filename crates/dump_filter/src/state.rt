@@ -6,11 +6,21 @@ ghost use Rattle.dump_filter.specs.steps.Advance.{stays, pads, emptied};
 ghost use Rattle.dump_filter.specs.steps.Decision.{takes_node};
 
 use crate::pending::Pending;
-use crate::report::Report;
 use crate::revisions::{Revisions, revision_number};
 use dump_records::Record;
 use dump_rules::{Empty, Options};
 use std::alloc::Global;
+
+/// What a run kept, dropped and checked.
+#[derive(Clone, Copy, Debug, PartialEq, Eq)]
+pub struct Report {
+    pub revisions_kept: u64,
+    pub revisions_dropped: u64,
+    pub nodes_kept: u64,
+    pub nodes_dropped: u64,
+    /// The number of kept texts that were compared with a digest.
+    pub texts_checked: u64,
+}
 
 /// The group to which the next node belongs.
 #[derive(Drop)]
@@ -79,7 +89,7 @@ impl<'a> PresentGroup<'a> {
     }
 
     /// Stores that a node of this group was dropped.
-    pub(crate) fn empty(&mut self)
+    pub(crate) fn drop_node(&mut self)
         ensures { view_group self.new ≡ emptied (view_group self.old) }
     {
         match self {

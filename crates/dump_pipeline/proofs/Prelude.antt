@@ -44,7 +44,7 @@ pub use Rattle.dump_pipeline.specs.RunAnswer.{IsFilterPrefix, IsRunAnswer, RunLe
 pub use Rattle.dump_pipeline.specs.RunLaws.{EachDumpHasOneAnswer}
 pub use Rattle.dump_pipeline.specs.steps.Endings.{ending_of}
 pub use Rattle.dump_pipeline.specs.steps.Messages.{checked_number, checked_numbers, job_number, job_numbers, piece_numbers, text_of}
-pub use Rattle.dump_pipeline.specs.steps.Parts.{CountsFailed, HasCut, HasEndedWith, HasFiltered, HasPut, HasReceived, HasReleased, HasSequenced, HasWorked, IsEndOf, end_answer, is_failure, stage_end}
+pub use Rattle.dump_pipeline.specs.steps.Parts.{CountsFailed, HasCut, HasEndedWith, HasFiltered, HasFound, HasTaken, HasPut, HasReceived, HasReleased, HasSequenced, HasWorked, IsEndOf, end_answer, is_failure, stage_end}
 pub use Rattle.dump_pipeline.specs.steps.PlanRange.{IsInRange}
 pub use Rattle.dump_pipeline.specs.steps.Progress.{Progress}
 pub use Rattle.dump_pipeline.specs.steps.Sending.{EndsRun, Sends, StopsShort}
@@ -63,7 +63,7 @@ pub use Rattle.dump_text.proofs.Unique.{block_some}
 pub use Rattle.dump_text.specs.FaultTable.{NoFault}
 pub use Rattle.dump_writer.specs.SinkWords.{IsPrefixOf, capped}
 pub use Rattle.dump_writer.specs.steps.ChunkBytes.{bytes_of_chunks}
-pub use Rattle.dump_filter.specs.declared.report.Report.{Report}
+pub use Rattle.dump_filter.specs.declared.state.Report.{Report}
 pub use Rattle.dump_lanes.specs.declared.ends.LaneIn.{LaneIn}
 pub use Rattle.dump_lanes.specs.declared.pool.cutter.JobPort.{JobPort}
 pub use Rattle.dump_lanes.specs.declared.pool.worker.WorkerPort.{WorkerPort}

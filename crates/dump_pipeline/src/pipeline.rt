@@ -66,7 +66,7 @@ fn run_in<
     requires words { (ends.threads.cutter.seat.word ≡ words.now.stop) × (ends.threads.cutter.shut.word ≡ words.now.shut) }
     ensures same { result.sink.ghost_name ≡ held.entry.sink.ghost_name }
     ensures through { S.through result.sink.now ≡ S.through held.entry.sink.now }
-    ensures ran { HasRun D.settings D.dump (S.taken held.entry.sink.now) (S.taken result.sink.now) (S.failure_count held.entry.sink.now) (S.failure_count result.sink.now) result.answer }
+    ensures ran { HasRun D.settings D.dump S.taken S.failure_count held.entry.sink.now result.sink.now result.answer }
 {
     let Held { sink, answer: _ } = held;
     let Ends {
@@ -99,7 +99,7 @@ fn run_scoped<'s, 'a, 'b, D: Run + Send + Sync, S: Sink, G: Gate, R: Threads + W
     requires words { (ends.threads.cutter.seat.word ≡ words.now.stop) × (ends.threads.cutter.shut.word ≡ words.now.shut) }
     ensures same { result.sink.ghost_name ≡ held.entry.sink.ghost_name }
     ensures through { S.through result.sink.now ≡ S.through held.entry.sink.now }
-    ensures ran { HasRun D.settings D.dump (S.taken held.entry.sink.now) (S.taken result.sink.now) (S.failure_count held.entry.sink.now) (S.failure_count result.sink.now) result.answer }
+    ensures ran { HasRun D.settings D.dump S.taken S.failure_count held.entry.sink.now result.sink.now result.answer }
 {
     thread::scope(
         thread::scope_env(),
@@ -110,7 +110,7 @@ fn run_scoped<'s, 'a, 'b, D: Run + Send + Sync, S: Sink, G: Gate, R: Threads + W
             requires words { (ends.threads.cutter.seat.word ≡ words.now.stop) × (ends.threads.cutter.shut.word ≡ words.now.shut) }
             ensures same { result.sink.ghost_name ≡ held.entry.sink.ghost_name }
             ensures through { S.through result.sink.now ≡ S.through held.entry.sink.now }
-            ensures ran { HasRun D.settings D.dump (S.taken held.entry.sink.now) (S.taken result.sink.now) (S.failure_count held.entry.sink.now) (S.failure_count result.sink.now) result.answer }
+            ensures ran { HasRun D.settings D.dump S.taken S.failure_count held.entry.sink.now result.sink.now result.answer }
         { run_in(scope, rt, alloc, task, words, ends, held) },
     )
 }
@@ -126,7 +126,7 @@ fn run_of<'a, D: Run + Send + Sync, S: Sink, G: Gate, R: Threads + Wait + Sync>(
     requires dump { task.dump.now ≡ D.dump }
     requires options { task.options.now ≡ D.settings }
     ensures through { S.through sink.new ≡ S.through sink.old }
-    ensures ran { HasRun D.settings D.dump (S.taken sink.old) (S.taken sink.new) (S.failure_count sink.old) (S.failure_count sink.new) result }
+    ensures ran { HasRun D.settings D.dump S.taken S.failure_count sink.old sink.new result }
 {
     let Ok(given) = make::<D, R>(rt, alloc, plan) else {
         return Answer::Failed {

@@ -4,12 +4,13 @@ ghost use Rattle.dump_records.specs.steps.CutRecords.{EndsAfter};
 ghost use Rattle.dump_records.specs.steps.RecordViews.{record_dump, record_number};
 ghost use Rattle.dump_digest.specs.steps.DoneViews.{done_record, done_settings};
 ghost use Rattle.dump_lanes.specs.steps.LaneViews.{sending, sent};
+ghost use Rattle.dump_lanes.specs.steps.ArrivalRows.{Row};
 ghost use Rattle.dump_lanes.specs.steps.PortViews.{done_port};
 ghost use Rattle.dump_lanes.specs.steps.SlotViews.{slot_places};
 ghost use Rattle.dump_pipeline.specs.steps.Endings.{ending_of};
 ghost use Rattle.dump_pipeline.specs.steps.Messages.{checked_number, checked_numbers, text_of};
 ghost use Rattle.dump_pipeline.specs.declared.stage.Stage.{Stage as Stages};
-ghost use Rattle.dump_pipeline.specs.steps.Parts.{HasFiltered, HasReleased, EndsAreSequenced, HasSequencedFrom, IsEndOf, IsFreshSequencer, is_failure, stage_end};
+ghost use Rattle.dump_pipeline.specs.steps.Parts.{HasFiltered, HasReleased, EndsAreSequenced, HasFound, HasSequencedFrom, HasTaken, IsEndOf, IsFreshSequencer, is_failure, stage_end};
 
 use crate::message::{Checked, Job, Last, NumberedPiece, Run};
 use crate::stage::{End, Stage};
@@ -227,8 +228,52 @@ fn drain<'a, D: Run, R: Wait>(rt: &R, port: &mut SequencerPort<'a, D>)
     unreachable!()
 }
 
-/// Releases the items in order, until no more come or an item isn't where it should be. The next item isn't put in the
-/// row.
+/// What the sequencer finds when it looks for the next item.
+#[derive(Drop)]
+enum Found<T: Drop> {
+    Next(T),
+    /// It found a later item, and put it in the row.
+    Later,
+    /// An item isn't where it should be.
+    Stray,
+    /// The workers have given all their items.
+    NoMore,
+}
+
+/// Looks for the next item: first in the row, then among those that arrive. The next item isn't put in the row.
+fn find_next<'a, D: Run, R: Wait>(
+    rt: &R,
+    ends: &mut Sequencing<'a, D>,
+    next: u64,
+) -> Found<Checked<'a, D>>
+    ensures pool { (done_port ends.new.port).pool ≡ (done_port ends.old.port).pool }
+    ensures lane { ends.new.to ≡ ends.old.to }
+    ensures seat { ends.new.seat ≡ ends.old.seat }
+    ensures found { (w : ℕ) → Row checked_number w next (checked_numbers (done_port ends.old.port).taken) (slot_places ends.old.slots)
+        → HasFound w next (done_port ends.new.port) (slot_places ends.new.slots) result }
+    ensures taken { HasTaken (done_port ends.old.port) (done_port ends.new.port) result }
+{
+    if let Some(checked) = ends.slots.lift(next) {
+        return if checked.number() == next {
+            Found::Next(checked)
+        } else {
+            Found::Stray
+        };
+    }
+    let Some(checked) = ends.port.take(rt) else {
+        return Found::NoMore;
+    };
+    let number = checked.number();
+    if number == next {
+        return Found::Next(checked);
+    }
+    match ends.slots.place(number, checked) {
+        Ok(()) => Found::Later,
+        Err(_) => Found::Stray,
+    }
+}
+
+/// Releases the items in order, until no more come or an item isn't where it should be.
 fn release_all<'a, D: Run, R: Wait>(
     rt: &R,
     alloc: Global,
@@ -247,26 +292,11 @@ fn release_all<'a, D: Run, R: Wait>(
     let mut next = 0u64;
     let mut stage = Stage::Going(Filter::new(alloc, options));
     for _ in rt.forever() {
-        let checked = match ends.slots.lift(next) {
-            Some(checked) => {
-                if checked.number() != next {
-                    return (stage.end(), true);
-                }
-                checked
-            }
-            None => match ends.port.take(rt) {
-                Some(checked) => {
-                    let number = checked.number();
-                    if number != next {
-                        match ends.slots.place(number, checked) {
-                            Ok(()) => continue,
-                            Err(_) => return (stage.end(), true),
-                        }
-                    }
-                    checked
-                }
-                None => return (stage.end(), false),
-            },
+        let checked = match find_next(rt, ends, next) {
+            Found::Next(checked) => checked,
+            Found::Later => continue,
+            Found::Stray => return (stage.end(), true),
+            Found::NoMore => return (stage.end(), false),
         };
         let piece = step::<D>(alloc, &mut stage, checked, &words.stop, &mut ends.seat);
         release(rt, &mut ends.to, piece);

@@ -43,8 +43,8 @@ pub use Rattle.dump_text.specs.steps.ValuePlaces.{is_there, value_at}
 pub use Rattle.dump_text.specs.steps.Views.{block_after, block_dump, block_headers, block_place}
 pub use Rattle.dump_records.specs.declared.kind.KindParts.{KindParts}
 pub use Rattle.dump_records.specs.declared.kind.KindParts.TheVariants.{Copy, Node, Version}
-pub use Rattle.dump_records.specs.declared.readings.Lengths.{Lengths}
-pub use Rattle.dump_records.specs.declared.readings.RecordHeader.{RecordHeader}
+pub use Rattle.dump_records.specs.declared.header.Lengths.{Lengths}
+pub use Rattle.dump_records.specs.declared.header.RecordHeader.{RecordHeader}
 pub use Rattle.dump_records.specs.declared.record.Record.{Record}
 pub use Rattle.dump_text.specs.declared.block.Block.{Block}
 pub use Rattle.dump_text.specs.declared.fault.FaultKind.{FaultKind}

@@ -4,7 +4,7 @@ ghost use Rattle.dump_records.specs.RecordText.{IsCutFault};
 ghost use Rattle.dump_records.specs.steps.Standing.{IsGap, FollowsRecords};
 ghost use Rattle.dump_records.specs.steps.RecordViews.{IsNextRecord};
 
-use crate::header_reading::read_header;
+use crate::header::read_header;
 use crate::record::Record;
 use dump_text::{FaultKind, Headers};
 use std::marker::Model;

@@ -36,10 +36,9 @@
 #![tactic(auto)]
 
 mod cutter;
-mod header_reading;
+mod header;
 mod kind;
 pub mod laws;
-mod readings;
 mod record;
 
 pub use cutter::{Cut, Cutter};

@@ -7,8 +7,8 @@ ghost use Rattle.dump_records.specs.steps.CutRecords.{IsRecordOf};
 ghost use Rattle.dump_records.specs.steps.Standing.{AreInside};
 ghost use Rattle.dump_records.specs.steps.HeaderReading.{are_written, IsHeaderOf};
 
+use crate::header::RecordHeader;
 use crate::kind::{KindParts, RecordKind};
-use crate::readings::RecordHeader;
 use dump_text::{Block, HeaderName, number};
 
 /// The parts of a record, in the order in which a record has them.

@@ -2,7 +2,7 @@
 use Rattle.dump_filter.proofs.Prelude.{◌≡◌, ◌⊎◌, ◌↔◌, ℕ, ◌+◌, ◌<◌, nat_lt, Bool, true, false, not, ◌&&◌, ◌||◌, List, [], ◌∷◌, ◌++◌, refl, sym, ap, ◌∙◌, subst, arith, inl, inr, Option, Some, None, unwrap_or, IsTrue, IsFalse, Result, Ok, Err, if◌then◌else◌, FaultKind, fault_code, NoFault, Property, block_stable, DumpRecord, is_lawful, code_once, Settings, keeps_path, KeptRevisions, image, HasForeignNumber, is_revision_record, is_node, is_kept_node, node_path, HasPropertyList, HasPropertyBlock, HasBadMergeinfo, IsVerdict, Verdict, CopyChange, Fate, kept_revisions, is_whole_file, stays_copy, IsNewCopy, has_lost_source, copied_headers, present_number, HasBadCopyRevision, HoldsOfRecord, IsRecordFault, merge_fault, PresentGroup, State, node_revision, NoGroup, Pending, Written, front_kept, takes_node, is_in_order, is_orphan, HasNoSource, copy_change, kept_unless, with_fault, node_fate, fate_of, decided, AreAsked, is_plain, Stands, first_true, second_true, both_true, absurd_bool}
 use borrow.Author.Tests.{ltb-true, ltb-false}
 use Rattle.dump_text.specs.declared.fault.FaultKind.TheVariants as faults
-use Rattle.dump_filter.specs.declared.fate.Fate.TheVariants as fates
+use Rattle.dump_filter.specs.declared.decide.Fate.TheVariants as fates
 use Rattle.dump_filter.proofs.groups.KindLemmas.{alone}
 use Rattle.dump_filter.proofs.answer.MergeLemmas.{Misses, IsForeign, MergeJudged, merge_judged}
 use Rattle.dump_filter.proofs.answer.FaultLemmas.{ordered, disordered, kept_with_node, CopyJudged, copy_judged}

@@ -2,7 +2,7 @@
 use Rattle.dump_filter.proofs.Prelude.{◌≡◌, ◌⊎◌, ℕ, ◌<◌, nat_lt, Bool, true, false, not, ◌&&◌, ◌||◌, List, [], ◌∷◌, ◌++◌, refl, sym, ap, ◌∙◌, subst, arith, append_assoc, inl, inr, Option, Some, None, IsTrue, MatchBool, Result, Ok, Err, is_some, if◌then◌else◌, last_or, list_all, list_any, FaultKind, spelled_number, copy_revision_name, with_header_value, header_number, has_bad_kind, has_bad_number, DumpRecord, is_lawful, part_of_node, keeps, Settings, KeptRevisions, image, is_revision_record, is_node, is_kept_node, CopyChange, revision_number, revision_numbers, first_number, kept_revisions, is_whole_file, becomes_plain, stays_copy, IsWrittenCopyNumber, IsNewCopy, is_copy, has_lost_source, copied_headers, ends_in_group, IsOutOfOrder, State, front_kept, takes_node, rises, is_in_order, is_orphan, HasNoSource, imaged, source_change, copy_change, is_plain, kept_numbers, Shape, Stands, Fresh, Idle, Passed, Waits, copy_both, copy_there, false_true, not_so, first_true, second_true, not_true, not_false, both_true, absurd_bool}
 use borrow.Author.Tests.{ltb-true, ltb-false}
 use Rattle.dump_text.specs.declared.fault.FaultKind.TheVariants as faults
-use Rattle.dump_filter.specs.declared.fate.CopyChange.TheVariants as copies
+use Rattle.dump_filter.specs.declared.copies.CopyChange.TheVariants as copies
 use Rattle.dump_filter.proofs.groups.GroupLemmas.{plain_other, plain_more, any_more}
 use Rattle.dump_filter.proofs.groups.NumberLemmas.{first_other, kept_group, passed_keeps}
 use Rattle.dump_filter.proofs.knowing.StandsNext.{ends_open}

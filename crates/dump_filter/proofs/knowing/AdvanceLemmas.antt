@@ -2,7 +2,7 @@
 use Rattle.dump_filter.proofs.Prelude.{◌≡◌, ℕ, ◌+◌, ◌≤◌, Bool, true, false, not, ◌&&◌, ◌||◌, List, [], ◌∷◌, ◌++◌, length, refl, sym, ap, ◌∙◌, subst, length-append, suc, arith, Option, Some, None, Contains, MatchBool, count_by, cond, if◌then◌else◌, or_right, block_text, Property, block_stable, property_list_once, DumpRecord, Settings, KeptRevisions, RiseFrom, HasMergeLines, has_lines, new_value, is_revision_record, is_node, is_kept_node, is_mergeinfo, is_checked_text, value_of, HasPropertyBlock, CopyChange, Fate, Report, kept_revisions, revision_number, AreFaultFree, IsNewProperty, AreNewProperties, HasGoodMergeinfo, revision_own, node_own, IsWrittenText, PresentGroup, State, pending_count, revision_count, NoGroup, Pending, Written, stays, pads, next_number, IsOwnRevision, IsOwnNode, IsEndText, IsFrontText, IsPiece, with_kept, front_kept, end_kept, with_kept_revision, with_dropped_revision, front_report, end_report, ended, emptied, started, text_count, next_state, Shape, AreKept, Stands, Fresh, Idle, Passed, Waits}
 use Rattle.std.proofs.lemmas.List.{append-nil}
 use Rattle.dump_text.specs.declared.fault.FaultKind.TheVariants as faults
-use Rattle.dump_filter.specs.declared.fate.Fate.TheVariants as fates
+use Rattle.dump_filter.specs.declared.decide.Fate.TheVariants as fates
 use Rattle.dump_filter.proofs.written.PropertyOutput.{IsNewValue}
 use Rattle.dump_filter.proofs.groups.GroupLemmas.{plain_node}
 use Rattle.dump_filter.proofs.groups.KeptLemmas.{front_rising}

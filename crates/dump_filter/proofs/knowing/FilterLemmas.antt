@@ -1,7 +1,7 @@
 -- A filter's step and end, from what it knows about the records that it has accepted.
 use Rattle.dump_filter.proofs.Prelude.{◌≡◌, ◌↔◌, ◌⊎◌, ℕ, ◌+◌, ◌^◌, ◌<◌, ◌≤◌, Bool, true, false, not, ◌&&◌, List, [], ◌∷◌, ◌++◌, length, refl, sym, ap, ◌∙◌, subst, arith, length-append, filter, inl, inr, Option, Some, None, option_map, IsTrue, Result, Ok, Err, or_right, not-false, length-map, count_by-le-length, length-filter, FaultKind, NoFault, Property, tail-eq, block_or_not, Record, DumpRecord, record_dump, record_number, record_item, BeginsWithRecords, IsRecordOf, strip, begins_once, one_more, least_once, Settings, done_record, done_settings, done_verdict, Done, is_revision_record, is_node, is_kept_node, is_checked_text, IsVerdict, Verdict, CopyChange, Fate, Inside, Report, groups, group_number, keeps_group, kept_revisions, HoldsOfRecord, IsRecordFault, AreFaultFree, IsWrittenText, report_of, Seen, FilterState, count_up_to, AreAccepted, IsOfSameDump, Accepts, Refuses, Finishes, State, CanCountMore, view_state, new_state, revision_count, IsEndText, IsPiece, ended, next_state, decided, AreAsked, Stands, AreUpTo, KnowsAccepted, Fresh, absurd_bool, not_so, not_true, ∥∥₁_elim, transport, IsReadNode}
 use Rattle.dump_text.specs.declared.fault.FaultKind.TheVariants as faults
-use Rattle.dump_filter.specs.declared.fate.Fate.TheVariants as fates
+use Rattle.dump_filter.specs.declared.decide.Fate.TheVariants as fates
 use Rattle.dump_filter.proofs.knowing.StandsNext.{IsReadable, ended_numbers, ended_dropped, ended_text, becomes_ended}
 use Rattle.dump_filter.proofs.answer.DecisionLemmas.{IsTaken, IsAnswer, answered}
 use Rattle.dump_filter.proofs.knowing.AdvanceLemmas.{pending_readable, next_stands, stands_written, stands_once, ended_counted, ended_others, next_counted, next_room, kept_nodes, dropped_nodes, next_texts}

@@ -11,10 +11,10 @@ use Rattle.dump_filter.specs.NewContent.{AreNewProperties}
 use Rattle.dump_filter.specs.steps.OwnText.{revision_own, node_own}
 use Rattle.dump_filter.specs.steps.State.{PendingRevision, PresentGroup, State}
 use Rattle.dump_filter.specs.steps.State.PresentGroup.{NoGroup, Pending, Written}
-use Rattle.dump_filter.specs.declared.fate.CopyChange.{CopyChange}
-use Rattle.dump_filter.specs.declared.fate.Fate.{Fate}
-use Rattle.dump_filter.specs.declared.fate.Fate.TheVariants as fates
-use Rattle.dump_filter.specs.declared.report.Report.{Report}
+use Rattle.dump_filter.specs.declared.copies.CopyChange.{CopyChange}
+use Rattle.dump_filter.specs.declared.decide.Fate.{Fate}
+use Rattle.dump_filter.specs.declared.decide.Fate.TheVariants as fates
+use Rattle.dump_filter.specs.declared.state.Report.{Report}
 use Rattle.dump_digest.specs.RecordParts.{HasPropertyList}
 
 -- whether the options keep a pending revision if its group ends now

@@ -15,10 +15,10 @@ use Rattle.dump_filter.specs.Groups.{revision_number}
 use Rattle.dump_filter.specs.NewHeaders.{is_whole_file, stays_copy}
 use Rattle.dump_digest.specs.RecordParts.{has_lost_source}
 use Rattle.dump_digest.specs.steps.MergeFaults.{merge_fault}
-use Rattle.dump_filter.specs.declared.fate.CopyChange.{CopyChange}
-use Rattle.dump_filter.specs.declared.fate.CopyChange.TheVariants.{Same, Renumbered, Dropped}
-use Rattle.dump_filter.specs.declared.fate.Fate.{Fate}
-use Rattle.dump_filter.specs.declared.fate.Fate.TheVariants as fates
+use Rattle.dump_filter.specs.declared.copies.CopyChange.{CopyChange}
+use Rattle.dump_filter.specs.declared.copies.CopyChange.TheVariants.{Same, Renumbered, Dropped}
+use Rattle.dump_filter.specs.declared.decide.Fate.{Fate}
+use Rattle.dump_filter.specs.declared.decide.Fate.TheVariants as fates
 use Rattle.dump_filter.specs.steps.State.{PresentGroup, State, node_revision}
 use Rattle.dump_filter.specs.steps.State.PresentGroup.{NoGroup}
 use Rattle.dump_filter.specs.steps.Advance.{front_kept}

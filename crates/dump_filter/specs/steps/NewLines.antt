@@ -8,8 +8,8 @@ use Rattle.dump_text.specs.HeaderBlock.{block_text}
 use Rattle.dump_records.specs.HeaderRules.{header_number}
 use Rattle.dump_filter.specs.NewHeaders.{with_length}
 use Rattle.dump_filter.specs.steps.OwnText.{copied_headers}
-use Rattle.dump_filter.specs.declared.fate.CopyChange.{CopyChange}
-use Rattle.dump_filter.specs.declared.fate.CopyChange.TheVariants.{Same, Renumbered, Dropped}
+use Rattle.dump_filter.specs.declared.copies.CopyChange.{CopyChange}
+use Rattle.dump_filter.specs.declared.copies.CopyChange.TheVariants.{Same, Renumbered, Dropped}
 use Rattle.dump_filter.specs.declared.new_lines.Changes.{Changes}
 
 -- the new value of `Node-copyfrom-rev`, if it gets one

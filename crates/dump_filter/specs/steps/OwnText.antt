@@ -8,8 +8,8 @@ use Rattle.dump_records.specs.RecordText.{DumpRecord}
 use Rattle.dump_filter.specs.NewHeaders.{without_copy_headers}
 use Rattle.dump_filter.specs.NewContent.{revision_properties, new_block}
 use Rattle.dump_filter.specs.RecordOutput.{whole_text}
-use Rattle.dump_filter.specs.declared.fate.CopyChange.{CopyChange}
-use Rattle.dump_filter.specs.declared.fate.CopyChange.TheVariants.{Same, Renumbered, Dropped}
+use Rattle.dump_filter.specs.declared.copies.CopyChange.{CopyChange}
+use Rattle.dump_filter.specs.declared.copies.CopyChange.TheVariants.{Same, Renumbered, Dropped}
 
 -- the lines of a node with its new copy source
 abbrev pub copied_headers : CopyChange → List Header → List Header

@@ -3,7 +3,7 @@ use Rattle.std.specs.Prelude.{ℕ, ◌+◌, ◌<◌, ◌^◌, Bool, [], None, un
 use Rattle.dump_records.specs.RecordText.{DumpRecord}
 use Rattle.dump_records.specs.steps.RecordViews.{record_item}
 use Rattle.dump_digest.specs.steps.DoneViews.{done_record}
-use Rattle.dump_filter.specs.declared.report.Report.{Report}
+use Rattle.dump_filter.specs.declared.state.Report.{Report}
 use Rattle.dump_filter.specs.declared.pending.Pending.{Pending as PendingFields}
 use Rattle.dump_filter.specs.declared.state.PresentGroup.{PresentGroup as GroupFields}
 use Rattle.dump_filter.specs.declared.state.PresentGroup.TheVariants as groups

@@ -1,5 +1,5 @@
 -- What each thread of a run returns.
-use Rattle.std.specs.Prelude.{◌≡◌, ℕ, ◌+◌, ◌≤◌, Bool, true, false, List, [], length, replicate, Option, Some, None, MatchBool}
+use Rattle.std.specs.Prelude.{◌≡◌, ℕ, ◌+◌, ◌<◌, ◌≤◌, ◌^◌, Bool, true, false, List, [], ◌∷◌, ◌++◌, length, replicate, Option, Some, None, MatchBool, ⊤}
 use Rattle.std.specs.Io.KnownBytes.{Appends}
 use Rattle.dump_records.specs.DumpText.{Ending}
 use Rattle.dump_records.specs.steps.CutRecords.{EndsAfter}
@@ -8,12 +8,15 @@ use Rattle.dump_writer.specs.SinkWords.{capped, IsPrefixOf, HasFailedSince}
 use Rattle.dump_filter.specs.steps.FilterState.{FilterState}
 use Rattle.dump_lanes.specs.Arrivals.{first_numbers, Clash, IsWaiting}
 use Rattle.dump_lanes.specs.declared.pool.worker.WorkerPort.{WorkerPort}
+use Rattle.dump_lanes.specs.steps.ArrivalRows.{Row}
 use Rattle.dump_lanes.specs.steps.LaneViews.{sending, sent}
-use Rattle.dump_lanes.specs.steps.PortSides.{CutterSide, WorkerSide, IsDone}
+use Rattle.dump_lanes.specs.steps.PortSides.{CutterSide, SequencerSide, WorkerSide, IsDone}
 use Rattle.dump_lanes.specs.steps.PortViews.{job_port, worker_port, done_port}
 use Rattle.dump_lanes.specs.steps.SlotViews.{slot_places}
 use Rattle.dump_pipeline.specs.declared.cut.CutterEnds.{CutterEnds}
 use Rattle.dump_pipeline.specs.declared.sequence.SequencerEnds.{SequencerEnds}
+use Rattle.dump_pipeline.specs.declared.sequence.Found.{Found}
+use Rattle.dump_pipeline.specs.declared.sequence.Found.TheVariants as found
 use Rattle.dump_pipeline.specs.declared.sequence.Sequenced.{Sequenced}
 use Rattle.dump_pipeline.specs.declared.stops.Words.{Words}
 use Rattle.dump_pipeline.specs.declared.answer.Answer.{Answer}
@@ -28,7 +31,7 @@ use Rattle.dump_pipeline.specs.declared.stage.End.TheVariants as ends
 use Rattle.dump_pipeline.specs.declared.stage.Stage.{Stage}
 use Rattle.dump_pipeline.specs.declared.stage.Stage.TheVariants.{Going, Ended}
 use Rattle.dump_pipeline.specs.FilterAnswer.{IsFilterAnswer}
-use Rattle.dump_pipeline.specs.steps.Messages.{job_numbers, checked_numbers, piece_numbers, text_of}
+use Rattle.dump_pipeline.specs.steps.Messages.{job_numbers, checked_number, checked_numbers, piece_numbers, text_of}
 use Rattle.dump_pipeline.specs.steps.Progress.{Progress}
 use Rattle.dump_pipeline.specs.RunAnswer.{IsFilterPrefix, RunLeaves, SinkFailsOnly, ThreadsFailFirst}
 
@@ -133,6 +136,24 @@ abbrev pub HasEndedWith : Settings → List ℕ → Option End → ℕ → List 
 HasEndedWith settings dump None next text = (filter : FilterState) × HasFiltered settings dump filter next text
 HasEndedWith settings dump (Some end) next text = IsEndOf settings dump end text
 
+-- what the sequencer has found for the next item, with the items that it took and the row with `window` slots
+abbrev pub HasFound : {D : Type 0} {run : Ghosts D} → ℕ → ℕ → SequencerSide (Checked D run)
+    → List (Option (Checked D run)) → Found (Checked D run) → Type 0
+HasFound window next side places (found.Next checked) =
+    (checked_number checked ≡ next) × (next + 1 < 2 ^ 64)
+    × Row checked_number window (next + 1) (checked_numbers side.taken) places
+HasFound window next side places found.Later = Row checked_number window next (checked_numbers side.taken) places
+HasFound window next side places found.Stray = Clash window next (checked_numbers side.taken)
+HasFound window next side places found.NoMore = IsWaiting next (checked_numbers side.taken) × (side.ended ≡ true)
+
+-- if it has found a later item, it took one
+abbrev pub HasTaken : {D : Type 0} {run : Ghosts D} → SequencerSide (Checked D run) → SequencerSide (Checked D run)
+    → Found (Checked D run) → Type 0
+HasTaken old new (found.Next checked) = ⊤
+HasTaken {D} {run} old new found.Later = (item : Checked D run) × (new.taken ≡ old.taken ++ item ∷ [])
+HasTaken old new found.Stray = ⊤
+HasTaken old new found.NoMore = ⊤
+
 -- what the sequencer returns: pieces with the first numbers, their text, and what it found in the slots
 pub record HasSequenced {D : Type 0} {run : Ghosts D} (settings : Settings) (dump : List ℕ) (window : ℕ)
     (taken : List (Checked D run)) (put : List NumberedPiece) (end : Option End) (stray : Bool) : Type 0 where
@@ -177,8 +198,8 @@ abbrev pub CountsFailed : Bool → ℕ → ℕ → Type 0
 CountsFailed failed old new = MatchBool failed (HasFailedSince old new) (new ≡ old)
 
 -- the result of a run: what its sink holds, how its count of failures changed, and the answer
-pub record HasRun (settings : Settings) (dump : List ℕ) (first now : Option (List ℕ)) (failures failed : ℕ)
-    (answer : Answer) : Type 0 where
-  pub leaves : RunLeaves settings dump first now answer
-  pub sink : SinkFailsOnly failures failed answer
+pub record HasRun {S : Type 0} (settings : Settings) (dump : List ℕ) (taken : S → Option (List ℕ)) (failures : S → ℕ)
+    (old new : S) (answer : Answer) : Type 0 where
+  pub leaves : RunLeaves settings dump (taken old) (taken new) answer
+  pub sink : SinkFailsOnly (failures old) (failures new) answer
   pub threads : ThreadsFailFirst answer

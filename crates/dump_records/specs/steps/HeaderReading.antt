@@ -7,8 +7,8 @@ use Rattle.dump_text.specs.HeaderLine.{Header, has_header, header_value}
 use Rattle.dump_text.specs.steps.ValuePlaces.{value_at}
 use Rattle.dump_text.specs.steps.Views.{block_dump, block_headers}
 use Rattle.dump_text.specs.steps.HeadersViews.{headers_block}
-use Rattle.dump_records.specs.declared.readings.Numbers.{Numbers}
-use Rattle.dump_records.specs.declared.readings.RecordHeader.{RecordHeader}
+use Rattle.dump_records.specs.declared.header.Numbers.{Numbers}
+use Rattle.dump_records.specs.declared.header.RecordHeader.{RecordHeader}
 use Rattle.dump_records.specs.HeaderRules.{header_number, says_true, property_length, text_length}
 use Rattle.dump_records.specs.steps.KindReading.{IsKindOf}
 

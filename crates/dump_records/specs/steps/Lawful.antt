@@ -5,7 +5,7 @@ use Rattle.dump_text.specs.declared.fault.FaultKind.TheVariants as faults
 use Rattle.dump_text.specs.HeaderLine.{Header}
 use Rattle.dump_records.specs.HeaderRules.{property_length, text_length, has_bad_kind, has_bad_version, has_bad_number}
 use Rattle.dump_records.specs.RecordText.{is_lawful}
-use Rattle.dump_records.specs.declared.readings.Lengths.{Lengths}
+use Rattle.dump_records.specs.declared.header.Lengths.{Lengths}
 
 -- the lines break no rule, and these are their lengths
 pub record LengthsOf (number : ℕ) (headers : List Header) (found : Lengths) : Type 0 where

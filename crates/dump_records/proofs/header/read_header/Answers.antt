@@ -1,6 +1,6 @@
 use Rattle.dump_records.proofs.Prelude.{ℕ, ◌<◌, ◌^◌, ap, sym, ◌∙◌, is_some, subst, Option, IfSome, lines_of}
 use Rattle.dump_records.proofs.HeaderLemmas.{version_there, version_small}
-use Rattle.dump_records.proofs.header_reading.read_header.Goals as goal
+use Rattle.dump_records.proofs.header.read_header.Goals as goal
 
 pub parts_of-parts-requires-clause-version : goal.parts_of-parts-requires-clause-version
 parts_of-parts-requires-clause-version c =

@@ -1,6 +1,6 @@
 use Rattle.dump_records.proofs.Prelude.{◌≡◌, ℕ, List, None, true, false, ap, sym, ◌∙◌, refl, is_some, version_name, revision_name, path_name, copy_path_name, Header, has_header, header_value, has_bad_kind, KindParts, IsKindOf, is_version, is_uuid, is_revision, is_copied_node, version_in, revision_in, path_in, dump_of, lines_of}
 use Rattle.dump_records.proofs.HeaderLemmas.{deciding, revision_there, no_number, no_value, place_there}
-use Rattle.dump_records.proofs.header_reading.parts_of.Goals as goal
+use Rattle.dump_records.proofs.header.parts_of.Goals as goal
 
 -- lines with a path are those of a node, which is copied or not
 node_says : (dump : List ℕ) (headers : List Header) (parts : KindParts)

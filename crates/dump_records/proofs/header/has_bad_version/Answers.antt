@@ -1,6 +1,6 @@
 use Rattle.dump_records.proofs.Prelude.{◌≡◌, ◌==◌, not, false, sym, ◌∙◌, refl, ne_eqb, is_read_version, lines_of}
 use Rattle.dump_records.proofs.HeaderLemmas.{bad_version_is}
-use Rattle.dump_records.proofs.header_reading.has_bad_version.Goals as goal
+use Rattle.dump_records.proofs.header.has_bad_version.Goals as goal
 
 pub returns-then-version-ne2 : goal.returns-then-version-ne2
 returns-then-version-ne2 c =

@@ -1,6 +1,6 @@
 use Rattle.dump_records.proofs.Prelude.{sym, ap, ◌∙◌, unwrap_or, lines_of}
 use Rattle.dump_records.proofs.HeaderLemmas.{bad_sum_is}
-use Rattle.dump_records.proofs.header_reading.has_bad_sum.Goals as goal
+use Rattle.dump_records.proofs.header.has_bad_sum.Goals as goal
 
 pub returns-in-Some : goal.returns-in-Some
 returns-in-Some c =
