@@ -1,9 +1,7 @@
 -- How many lines of mergeinfo are omitted from a value, from properties and from records; there are no more lines than
 -- bytes.
-use Rattle.dump_survey.proofs.Prelude.{◌≡◌, ◌↔◌, ℕ, ◌+◌, ◌-◌, ◌≤◌, Bool, true, false, not, ◌==◌, List, [], ◌∷◌, ◌++◌, length, length-append, map, take, drop, filter, bytes_eq, codes, sum, sum_by, count_by, cond, Option, Some, None, IsSome, is_some, MatchBool, refl, sym, ap, ap₂, ◌∙◌, subst, arith, inl, inr, zero-add, AllZip, slice_split, length-take, length-slice_split, sum_by-cons, sum_by_push, sum-map, count_by-le-length, Property, sized_text, IsEntry, AreEntries, IsPropertyBlock, Props, props_bytes, block_text, DumpRecord, record_text, Record, Ending, line_feeds, IsCutInto, BeginsWithRecords, CutterState, EndsAfter, record_item, CutStep, whole_list, Settings, keeps_path, MergeLine, IsMergeLine, IsMergeinfo, HasMergeLines, value_reads, without_lf, line_misses, text_lines, reads_exactly, line_parts, texts_are, is_kept_node, is_mergeinfo, value_of, HasPropertyBlock, leaving_lines, AreLeftOutOfValue, AddUpTo, mergeinfo_values, AreLeftOutOfProperties, AreLeftOutOf, AreLeftOutOfRecords, text_lines_count, value_count, property_count, properties_count}
+use Rattle.dump_survey.proofs.Prelude.{◌≡◌, ◌↔◌, ℕ, ◌+◌, ◌-◌, ◌≤◌, Bool, true, false, not, ◌==◌, List, [], ◌∷◌, ◌++◌, length, length-append, map, take, drop, filter, bytes_eq, codes, sum, sum_by, count_by, cond, Option, Some, None, IsSome, is_some, MatchBool, refl, sym, ap, ap₂, ◌∙◌, subst, arith, inl, inr, zero-add, AllZip, slice_split, length-take, length-slice_split, sum_by-cons, sum_by_push, sum-map, count_by-le-length, Property, sized_text, IsEntry, AreEntries, IsPropertyBlock, Props, props_bytes, block_text, DumpRecord, record_text, Record, line_feeds, IsCutInto, record_item, Settings, keeps_path, MergeLine, IsMergeLine, IsMergeinfo, HasMergeLines, value_reads, without_lf, line_misses, text_lines, reads_exactly, line_parts, texts_are, is_kept_node, is_mergeinfo, value_of, HasPropertyBlock, leaving_lines, AreLeftOutOfValue, AddUpTo, mergeinfo_values, AreLeftOutOfProperties, AreLeftOutOf, text_lines_count, value_count, property_count, properties_count, Bor, record_dump, HasCounted, IsVisitedAfter, LineCounter}
 use Rattle.std.proofs.Common.{unwrap_or}
-use Rattle.dump_records.specs.declared.cutter.Cut.TheVariants as cuts
-use Rattle.dump_survey.proofs.SurveyorLemmas.{begins_next, begins_with_none, nearer_by_one}
 
 -- counts whose sum is the total
 
@@ -259,64 +257,25 @@ counts_fit s number place text rest (r ∷ records) (n ∷ counts) (lfs, front, 
 
 -- record by record
 
--- the count for the records that the cutter has returned
-pub record CountedSoFar (s : Settings) (dump : List ℕ) (cutter : CutterState) (count : ℕ) : Type 0 where
-  pub dump_is : cutter.dump ≡ dump
-  pub before : List DumpRecord
-  pub begins : BeginsWithRecords dump before
-  pub number : length before ≡ cutter.number
-  pub add : AddUpTo (AreLeftOutOf s) before count
+module _ (first old : LineCounter) (before : List DumpRecord) (item : Record) (n : ℕ)
+    (so_far : HasCounted first before old) (are : AreLeftOutOf old.options.now (record_item item) n) where
+  next_add : AddUpTo (AreLeftOutOf first.options.now) (before ++ record_item item ∷ []) (old.count + n)
+  next_add = adds_more (AreLeftOutOf first.options.now) before old.count (record_item item) n so_far.add
+      (subst (λ s. AreLeftOutOf s (record_item item) n) so_far.options are)
 
-pub none_counted : (s : Settings) (dump : List ℕ) (cutter : CutterState)
-    → cutter ≡ record { dump = dump; number = 0 } → CountedSoFar s dump cutter 0
-none_counted s dump cutter is = record {
-  dump_is = ap (λ (c : CutterState). c.dump) is;
-  before = [];
-  begins = begins_with_none dump;
-  number = sym (ap (λ (c : CutterState). c.number) is);
-  add = ([], tt, refl);
-}
+  -- there are no more lines than bytes
+  pub counted_fits : IsVisitedAfter item before → old.count + n ≤ length (record_dump item)
+  counted_fits next =
+      let (counts, all, is) = next_add in
+      let (rest, cut, versions) = next.0 in
+      let fits = counts_fit first.options.now 0 0 (record_dump item) rest (before ++ record_item item ∷ []) counts cut all in
+      omega arith
 
-module _ (s : Settings) (dump : List ℕ) (cutter after : CutterState) (count : ℕ)
-    (so_far : CountedSoFar s dump cutter count) where
-  module _ (item : Record) (step : CutStep cutter (cuts.Item item) after) (n : ℕ)
-      (are : AreLeftOutOf s (record_item item) n) where
-    next_begins : BeginsWithRecords dump (so_far.before ++ record_item item ∷ [])
-    next_begins = begins_next dump cutter after so_far.before so_far.dump_is so_far.begins so_far.number item step
-
-    next_add : AddUpTo (AreLeftOutOf s) (so_far.before ++ record_item item ∷ []) (count + n)
-    next_add = adds_more (AreLeftOutOf s) so_far.before count (record_item item) n so_far.add are
-
-    -- the cutter is nearer to the end of the dump
-    pub counted_nearer : (after.number ≡ cutter.number + 1) × (after.number ≤ length dump)
-    counted_nearer = nearer_by_one dump cutter after so_far.before so_far.dump_is so_far.begins so_far.number item step
-
-    -- there are no more lines than bytes
-    pub counted_fits : count + n ≤ length dump
-    counted_fits =
-        let (counts, all, is) = next_add in
-        let (rest, cut, versions) = next_begins in
-        let fits = counts_fit s 0 0 dump rest (so_far.before ++ record_item item ∷ []) counts cut all in
-        omega arith
-
-    -- the count after one more record
-    pub counted_more : CountedSoFar s dump after (count + n)
-    counted_more = record {
-      dump_is = ap (λ (c : CutterState). c.dump) step.3 ∙ so_far.dump_is;
-      before = so_far.before ++ record_item item ∷ [];
-      begins = next_begins;
-      number = length-append so_far.before (record_item item ∷ [])
-          ∙ (ap (λ m. m + 1) so_far.number ∙ sym (ap (λ (c : CutterState). c.number) step.3));
-      add = next_add;
-    }
-
-  -- the count when the records end
-  pub all_counted : (ending : Ending) → EndsAfter cutter.dump cutter.number ending → AreLeftOutOfRecords s dump count
-  all_counted ending ends = (
-    so_far.before,
-    ending,
-    whole_list dump so_far.before ending so_far.begins
-        (subst (λ d. EndsAfter d (length so_far.before) ending) so_far.dump_is
-        (subst (λ n. EndsAfter cutter.dump n ending) (sym so_far.number) ends)),
-    so_far.add,
-  )
+  -- the count after one more record
+  pub counted_more : (now : LineCounter) → now.options ≡ old.options → now.count ≡ old.count + n
+      → HasCounted first (before ++ record_item item ∷ []) now
+  counted_more now options is = record {
+    none = so_far.none;
+    options = ap (λ (o : Bor Settings). o.now) options ∙ so_far.options;
+    add = subst (AddUpTo (AreLeftOutOf first.options.now) (before ++ record_item item ∷ [])) (sym is) next_add;
+  }

@@ -33,6 +33,7 @@ pub mod SurveyLemmas
 pub mod SurveyTextLemmas
 pub mod SurveyorLemmas
 pub mod TallyLemmas
+pub mod VisitLemmas
 pub mod TieLemmas
 pub mod TieValues
 pub mod UnreadLemmas

@@ -1,70 +1,26 @@
 -- What copies need, record by record, and the prefixes to add.
-use Rattle.dump_survey.proofs.Prelude.{◌≡◌, ℕ, ◌+◌, ◌-◌, ◌≤◌, ◌<◌, Bool, true, false, not, ◌&&◌, ◌||◌, List, [], ◌∷◌, ◌++◌, length, length-append, map, take, get_or, reverse, Option, Some, None, option_map, bytes_eq, Bor, Vec, Global, Result, Ok, Err, cond, refl, sym, ap, ap₂, ◌∙◌, subst, arith, append-nil, append_assoc, list_any, filter_map, cons_option, IsPermutation, list_any-IsPermutation, any_mapped, or_from, and_parts, and_from, take-length, map-append, take_more, reverse-append, reverse-reverse, list_any-append, filter_map-append, Record, DumpRecord, Ending, BeginsWithRecords, HasRecords, CutterState, EndsAfter, record_item, CutStep, whole_list, bare_prefix, bare_path, begins_path, matches_path, BeginSame, Side, Include, Exclude, Settings, side_keeps, is_node, is_copy, node_path, is_whole_file, copy_path, Memory, CopyNeed, with_prefixes, stops_at, wanted_path, matches_itself, is_wanted, AreWanted, covers, uncovered, are_apart, stops_somewhere, ArePrefixesToAdd, ArePrefixesToAddIn, PathNeed, need_view, need_of, needs_of, can_not_stand, copy_need, is_matched, is_unmet, AreNeeded, each_matches_itself}
+use Rattle.dump_survey.proofs.Prelude.{◌≡◌, ℕ, ◌+◌, ◌-◌, ◌≤◌, ◌<◌, Bool, true, false, not, ◌&&◌, ◌||◌, List, [], ◌∷◌, ◌++◌, length, map, take, get_or, reverse, Option, Some, None, option_map, bytes_eq, Bor, Vec, Global, Result, Ok, Err, cond, refl, sym, ap, ap₂, ◌∙◌, subst, arith, append-nil, append_assoc, list_any, filter_map, cons_option, IsPermutation, list_any-IsPermutation, any_mapped, or_from, and_parts, and_from, take-length, map-append, take_more, reverse-append, reverse-reverse, list_any-append, filter_map-append, DumpRecord, Ending, HasRecords, bare_prefix, bare_path, begins_path, matches_path, BeginSame, Side, Include, Exclude, Settings, side_keeps, is_node, is_copy, node_path, is_whole_file, copy_path, Memory, CopyNeed, with_prefixes, stops_at, wanted_path, matches_itself, is_wanted, AreWanted, covers, uncovered, are_apart, stops_somewhere, ArePrefixesToAdd, ArePrefixesToAddIn, HasCollected, NeedCollector, PathNeed, need_view, need_of, needs_of, can_not_stand, copy_need, is_matched, is_unmet, AreNeeded, each_matches_itself}
 use Rattle.std.proofs.Common.{unwrap_or}
 use Rattle.std.specs.Result.{IfOk}
-use Rattle.dump_records.specs.declared.cutter.Cut.TheVariants as cuts
 use Rattle.dump_survey.proofs.GrowingPrefixLemmas.{any_both, needs_path, uncovered_same, uncovered_apart}
-use Rattle.dump_survey.proofs.SurveyorLemmas.{begins_next, begins_with_none, nearer_by_one}
 
 -- record by record
 
--- the needs of the records that the cutter has returned
-pub record NeedsSoFar (side : Side) (dump : List ℕ) (cutter : CutterState) (needs : List PathNeed) : Type 0 where
-  pub dump_is : cutter.dump ≡ dump
-  pub before : List DumpRecord
-  pub begins : BeginsWithRecords dump before
-  pub count : length before ≡ cutter.number
-  pub needs_are : needs ≡ needs_of side before
-
-pub no_needs : (side : Side) (dump : List ℕ) (cutter : CutterState) (needs : List PathNeed)
-    → cutter ≡ record { dump = dump; number = 0 } → needs ≡ [] → NeedsSoFar side dump cutter needs
-no_needs side dump cutter needs is none = record {
-  dump_is = ap (λ (c : CutterState). c.dump) is;
-  before = [];
-  begins = begins_with_none dump;
-  count = sym (ap (λ (c : CutterState). c.number) is);
-  needs_are = none;
+-- the needs after one more record
+pub needs_more : (first old now : NeedCollector) (before : List DumpRecord) (r : DumpRecord) (need : Option PathNeed)
+    → HasCollected first before old → now.side ≡ old.side → need ≡ need_of old.side r
+    → map need_view now.needs.items
+    ≡ map need_view old.needs.items ++ filter_map (λ (n : Option PathNeed). n) (need ∷ [])
+    → HasCollected first (before ++ r ∷ []) now
+needs_more first old now before r need so_far side is are = record {
+  none = so_far.none;
+  side = side ∙ so_far.side;
+  needs = are
+      ∙ ap₂ (λ some others. some ++ others) so_far.needs
+      (ap (λ (n : Option PathNeed). filter_map (λ (m : Option PathNeed). m) (n ∷ []))
+      (is ∙ ap (λ s. need_of s r) so_far.side))
+      ∙ sym (filter_map-append (need_of first.side) before (r ∷ []));
 }
-
-module _ (side : Side) (dump : List ℕ) (cutter after : CutterState) (needs : List PathNeed)
-    (so_far : NeedsSoFar side dump cutter needs) where
-  module _ (item : Record) (step : CutStep cutter (cuts.Item item) after) where
-    next_begins : BeginsWithRecords dump (so_far.before ++ record_item item ∷ [])
-    next_begins = begins_next dump cutter after so_far.before so_far.dump_is so_far.begins so_far.count item step
-
-    -- the cutter is nearer to the end of the dump
-    pub cutter_nearer : (after.number ≡ cutter.number + 1) × (after.number ≤ length dump)
-    cutter_nearer = nearer_by_one dump cutter after so_far.before so_far.dump_is so_far.begins so_far.count item step
-
-    more_needs : (need : Option PathNeed) → need ≡ need_of side (record_item item) → (all : List PathNeed)
-        → all ≡ filter_map (λ (n : Option PathNeed). n) (need ∷ []) → needs ++ all ≡ needs_of side (so_far.before ++ record_item item ∷ [])
-    more_needs need is all are =
-        ap₂ (λ some others. some ++ others) so_far.needs_are (are ∙ ap (λ (n : Option PathNeed). filter_map (λ (m : Option PathNeed). m) (n ∷ [])) is)
-        ∙ sym (filter_map-append (need_of side) so_far.before (record_item item ∷ []))
-
-    -- the needs after one more record
-    pub needs_more : (need : Option PathNeed) → need ≡ need_of side (record_item item) → (all : List PathNeed)
-        → all ≡ needs ++ filter_map (λ (n : Option PathNeed). n) (need ∷ []) → NeedsSoFar side dump after all
-    needs_more need is all are = record {
-      dump_is = ap (λ (c : CutterState). c.dump) step.3 ∙ so_far.dump_is;
-      before = so_far.before ++ record_item item ∷ [];
-      begins = next_begins;
-      count = length-append so_far.before (record_item item ∷ [])
-          ∙ (ap (λ n. n + 1) so_far.count ∙ sym (ap (λ (c : CutterState). c.number) step.3));
-      needs_are = are ∙ more_needs need is (filter_map (λ (n : Option PathNeed). n) (need ∷ [])) refl;
-    }
-
-  -- the needs when the records end
-  pub all_needs : (ending : Ending) → EndsAfter cutter.dump cutter.number ending
-      → (records : List DumpRecord) × (end : Ending) × HasRecords dump records end × (needs ≡ needs_of side records)
-  all_needs ending ends = (
-    so_far.before,
-    ending,
-    whole_list dump so_far.before ending so_far.begins
-        (subst (λ d. EndsAfter d (length so_far.before) ending) so_far.dump_is
-        (subst (λ n. EndsAfter cutter.dump n ending) (sym so_far.count) ends)),
-    so_far.needs_are,
-  )
 
 -- from the last path to the first
 

@@ -62,7 +62,7 @@ pub use Rattle.dump_records.specs.HeaderRules.{header_number}
 pub use Rattle.dump_records.specs.RecordText.{DumpRecord, is_lawful, record_text}
 pub use Rattle.dump_records.specs.steps.CutRecords.{EndsAfter, IsRecordOf}
 pub use Rattle.dump_records.specs.steps.CutterState.{CutterState}
-pub use Rattle.dump_records.specs.steps.RecordViews.{CutStep, part_of_node, record_item, record_number}
+pub use Rattle.dump_records.specs.steps.RecordViews.{CutStep, part_of_node, record_dump, record_item, record_number}
 pub use Rattle.dump_rules.proofs.BarePrefixLemmas.{cut_begins, empty_begins, none_begins, whole_begins, within_wider}
 pub use Rattle.dump_rules.proofs.PrefixLemmas.{any_mapped}
 pub use Rattle.dump_rules.proofs.ReachLemmas.{count_at_point}
@@ -100,11 +100,12 @@ pub use Rattle.dump_survey.specs.steps.Counts.{AreWithNode, count_in}
 pub use Rattle.dump_survey.specs.steps.Folders.{BeginSame, HaveSame}
 pub use Rattle.dump_survey.specs.steps.Found.{AreFaultsBy, IsFoundIn, has_found, listed, node_faults}
 pub use Rattle.dump_survey.specs.steps.IdlePrefixes.{AreIdle, AreWithout, is_among, is_begun_by, is_below_copy, is_touched_by, prefixes_by, reported_by}
-pub use Rattle.dump_survey.specs.steps.KeptNumbers.{AreKeptIn, ended_numbers, kept_view, numbers_before}
-pub use Rattle.dump_survey.specs.steps.LeftOutCounts.{properties_count, property_count, text_lines_count, value_count}
+pub use Rattle.dump_survey.specs.steps.KeptNumbers.{AreKeptIn, HasKept, ended_numbers, kept_by, kept_view, numbers_before}
+pub use Rattle.dump_survey.specs.steps.Visits.{IsVisitedAfter}
+pub use Rattle.dump_survey.specs.steps.LeftOutCounts.{HasCounted, properties_count, property_count, text_lines_count, value_count}
 pub use Rattle.dump_survey.specs.steps.Losses.{AreLossesOf}
 pub use Rattle.dump_survey.specs.steps.NamedRevisions.{LeaveNumber, is_behind_dropped, leave_number, leaves_number}
-pub use Rattle.dump_survey.specs.steps.CopyNeeds.{AreNeeded, Grown, IsPass, PathNeed, can_not_stand, copy_need, each_matches_itself, grown_prefixes, is_matched, is_unmet, need_of, need_view, needs_of, unmatched}
+pub use Rattle.dump_survey.specs.steps.CopyNeeds.{AreNeeded, Grown, HasCollected, IsPass, PathNeed, can_not_stand, copy_need, each_matches_itself, grown_prefixes, is_matched, is_unmet, need_of, need_view, needs_of, unmatched}
 pub use Rattle.dump_survey.specs.steps.Places.{AreNextPlaces, first_place, no_places}
 pub use Rattle.dump_survey.specs.steps.Prefixes.{IsRestBelow, behind_slash, cuts_below, is_below}
 pub use Rattle.dump_survey.specs.steps.RevisionNumbers.{AreNumbersBehind, is_missing, is_up_to, misses_revision}
@@ -138,6 +139,9 @@ pub use Rattle.dump_survey.specs.declared.report.counts.Counts.{Counts}
 pub use Rattle.dump_survey.specs.declared.findings.node_finding.Found.{Found}
 pub use Rattle.dump_survey.specs.declared.findings.node_finding.Losses.{Losses}
 pub use Rattle.dump_survey.specs.declared.report.revision_map.KeptNumbers.{KeptNumbers}
+pub use Rattle.dump_survey.specs.declared.report.revision_map.NumberCollector.{NumberCollector}
+pub use Rattle.dump_survey.specs.declared.advice.copy_needs.NeedCollector.{NeedCollector}
+pub use Rattle.dump_survey.specs.declared.advice.left_out_mergeinfo.LineCounter.{LineCounter}
 pub use Rattle.dump_survey.specs.declared.advice.copy_needs.CopyNeed.{CopyNeed}
 pub use Rattle.dump_survey.specs.declared.findings.places.DumpPlaces.{DumpPlaces}
 pub use Rattle.dump_survey.specs.declared.findings.places.Place.{Place}

@@ -1,17 +1,9 @@
 -- The kept revisions that are found record by record are those of the groups.
-use Rattle.dump_survey.proofs.Prelude.{◌≡◌, ℕ, ◌+◌, ◌≤◌, ◌<◌, ◌^◌, ◌==◌, Bool, true, false, not, ◌&&◌, ◌||◌, List, [], ◌∷◌, ◌++◌, length, length-append, map, filter, Option, Some, None, if◌then◌else◌, cond, refl, sym, ap, ap₂, ◌∙◌, subst, arith, Result, Ok, Err, append-nil, append_assoc, codes, decimal, or_assoc, concat, list_all, list_any, IsPermutation, sum_by-IsPermutation, and_parts, revision_name, Record, header_number, DumpRecord, Ending, BeginsWithRecords, CutterState, EndsAfter, record_item, CutStep, whole_list, KeptRevisions, Settings, is_revision_record, is_node, is_kept_node, Group, group_of, groups, group_number, revision_number, revision_numbers, first_number, keeps_group, keeps_empty, kept_revisions, written_number, header_small, copies_from_before, KeptNumbers, Memory, Present, Tally, no_tally, revision_tally, node_tally, other_tally, next_tally, tally_behind, AreKeptIn, ended_numbers, kept_view, numbers_before}
+use Rattle.dump_survey.proofs.Prelude.{◌≡◌, ℕ, ◌+◌, ◌<◌, ◌^◌, ◌==◌, Bool, true, false, not, ◌&&◌, ◌||◌, List, [], ◌∷◌, ◌++◌, length, map, filter, Option, Some, None, if◌then◌else◌, cond, refl, sym, ap, ap₂, ◌∙◌, subst, arith, append-nil, append_assoc, codes, decimal, or_assoc, concat, list_all, list_any, IsPermutation, sum_by-IsPermutation, and_parts, revision_name, Record, header_number, DumpRecord, Ending, record_item, KeptRevisions, Settings, is_revision_record, is_node, is_kept_node, Group, group_of, groups, group_number, revision_number, revision_numbers, first_number, keeps_group, keeps_empty, written_number, header_small, copies_from_before, Present, Tally, no_tally, revision_tally, node_tally, other_tally, next_tally, AreKeptIn, Bor, HasRecords, HasKept, IsVisitedAfter, NumberCollector, ended_numbers, kept_by, numbers_before}
 use Rattle.std.proofs.Common.{unwrap_or, nat_lt}
-use Rattle.std.specs.Result.{IfOk}
-use Rattle.dump_records.specs.declared.cutter.Cut.TheVariants as cuts
 use Rattle.dump_survey.specs.RevisionMap.{map_line}
-use Rattle.dump_survey.proofs.SurveyorLemmas.{begins_next, begins_with_none, begun_single, nearer_by_one}
+use Rattle.dump_survey.proofs.SurveyorLemmas.{begun_single}
 use Rattle.dump_survey.proofs.TallyLemmas.{begins_at_is, closes, closes_none, count_within, is_single, nodes, nodes_more, nodes_none, some_left, tally_more}
-
--- the numbers that are added after a tally, up to the end of these records
-abbrev pub kept_by : Settings → Tally → List DumpRecord → List ℕ
-kept_by settings t [] = ended_numbers settings t.present
-kept_by settings t (r ∷ records) =
-    numbers_before settings t.present r ++ kept_by settings (next_tally settings t r) records
 
 -- the number of the present revision, if it is kept when these nodes follow
 abbrev closing : Settings → Option Present → List DumpRecord → List ℕ
@@ -102,98 +94,59 @@ first_below (r ∷ records) = by (is_revision_record r) (first_below records)
     by true more = revision_below r
     by false more = more
 
--- what is known after the records that the cutter has returned
-pub record KeptSoFar (settings : Settings) (dump : List ℕ) (cutter : CutterState) (tally : Tally) (numbers : List ℕ)
-    : Type 0 where
-  pub dump_is : cutter.dump ≡ dump
-  pub before : List DumpRecord
-  pub begins : BeginsWithRecords dump before
-  pub count : length before ≡ cutter.number
-  pub tallied : tally ≡ tally_behind settings no_tally before
-  pub kept : (rest : List DumpRecord)
-      → kept_by settings no_tally (before ++ rest) ≡ numbers ++ kept_by settings tally rest
-
-pub none_kept : (settings : Settings) (dump : List ℕ) (cutter : CutterState) (tally : Tally) (numbers : List ℕ)
-    → cutter ≡ record { dump = dump; number = 0 } → tally ≡ no_tally → numbers ≡ []
-    → KeptSoFar settings dump cutter tally numbers
-none_kept settings dump cutter tally numbers is none empty = record {
-  dump_is = ap (λ (c : CutterState). c.dump) is;
-  before = [];
-  begins = begins_with_none dump;
-  count = sym (ap (λ (c : CutterState). c.number) is);
-  tallied = none;
-  kept = λ rest. ap₂ (λ (t : Tally) (ns : List ℕ). ns ++ kept_by settings t rest) (sym none) (sym empty);
-}
-
 -- one more record
-module _ (settings : Settings) (dump : List ℕ) (cutter after : CutterState) (tally : Tally) (numbers : List ℕ)
-    (so_far : KeptSoFar settings dump cutter tally numbers) where
-  module _ (item : Record) (step : CutStep cutter (cuts.Item item) after) where
-    begins_more : BeginsWithRecords dump (so_far.before ++ record_item item ∷ [])
-    begins_more = begins_next dump cutter after so_far.before so_far.dump_is so_far.begins so_far.count item step
+module _ (first old : NumberCollector) (before : List DumpRecord) (item : Record) (next : IsVisitedAfter item before)
+    (so_far : HasKept first before old) where
+  -- the tally has room for one more revision
+  pub tally_room : old.tally.count + 1 < 2 ^ 64
+  tally_room =
+      let within = count_within first.options.now no_tally before in
+      let same = ap (λ (t : Tally). t.count) so_far.tallied in
+      let number = next.1 in
+      let fits = item.counted in
+      omega arith
 
-    -- the cutter is nearer to the end of the dump
-    pub cutter_closer : (after.number ≡ cutter.number + 1) × (after.number ≤ length dump)
-    cutter_closer = nearer_by_one dump cutter after so_far.before so_far.dump_is so_far.begins so_far.count item step
+  pub kept_more : (now : NumberCollector) → now.options ≡ old.options
+      → now.numbers.items ≡ old.numbers.items ++ numbers_before old.options.now old.tally.present (record_item item)
+      → now.tally ≡ next_tally old.options.now old.tally (record_item item)
+      → HasKept first (before ++ record_item item ∷ []) now
+  kept_more now options are is =
+      let settings = first.options.now in
+      let r = record_item item in
+      let same : now.tally ≡ next_tally settings old.tally r = is ∙ ap (λ s. next_tally s old.tally r) so_far.options in
+      record {
+        none = so_far.none;
+        options = ap (λ (o : Bor Settings). o.now) options ∙ so_far.options;
+        tallied = same ∙ ap (λ t. next_tally settings t r) so_far.tallied
+            ∙ sym (tally_more settings no_tally before r);
+        kept = λ rest. ap (kept_by settings no_tally) (append_assoc before (r ∷ []) rest)
+            ∙ so_far.kept (r ∷ rest)
+            ∙ sym (append_assoc old.numbers.items (numbers_before settings old.tally.present r)
+            (kept_by settings (next_tally settings old.tally r) rest))
+            ∙ ap₂ (λ (ns : List ℕ) (t : Tally). ns ++ kept_by settings t rest)
+            (sym (are ∙ ap (λ s. old.numbers.items ++ numbers_before s old.tally.present r) so_far.options)) (sym same);
+      }
 
-    -- the tally has room for one more revision
-    pub tally_room : tally.count + 1 < 2 ^ 64
-    tally_room =
-        let within = count_within settings no_tally so_far.before in
-        let same = ap (λ (t : Tally). t.count) so_far.tallied in
-        let count = so_far.count in
-        let number = step.1 in
-        let fits = item.counted in
-        omega arith
+-- the kept revisions when the records end
+pub all_kept_in : (first now : NumberCollector) (dump : List ℕ) (records : List DumpRecord) (ending : Ending)
+    → HasRecords dump records ending → HasKept first records now → (numbers : List ℕ)
+    → numbers ≡ now.numbers.items ++ ended_numbers first.options.now now.tally.present
+    → AreKeptIn first.options.now dump (record { first = now.tally.first; numbers = numbers })
+all_kept_in first now dump records ending has so_far numbers are = record {
+  records = records;
+  ending = ending;
+  has = has;
+  kept_are = ap₂ (λ f ns. record { first = f; numbers = ns }) begins
+      (are ∙ sym (so_far.kept []) ∙ ap (kept_by settings no_tally) (append-nil records)
+      ∙ numbers_are settings no_tally records (begun_single dump records (has.0, has.1, has.2)));
+  small = subst (λ n. n < 10 ^ 18) (sym begins) (first_below records);
+}
+  where
+    settings : Settings
+    settings = first.options.now
 
-    pub kept_more : (all : List ℕ) (next : Tally)
-        → all ≡ numbers ++ numbers_before settings tally.present (record_item item)
-        → next ≡ next_tally settings tally (record_item item) → KeptSoFar settings dump after next all
-    kept_more all next are is = record {
-      dump_is = ap (λ (c : CutterState). c.dump) step.3 ∙ so_far.dump_is;
-      before = so_far.before ++ record_item item ∷ [];
-      begins = begins_more;
-      count = length-append so_far.before (record_item item ∷ [])
-          ∙ (ap (λ n. n + 1) so_far.count ∙ sym (ap (λ (c : CutterState). c.number) step.3));
-      tallied = is ∙ ap (λ t. next_tally settings t (record_item item)) so_far.tallied
-          ∙ sym (tally_more settings no_tally so_far.before (record_item item));
-      kept = λ rest. ap (kept_by settings no_tally) (append_assoc so_far.before (record_item item ∷ []) rest)
-          ∙ so_far.kept (record_item item ∷ rest)
-          ∙ sym (append_assoc numbers (numbers_before settings tally.present (record_item item))
-          (kept_by settings (next_tally settings tally (record_item item)) rest))
-          ∙ ap₂ (λ (ns : List ℕ) (t : Tally). ns ++ kept_by settings t rest) (sym are) (sym is);
-    }
-
-  -- the kept revisions when the records end
-  pub all_kept_in : (ending : Ending) → EndsAfter cutter.dump cutter.number ending → (kept : KeptRevisions)
-      → kept.first ≡ tally.first → kept.numbers ≡ numbers ++ ended_numbers settings tally.present
-      → AreKeptIn settings dump kept
-  all_kept_in ending ends kept first_is are = record {
-    records = so_far.before;
-    ending = ending;
-    has = whole_list dump so_far.before ending so_far.begins
-        (subst (λ d. EndsAfter d (length so_far.before) ending) so_far.dump_is
-        (subst (λ n. EndsAfter cutter.dump n ending) (sym so_far.count) ends));
-    kept_are = same_kept kept (kept_revisions settings so_far.before)
-        begins
-        (are ∙ sym (so_far.kept []) ∙ ap (kept_by settings no_tally) (append-nil so_far.before)
-        ∙ numbers_are settings no_tally so_far.before (begun_single dump so_far.before so_far.begins));
-    small = subst (λ n. n < 10 ^ 18) (sym begins) (first_below so_far.before);
-  }
-    where
-      begins : kept.first ≡ first_number (revision_numbers so_far.before)
-      begins = first_is ∙ ap (λ (t : Tally). t.first) so_far.tallied ∙ begins_at_is settings so_far.before
-
-      same_kept : (a b : KeptRevisions) → a.first ≡ b.first → a.numbers ≡ b.numbers → a ≡ b
-      same_kept a b first_same numbers_same =
-          ap₂ (λ f ns. record { first = f; numbers = ns }) first_same numbers_same
-
-  pub all_kept_ok : (ending : Ending) → EndsAfter cutter.dump cutter.number ending → (r : Result KeptNumbers Memory)
-      → IfOk r (λ kept. kept.first ≡ tally.first)
-      → IfOk r (λ kept. kept.numbers.items ≡ numbers ++ ended_numbers settings tally.present)
-      → IfOk r (λ kept. AreKeptIn settings dump (kept_view kept))
-  all_kept_ok ending ends (Ok kept) first_is are = all_kept_in ending ends (kept_view kept) first_is are
-  all_kept_ok ending ends (Err none) first_is are = tt
+    begins : now.tally.first ≡ first_number (revision_numbers records)
+    begins = ap (λ (t : Tally). t.first) so_far.tallied ∙ begins_at_is settings records
 
 -- a new number doesn't depend on the order of the kept numbers
 written_sorted : (settings : Settings) (first number : ℕ) (numbers sorted : List ℕ) → IsPermutation numbers sorted

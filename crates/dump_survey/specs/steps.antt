@@ -15,3 +15,4 @@ pub mod Steps
 pub mod Surveyed
 pub mod Surveying
 pub mod Tally
+pub mod Visits

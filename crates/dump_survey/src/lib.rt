@@ -56,6 +56,7 @@ mod advice;
 mod findings;
 pub mod laws;
 mod report;
+mod visitor;
 
 pub use advice::added_prefixes::prefixes_to_add;
 pub use advice::folders::folders_to_make;

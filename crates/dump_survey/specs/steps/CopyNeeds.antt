@@ -1,5 +1,5 @@
 -- The copies that need their source, in the form in which the program searches for the prefixes to add.
-use Rattle.std.specs.Prelude.{◌≡◌, ◌<◌, ℕ, Bool, true, false, not, ◌&&◌, List, [], ◌∷◌, ◌++◌, Option, Some, None, length, filter, bytes_eq, if◌then◌else◌, IsTrue, ⊤}
+use Rattle.std.specs.Prelude.{◌≡◌, ◌<◌, ℕ, Bool, true, false, not, ◌&&◌, List, [], ◌∷◌, ◌++◌, Option, Some, None, length, filter, map, bytes_eq, if◌then◌else◌, IsTrue, ⊤}
 use Rattle.std.specs.List.{list_any, filter_map}
 use Rattle.dump_records.specs.RecordText.{DumpRecord}
 use Rattle.dump_rules.specs.declared.options.Side.{Side}
@@ -9,6 +9,7 @@ use Rattle.dump_digest.specs.RecordParts.{is_node, is_copy, node_path}
 use Rattle.dump_filter.specs.NewHeaders.{is_whole_file}
 use Rattle.dump_history.specs.RecordChanges.{copy_path}
 use Rattle.dump_survey.specs.declared.advice.copy_needs.CopyNeed.{CopyNeed}
+use Rattle.dump_survey.specs.declared.advice.copy_needs.NeedCollector.{NeedCollector}
 use Rattle.dump_survey.specs.PrefixesToAdd.{wanted_path, matches_itself}
 
 -- a need: if a prefix matches the first path, a prefix has to match the second one, which matches itself
@@ -40,6 +41,12 @@ need_of side r = if can_not_stand r && matches_itself (wanted_path side r) then 
 -- what the records need
 abbrev pub needs_of : Side → List DumpRecord → List PathNeed
 needs_of side records = filter_map (need_of side) records
+
+-- from a collector without needs these records made the second one
+pub record HasCollected (first : NeedCollector) (records : List DumpRecord) (now : NeedCollector) : Type 0 where
+  pub none : first.needs.items ≡ []
+  pub side : now.side ≡ first.side
+  pub needs : map need_view now.needs.items ≡ needs_of first.side records
 
 -- whether a prefix matches the path
 abbrev pub is_matched : List (List ℕ) → List ℕ → Bool

@@ -1,10 +1,13 @@
 -- How many lines of mergeinfo are omitted, as the program counts them while it reads the text.
-use Rattle.std.specs.Prelude.{ℕ, List, count_by, sum_by, if◌then◌else◌}
+use Rattle.std.specs.Prelude.{◌≡◌, ℕ, List, count_by, sum_by, if◌then◌else◌}
 use Rattle.dump_text.specs.PropertyList.{Property}
+use Rattle.dump_records.specs.RecordText.{DumpRecord}
 use Rattle.dump_rules.specs.Settings.{Settings}
 use Rattle.dump_rules.specs.steps.ReadMergeinfo.{value_reads, without_lf}
 use Rattle.dump_rules.specs.steps.RewrittenLines.{line_misses, text_lines}
 use Rattle.dump_digest.specs.RecordParts.{is_mergeinfo, value_of}
+use Rattle.dump_survey.specs.declared.advice.left_out_mergeinfo.LineCounter.{LineCounter}
+use Rattle.dump_survey.specs.LeftOutMergeinfo.{AddUpTo, AreLeftOutOf}
 
 -- the number for the lines of a text
 abbrev pub text_lines_count : Settings → List ℕ → ℕ
@@ -21,3 +24,9 @@ property_count settings p = if is_mergeinfo p then value_count settings (value_o
 -- the number for all properties
 abbrev pub properties_count : Settings → List Property → ℕ
 properties_count settings ps = sum_by (property_count settings) ps
+
+-- from a counter at 0 these records made the second one
+pub record HasCounted (first : LineCounter) (records : List DumpRecord) (now : LineCounter) : Type 0 where
+  pub none : first.count ≡ 0
+  pub options : now.options.now ≡ first.options.now
+  pub add : AddUpTo (AreLeftOutOf first.options.now) records now.count

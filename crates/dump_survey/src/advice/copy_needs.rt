@@ -4,11 +4,12 @@ ghost use Rattle.dump_records.specs.RecordText.{DumpRecord};
 ghost use Rattle.dump_records.specs.DumpText.{Ending, HasRecords};
 ghost use Rattle.dump_records.specs.steps.RecordViews.{record_item};
 ghost use Rattle.dump_survey.specs.PrefixesToAdd.{matches_itself};
-ghost use Rattle.dump_survey.specs.steps.CopyNeeds.{can_not_stand, need_of, need_view, needs_of};
+ghost use Rattle.dump_survey.specs.steps.CopyNeeds.{HasCollected, can_not_stand, need_of, need_view, needs_of};
 
 use crate::findings::prefixes::begins_path;
+use crate::visitor::{RecordVisitor, visit_records};
 use dump_nodes::{copy_path_of, is_copy, is_whole_file, path_of};
-use dump_records::{Cut, Cutter, Record};
+use dump_records::Record;
 use dump_rules::{Memory, Side, bare_path, bare_prefix};
 use std::alloc::Global;
 
@@ -59,6 +60,26 @@ fn need_of<'a>(item: &Record<'a>, side: Side) -> Option<CopyNeed<'a>>
     }
 }
 
+/// Collects what the copies of a dump need.
+#[derive(Drop)]
+struct NeedCollector<'a> {
+    side: Side,
+    needs: Vec<CopyNeed<'a>>,
+}
+
+impl<'a> RecordVisitor<'a> for NeedCollector<'a> {
+    type Error = Memory;
+
+    ghost has_visited = { λ first records now. HasCollected first records now };
+
+    fn visit(&mut self, item: &Record<'a>) -> Result<(), Memory> {
+        if let Some(need) = need_of(item, self.side) {
+            self.needs.push(need)?;
+        }
+        Ok(())
+    }
+}
+
 /// What the records of the dump need, in the dump's order, up to the end of the list of records.
 pub(crate) fn needs_in<'a>(
     alloc: Global,
@@ -68,17 +89,10 @@ pub(crate) fn needs_in<'a>(
     ensures { IfOk result (λ needs. (records : List DumpRecord) × (ending : Ending) × HasRecords dump.now records ending
         × (map need_view needs.items ≡ needs_of side records)) }
 {
-    let mut cutter = Cutter::new(dump);
-    let mut needs = Vec::new(alloc);
-    loop {
-        match cutter.next() {
-            Cut::Item(item) => {
-                if let Some(need) = need_of(&item, side) {
-                    needs.push(need)?;
-                }
-            }
-            Cut::Finished => return Ok(needs),
-            Cut::Fault { .. } => return Ok(needs),
-        }
-    }
+    let mut collector = NeedCollector {
+        side,
+        needs: Vec::new(alloc),
+    };
+    visit_records(dump, &mut collector)?;
+    Ok(collector.needs)
 }

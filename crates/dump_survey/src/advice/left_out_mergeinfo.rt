@@ -4,12 +4,14 @@ ghost use Rattle.dump_text.specs.PropertyList.{IsPropertyBlock, Property};
 ghost use Rattle.dump_text.specs.steps.PropertyViews.{entry_property, props_bytes};
 ghost use Rattle.dump_records.specs.steps.RecordViews.{record_item};
 ghost use Rattle.dump_survey.specs.LeftOutMergeinfo.{AreLeftOutIn, AreLeftOutOf, AreLeftOutOfRecords};
-ghost use Rattle.dump_survey.specs.steps.LeftOutCounts.{properties_count, property_count, text_lines_count, value_count};
+ghost use Rattle.dump_survey.specs.steps.LeftOutCounts.{HasCounted, properties_count, property_count, text_lines_count, value_count};
 
+use crate::visitor::{RecordVisitor, visit_records};
 use dump_digest::{is_kept, is_mergeinfo, properties_of};
-use dump_records::{Cut, Cutter, Record};
+use dump_records::Record;
 use dump_rules::{Options, keeps, merge_path_of, merge_reads, without_lf};
 use dump_text::{Entry, Props};
+use std::convert::Infallible;
 
 /// The number of lines of a text that have a path that isn't kept.
 fn text_left_out(text: &[u8], options: &Options) -> usize
@@ -73,18 +75,34 @@ fn record_left_out(item: &Record<'_>, options: &Options) -> usize
     }
 }
 
+/// Counts the lines of mergeinfo that the filter omits.
+#[derive(Drop)]
+struct LineCounter<'o> {
+    options: &'o Options,
+    count: usize,
+}
+
+impl<'o, 'a> RecordVisitor<'a> for LineCounter<'o> {
+    type Error = Infallible;
+
+    ghost has_visited = { λ first records now. HasCounted first records now };
+
+    fn visit(&mut self, item: &Record<'a>) -> Result<(), Infallible> {
+        // This call shows the checker that the dump's length, and so the count, fits into a `usize`.
+        let _size = item.block().dump().len();
+        self.count += record_left_out(item, self.options);
+        Ok(())
+    }
+}
+
 /// The number of lines of mergeinfo that the filter omits from the records of a dump.
 fn records_left_out(dump: &[u8], options: &Options) -> usize
     ensures { AreLeftOutOfRecords options.now dump.now result }
 {
-    let mut cutter = Cutter::new(dump);
-    let mut count = 0;
-    loop {
-        match cutter.next() {
-            Cut::Item(item) => count += record_left_out(&item, options),
-            Cut::Finished => return count,
-            Cut::Fault { .. } => return count,
-        }
+    let mut counter = LineCounter { options, count: 0 };
+    match visit_records(dump, &mut counter) {
+        Ok(()) => counter.count,
+        Err(never) => match never {},
     }
 }
 

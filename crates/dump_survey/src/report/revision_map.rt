@@ -7,13 +7,14 @@ ghost use Rattle.dump_records.specs.steps.RecordViews.{record_item};
 ghost use Rattle.dump_filter.specs.NewHeaders.{written_number};
 ghost use Rattle.dump_writer.specs.SinkWords.{HasFailedSince};
 ghost use Rattle.dump_survey.specs.RevisionMap.{IsRevisionMap, TakesSomeOfMap, map_line, map_lines};
-ghost use Rattle.dump_survey.specs.steps.KeptNumbers.{AreKeptIn, ended_numbers, kept_view, numbers_before};
+ghost use Rattle.dump_survey.specs.steps.KeptNumbers.{AreKeptIn, HasKept, ended_numbers, kept_view, numbers_before};
 
 use crate::findings::tally::Tally;
 use crate::report::survey_lines::push_number;
 use crate::report::survey_text::{SurveyFailure, write_lines};
+use crate::visitor::{RecordVisitor, visit_records};
 use dump_digest::is_kept;
-use dump_records::{Cut, Cutter, Record};
+use dump_records::Record;
 use dump_rules::{Memory, Options};
 use dump_writer::Sink;
 use std::alloc::Global;
@@ -53,36 +54,49 @@ fn push_before(
     Ok(())
 }
 
-/// The kept revisions after the last record.
-fn ended(mut numbers: Vec<u64>, tally: &Tally, options: &Options) -> Result<KeptNumbers, Memory>
-    ensures first { IfOk result (λ kept. kept.first ≡ tally.now.first) }
-    ensures numbers { IfOk result (λ kept.
-        kept.numbers.items ≡ numbers.items ++ ended_numbers options.now tally.now.present) }
-{
-    push_ended(&mut numbers, tally, options)?;
-    Ok(KeptNumbers {
-        first: tally.first,
-        numbers,
-    })
+/// Collects the numbers of the revisions that the filter keeps.
+#[derive(Drop)]
+struct NumberCollector<'o> {
+    options: &'o Options,
+    tally: Tally,
+    /// The numbers up to the revision before the present one.
+    numbers: Vec<u64>,
+}
+
+impl<'o, 'a> RecordVisitor<'a> for NumberCollector<'o> {
+    type Error = Memory;
+
+    ghost has_visited = { λ first records now. HasKept first records now };
+
+    fn visit(&mut self, item: &Record<'a>) -> Result<(), Memory> {
+        push_before(&mut self.numbers, &self.tally, item, self.options)?;
+        self.tally = self
+            .tally
+            .with(item, is_kept(item, self.options), self.options);
+        Ok(())
+    }
 }
 
 /// The revisions that the filter keeps, up to the end of the list of records.
 fn kept_in(alloc: Global, dump: &[u8], options: &Options) -> Result<KeptNumbers, Memory>
     ensures { IfOk result (λ kept. AreKeptIn options.now dump.now (kept_view kept)) }
 {
-    let mut cutter = Cutter::new(dump);
-    let mut tally = Tally::new();
-    let mut numbers = Vec::new(alloc);
-    loop {
-        match cutter.next() {
-            Cut::Item(item) => {
-                push_before(&mut numbers, &tally, &item, options)?;
-                tally = tally.with(&item, is_kept(&item, options), options);
-            }
-            Cut::Finished => return ended(numbers, &tally, options),
-            Cut::Fault { .. } => return ended(numbers, &tally, options),
-        }
-    }
+    let mut collector = NumberCollector {
+        options,
+        tally: Tally::new(),
+        numbers: Vec::new(alloc),
+    };
+    visit_records(dump, &mut collector)?;
+    let NumberCollector {
+        tally,
+        mut numbers,
+        ..
+    } = collector;
+    push_ended(&mut numbers, &tally, options)?;
+    Ok(KeptNumbers {
+        first: tally.first,
+        numbers,
+    })
 }
 
 /// The same numbers in rising order. They already are in this order if the filter accepts the dump.
