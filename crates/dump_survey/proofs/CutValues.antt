@@ -32,9 +32,9 @@ behind_another : cutting_prefix (call Exclude (codes "o" ∷ codes "tt/f" ∷ co
 behind_another = refl
 
 -- a prefix doesn't cut if the same path below the copy is excluded too
-left_out_on_both_sides : cutting_prefix (call Exclude (codes "t/f" ∷ codes "b/f" ∷ codes "t/g" ∷ [])) copy
+omitted_on_both_sides : cutting_prefix (call Exclude (codes "t/f" ∷ codes "b/f" ∷ codes "t/g" ∷ [])) copy
     findings.CopyLoses ≡ Some (codes "t/g")
-left_out_on_both_sides = refl
+omitted_on_both_sides = refl
 
 -- each of the two findings has its own prefix
 of_the_copy : cutting_prefix (call Exclude (codes "t/f" ∷ codes "b/g" ∷ [])) copy findings.CopyLetsIn

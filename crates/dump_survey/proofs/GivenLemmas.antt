@@ -1,7 +1,7 @@
 -- The directories to create are the parent directories.
-use Rattle.dump_survey.proofs.Prelude.{◌≡◌, ℕ, Bool, true, false, not, ◌&&◌, ◌||◌, ◌==◌, List, [], ◌∷◌, ◌++◌, map, flat_map, nat_eq, bytes_eq, reverse, if◌then◌else◌, refl, sym, ap, ap₂, ◌∙◌, arith, inl, inr, Bor, Vec, Global, Result, Ok, Err, list_any, starts_with, eqb-true, or_cases, reverse-append, reverse-reverse, list_any-append, bytes_eq-Decides, Side, Include, Exclude, bare_prefix, begins_path, without_leading_slashes, without_trailing_slashes, Settings, keeps_path, side_keeps, NodePath, path_text, is_above_some, is_root, Memory, AreFoldersToMake, each_once, fronts, left_above, paths_above, with_new}
+use Rattle.dump_survey.proofs.Prelude.{◌≡◌, ℕ, Bool, true, false, not, ◌&&◌, ◌||◌, ◌==◌, List, [], ◌∷◌, ◌++◌, map, flat_map, nat_eq, bytes_eq, reverse, if◌then◌else◌, refl, sym, ap, ap₂, ◌∙◌, arith, inl, inr, Bor, Vec, Global, Result, Ok, Err, list_any, starts_with, eqb-true, or_cases, reverse-append, reverse-reverse, list_any-append, bytes_eq-Decides, Side, Include, Exclude, bare_prefix, begins_path, without_leading_slashes, without_trailing_slashes, Settings, keeps_path, side_keeps, NodePath, path_text, is_above_some, is_root, Memory, AreParentsToCreate, each_once, fronts, left_above, paths_above, with_new}
 use Rattle.std.proofs.Common.{IfOk}
-use Rattle.dump_survey.proofs.FolderLemmas.{any_pushed, left_of}
+use Rattle.dump_survey.proofs.ParentLemmas.{any_pushed, left_of}
 
 -- a test of texts in a list without duplicates
 
@@ -223,16 +223,16 @@ kept_alike settings (b ∷ text) = at (b == 47) refl
 included : (settings : Settings) (text : List ℕ)
     → (not (keeps_path settings (47 ∷ text))
     && list_any (λ prefix. starts_with nat_eq (bare_prefix prefix) (text ++ 47 ∷ [])) settings.prefixes)
-    ≡ list_any (λ folder. bytes_eq folder text) (each_once [] (left_of settings (paths_above settings.prefixes)))
+    ≡ list_any (λ directory. bytes_eq directory text) (each_once [] (left_of settings (paths_above settings.prefixes)))
 included settings text =
     kept_alike settings text
     ∙ (ap (λ b. not (keeps_path settings text) && b) (sym (any_above text settings.prefixes))
     ∙ (sym (any_left settings text (paths_above settings.prefixes))
-    ∙ sym (any_once (λ folder. bytes_eq folder text) [] (left_of settings (paths_above settings.prefixes)))))
+    ∙ sym (any_once (λ directory. bytes_eq directory text) [] (left_of settings (paths_above settings.prefixes)))))
 
 given_is : (side : Side) (settings : Settings) (path : NodePath)
     → (is_root path || (not (keeps_path settings (path_text path)) && is_above_some side settings.prefixes path))
-    ≡ (is_root path || list_any (λ folder. bytes_eq (47 ∷ folder) (path_text path)) (left_above side settings))
+    ≡ (is_root path || list_any (λ directory. bytes_eq (47 ∷ directory) (path_text path)) (left_above side settings))
 given_is side settings [] = refl
 given_is Include settings (name ∷ path) = included settings (name ++ path_text path)
 given_is Exclude settings (name ∷ path) = no (not (keeps_path settings (path_text (name ∷ path))))
@@ -242,11 +242,11 @@ given_is Exclude settings (name ∷ path) = no (not (keeps_path settings (path_t
     no false = refl
 
 -- these are the directories to create
-pub are_to_make : (settings : Settings) (folders : List (List ℕ)) → folders ≡ left_above settings.side settings
-    → AreFoldersToMake settings folders
-are_to_make settings folders same = record {
+pub are_to_make : (settings : Settings) (directories : List (List ℕ)) → directories ≡ left_above settings.side settings
+    → AreParentsToCreate settings directories
+are_to_make settings directories same = record {
   are_given = λ path. given_is settings.side settings path
-      ∙ ap (λ fs. is_root path || list_any (λ folder. bytes_eq (47 ∷ folder) (path_text path)) fs) (sym same);
+      ∙ ap (λ fs. is_root path || list_any (λ directory. bytes_eq (47 ∷ directory) (path_text path)) fs) (sym same);
   in_order = same;
 }
 
@@ -258,7 +258,7 @@ pub made_if_ok : (settings : Settings) (bare : List (Bor (List ℕ))) (r : Resul
     → settings.side ≡ Include → map (λ b. b.now) bare ≡ map bare_prefix settings.prefixes
     → IfOk r (λ paths. map (λ path. path.now) paths.items
     ≡ each_once [] (left_of settings (flat_map fronts (map (λ b. b.now) bare))))
-    → IfOk r (λ paths. AreFoldersToMake settings (map (λ path. path.now) paths.items))
+    → IfOk r (λ paths. AreParentsToCreate settings (map (λ path. path.now) paths.items))
 made_if_ok settings bare (Err failure) included same is = tt
 made_if_ok settings bare (Ok paths) included same is =
     are_to_make settings (map (λ path. path.now) paths.items)

@@ -1,7 +1,7 @@
 -- Texts that are removed from a set: the texts that begin a path. These are the path's parts before a slash, the path
 -- and the empty text.
 use Rattle.dump_survey.proofs.Prelude.{◌≡◌, ◌≢◌, ℕ, ◌+◌, ◌<◌, ◌≤◌, Bool, true, false, not, ◌&&◌, ◌||◌, List, [], ◌∷◌, take, length, get_or, map, bytes_eq, cond, filter, refl, sym, ap, ap₂, ◌∙◌, inl, inr, arith, and-false, and-true, or-false, list_any, is_at, remove_key, slice_cmp, nat_cmp, or_cases, or_parts, both_ways, false_from_ne_true, nat_tests, is_eq-slice_cmp, bytes_eq-Decides, first_true, begins_path, AreWithin, cut_begins, none_begins, whole_begins, is_among, AreWithout}
-use Rattle.dump_survey.proofs.FolderLemmas.{any_found}
+use Rattle.dump_survey.proofs.ParentLemmas.{any_found}
 use Rattle.std.proofs.Common.{nat_lt}
 use borrow.Author.Count.{below_more}
 

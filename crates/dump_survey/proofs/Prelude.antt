@@ -82,13 +82,13 @@ pub use Rattle.dump_survey.specs.AddedPrefixLines.{AreAddedPrefixLines, added_pr
 pub use Rattle.dump_survey.specs.CuttingPrefix.{cutting_prefix, first_cut}
 pub use Rattle.dump_survey.specs.DumpFindings.{has_dump_finding, listed_findings}
 pub use Rattle.dump_survey.specs.DumpReport.{AreDumpReports, ArePlaces, CameUp, ComesUpAt, DumpReport, IsDumpFinding, IsDumpReport, IsNeverFound, comes_up, place_in, reported_at_end}
-pub use Rattle.dump_survey.specs.Folders.{AreFoldersToMake, each_once, fronts, left_above, paths_above, with_new}
+pub use Rattle.dump_survey.specs.ParentsToCreate.{AreParentsToCreate, each_once, fronts, left_above, paths_above, with_new}
 pub use Rattle.dump_survey.specs.PrefixesToAdd.{ArePrefixesToAdd, ArePrefixesToAddIn, AreWanted, are_apart, covers, is_wanted, matches_itself, stops_at, stops_somewhere, uncovered, wanted_path, with_prefixes}
 pub use Rattle.dump_survey.specs.Kinds.{ending_kind_line, finding_place, kind_line, kind_lines, prefix_kind, times_in_prefixes, times_reported}
-pub use Rattle.dump_survey.specs.LeftOutMergeinfo.{AddUpTo, AreLeftOutIn, AreLeftOutOf, AreLeftOutOfProperties, AreLeftOutOfRecords, AreLeftOutOfValue, leaving_lines, mergeinfo_values}
+pub use Rattle.dump_survey.specs.OmittedMergeinfo.{AddUpTo, AreOmittedIn, AreOmittedFrom, AreOmittedFromProperties, AreOmittedFromRecords, AreOmittedFromValue, leaving_lines, mergeinfo_values}
 pub use Rattle.dump_survey.specs.FindingRows.{finding_row}
 pub use Rattle.dump_survey.specs.Lines.{dump_line, shown_path}
-pub use Rattle.dump_survey.specs.AdviceLines.{TakesSome, folder_lines}
+pub use Rattle.dump_survey.specs.AdviceLines.{TakesSome, parent_lines}
 pub use Rattle.dump_survey.specs.PrefixFindings.{PrefixReport, is_short_prefix, prefix_finding, prefix_view, reported_of_prefix, reported_prefixes}
 pub use Rattle.dump_survey.specs.PrefixLines.{prefix_lines}
 pub use Rattle.dump_survey.specs.RevisionMap.{map_lines}
@@ -97,12 +97,12 @@ pub use Rattle.dump_survey.specs.SurveyText.{BreaksOffSurvey, FindsNothing, IsSu
 pub use Rattle.dump_survey.specs.SurveyTies.{EachCutNamesPrefix, SilentSurveyRestricts, SilentTextLeavesDigests, SilentTextRestricts, ReportsAreFindings, ReportedOnce, all_findings, is_digest_fault, none_reported, tells_cut}
 pub use Rattle.dump_survey.specs.Reported.{AreReported, IsReportedOf, IsReportedOfNode, NodeReport, present_after, reported_in, reported_naming, reported_view}
 pub use Rattle.dump_survey.specs.steps.Counts.{AreWithNode, count_in}
-pub use Rattle.dump_survey.specs.steps.Folders.{BeginSame, HaveSame}
+pub use Rattle.dump_survey.specs.steps.Directories.{BeginSame, HaveSame}
 pub use Rattle.dump_survey.specs.steps.Found.{AreFaultsBy, IsFoundIn, has_found, listed, node_faults}
 pub use Rattle.dump_survey.specs.steps.IdlePrefixes.{AreIdle, AreWithout, is_among, is_begun_by, is_below_copy, is_touched_by, prefixes_by, reported_by}
 pub use Rattle.dump_survey.specs.steps.KeptNumbers.{AreKeptIn, HasKept, ended_numbers, kept_by, kept_view, numbers_before}
 pub use Rattle.dump_survey.specs.steps.Visits.{IsVisitedAfter}
-pub use Rattle.dump_survey.specs.steps.LeftOutCounts.{HasCounted, properties_count, property_count, text_lines_count, value_count}
+pub use Rattle.dump_survey.specs.steps.OmittedCounts.{HasCounted, properties_count, property_count, text_lines_count, value_count}
 pub use Rattle.dump_survey.specs.steps.Losses.{AreLossesOf}
 pub use Rattle.dump_survey.specs.steps.NamedRevisions.{LeaveNumber, is_behind_dropped, leave_number, leaves_number}
 pub use Rattle.dump_survey.specs.steps.CopyNeeds.{AreNeeded, Grown, HasCollected, IsPass, PathNeed, can_not_stand, copy_need, each_matches_itself, grown_prefixes, is_matched, is_unmet, need_of, need_view, needs_of, unmatched}
@@ -141,7 +141,7 @@ pub use Rattle.dump_survey.specs.declared.findings.node_finding.Losses.{Losses}
 pub use Rattle.dump_survey.specs.declared.report.revision_map.KeptNumbers.{KeptNumbers}
 pub use Rattle.dump_survey.specs.declared.report.revision_map.NumberCollector.{NumberCollector}
 pub use Rattle.dump_survey.specs.declared.advice.copy_needs.NeedCollector.{NeedCollector}
-pub use Rattle.dump_survey.specs.declared.advice.left_out_mergeinfo.LineCounter.{LineCounter}
+pub use Rattle.dump_survey.specs.declared.advice.omitted_mergeinfo.LineCounter.{LineCounter}
 pub use Rattle.dump_survey.specs.declared.advice.copy_needs.CopyNeed.{CopyNeed}
 pub use Rattle.dump_survey.specs.declared.findings.places.DumpPlaces.{DumpPlaces}
 pub use Rattle.dump_survey.specs.declared.findings.places.Place.{Place}

@@ -23,11 +23,11 @@ trunk_alone empty renumber = record {
 padded_kept : (kept_revisions (trunk_alone Pad true) worked).numbers ≡ 0 ∷ 1 ∷ 2 ∷ 3 ∷ []
 padded_kept = refl
 
-emptied_left_out : (kept_revisions (trunk_alone DropEmptied true) worked).numbers ≡ 0 ∷ 1 ∷ 3 ∷ []
-emptied_left_out = refl
+emptied_dropped : (kept_revisions (trunk_alone DropEmptied true) worked).numbers ≡ 0 ∷ 1 ∷ 3 ∷ []
+emptied_dropped = refl
 
-all_empty_left_out : (kept_revisions (trunk_alone DropAll true) worked).numbers ≡ 0 ∷ 1 ∷ []
-all_empty_left_out = refl
+all_empty_dropped : (kept_revisions (trunk_alone DropAll true) worked).numbers ≡ 0 ∷ 1 ∷ []
+all_empty_dropped = refl
 
 renumbered : written_number (trunk_alone DropEmptied true) (kept_revisions (trunk_alone DropEmptied true) worked) 3 ≡ 2
 renumbered = refl

@@ -6,28 +6,28 @@ use Rattle.std.specs.Io.KnownBytes.{Appends}
 use Rattle.dump_rules.specs.Settings.{Settings}
 use Rattle.dump_writer.specs.SinkWords.{IsPrefixOf}
 use Rattle.dump_survey.specs.AddedPrefixLines.{AreAddedPrefixLines}
-use Rattle.dump_survey.specs.Folders.{AreFoldersToMake}
-use Rattle.dump_survey.specs.LeftOutLine.{left_out_line}
-use Rattle.dump_survey.specs.LeftOutMergeinfo.{AreLeftOutIn}
+use Rattle.dump_survey.specs.ParentsToCreate.{AreParentsToCreate}
+use Rattle.dump_survey.specs.OmittedLine.{omitted_line}
+use Rattle.dump_survey.specs.OmittedMergeinfo.{AreOmittedIn}
 use Rattle.dump_survey.specs.Lines.{shown_path}
 
 -- the line of a directory to create
-unfoldable pub folder_line : List ℕ → List ℕ
-folder_line path = concat (codes "create first: " ∷ shown_path path ∷ codes "\n" ∷ [])
+unfoldable pub parent_line : List ℕ → List ℕ
+parent_line path = concat (codes "create first: " ∷ shown_path path ∷ codes "\n" ∷ [])
 
 -- one line for each of the directories
-abbrev pub folder_lines : List (List ℕ) → List ℕ
-folder_lines folders = flat_map folder_line folders
+abbrev pub parent_lines : List (List ℕ) → List ℕ
+parent_lines directories = flat_map parent_line directories
 
 -- these are the lines that follow the findings if this dump is filtered
 pub record AreAdviceLines (settings : Settings) (dump lines : List ℕ) : Type 0 where
-  pub left_out : ℕ
-  pub are_left_out : AreLeftOutIn settings dump left_out
-  pub folders : List (List ℕ)
-  pub are_folders : AreFoldersToMake settings folders
+  pub omitted : ℕ
+  pub are_omitted : AreOmittedIn settings dump omitted
+  pub directories : List (List ℕ)
+  pub are_directories : AreParentsToCreate settings directories
   pub added_lines : List ℕ
   pub are_added_lines : AreAddedPrefixLines settings dump added_lines
-  pub lines_are : lines ≡ left_out_line left_out ++ folder_lines folders ++ added_lines
+  pub lines_are : lines ≡ omitted_line omitted ++ parent_lines directories ++ added_lines
 
 -- the sink took a first part of the lines
 abbrev pub TakesSome : Option (List ℕ) → Option (List ℕ) → List ℕ → Type 0

@@ -4,12 +4,12 @@ pub mod CuttingPrefix
 pub mod DumpFindings
 pub mod DumpReport
 pub mod FindingRows
-pub mod Folders
 pub mod Kinds
-pub mod LeftOutLine
-pub mod LeftOutMergeinfo
 pub mod Lines
+pub mod OmittedLine
+pub mod OmittedMergeinfo
 pub mod OnceLaws
+pub mod ParentsToCreate
 pub mod PrefixFindings
 pub mod PrefixLines
 pub mod PrefixesToAdd

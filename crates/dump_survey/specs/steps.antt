@@ -1,13 +1,13 @@
 pub mod CopyNeeds
 pub mod Counts
-pub mod Folders
+pub mod Directories
 pub mod Found
 pub mod IdlePrefixes
 pub mod KeptNumbers
-pub mod LeftOutCounts
 pub mod LineViews
 pub mod Losses
 pub mod NamedRevisions
+pub mod OmittedCounts
 pub mod Places
 pub mod Prefixes
 pub mod RevisionNumbers

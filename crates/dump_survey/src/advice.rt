@@ -3,6 +3,6 @@
 
 pub(crate) mod added_prefixes;
 pub(crate) mod copy_needs;
-pub(crate) mod folders;
 pub(crate) mod growing_prefixes;
-pub(crate) mod left_out_mergeinfo;
+pub(crate) mod omitted_mergeinfo;
+pub(crate) mod parents;

@@ -10,8 +10,8 @@
 //! each with its [`PrefixFinding`].
 //!
 //! [`survey_dump`] keeps all findings in a [`Survey`]. [`write_survey`] writes a line for each finding as soon as it
-//! is found, and keeps none of them. [`left_out_lines`] counts the lines of mergeinfo that the filter drops.
-//! [`folders_to_make`] returns the parent directories to create. [`prefixes_to_add`] returns the prefixes to add so
+//! is found, and keeps none of them. [`omitted_lines`] counts the lines of mergeinfo that the filter drops.
+//! [`parents_to_create`] returns the parent directories to create. [`prefixes_to_add`] returns the prefixes to add so
 //! that no copy stops the filter. [`write_advice`] writes the lines of all three. [`write_map`] writes the old and the
 //! new number of each kept revision.
 //!
@@ -59,8 +59,8 @@ mod report;
 mod visitor;
 
 pub use advice::added_prefixes::prefixes_to_add;
-pub use advice::folders::folders_to_make;
-pub use advice::left_out_mergeinfo::left_out_lines;
+pub use advice::omitted_mergeinfo::omitted_lines;
+pub use advice::parents::parents_to_create;
 pub use dump_history::{DumpFinding, EVERY_FINDING, Finding};
 pub use dump_rules::Memory;
 pub use findings::node_finding::Found;

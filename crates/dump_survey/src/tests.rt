@@ -9,10 +9,10 @@ use std::test::Fail;
 
 mod added_prefixes;
 mod cuts;
-mod folders;
-mod left_out;
 mod map;
 mod nodes;
+mod omitted;
+mod parents;
 mod prefixes;
 mod text;
 

@@ -7,8 +7,8 @@ ghost use Rattle.dump_survey.specs.DumpFindings.{has_dump_finding, listed_findin
 ghost use Rattle.dump_survey.specs.DumpReport.{reported_at_end, reported_of_dump};
 ghost use Rattle.dump_survey.specs.FindingRows.{finding_row};
 ghost use Rattle.dump_survey.specs.Kinds.{kind_lines};
-ghost use Rattle.dump_survey.specs.LeftOutLine.{left_out_line, left_out_words};
-ghost use Rattle.dump_survey.specs.AdviceLines.{folder_line, folder_lines};
+ghost use Rattle.dump_survey.specs.OmittedLine.{omitted_line, omitted_words};
+ghost use Rattle.dump_survey.specs.AdviceLines.{parent_line, parent_lines};
 ghost use Rattle.dump_survey.specs.Lines.{broken_line, cut_words, dump_line, ending_line, fault_and_place, node_line, place_text, is_control_pair, shown_byte, shown_control, shown_path, shown_text, small_digit, source_text};
 ghost use Rattle.dump_survey.specs.PrefixFindings.{prefix_view};
 ghost use Rattle.dump_survey.specs.PrefixLines.{prefix_lines};
@@ -347,9 +347,9 @@ pub(crate) fn added_prefix_lines(
 }
 
 /// Adds the line of a directory to create.
-#[tactic(auto, unfolding(crate::specs::AdviceLines::folder_line))]
-fn push_folder_line(lines: &mut Vec<u8>, path: &[u8]) -> Result<(), Memory>
-    ensures { OnOk result (lines.new.items ≡ lines.old.items ++ folder_line path.now) }
+#[tactic(auto, unfolding(crate::specs::AdviceLines::parent_line))]
+fn push_parent_line(lines: &mut Vec<u8>, path: &[u8]) -> Result<(), Memory>
+    ensures { OnOk result (lines.new.items ≡ lines.old.items ++ parent_line path.now) }
 {
     lines.extend_from_slice(b"create first: ")?;
     push_path(lines, path)?;
@@ -357,21 +357,21 @@ fn push_folder_line(lines: &mut Vec<u8>, path: &[u8]) -> Result<(), Memory>
 }
 
 /// The lines of the directories to create.
-pub(crate) fn folder_lines(alloc: Global, folders: &[&[u8]]) -> Result<Vec<u8>, Memory>
-    ensures { IfOk result (λ lines. lines.items ≡ folder_lines (map (λ path. path.now) folders.now)) }
+pub(crate) fn parent_lines(alloc: Global, directories: &[&[u8]]) -> Result<Vec<u8>, Memory>
+    ensures { IfOk result (λ lines. lines.items ≡ parent_lines (map (λ path. path.now) directories.now)) }
 {
     let mut lines = Vec::new(alloc);
-    let mut left = folders;
+    let mut left = directories;
     while let [path, others @ ..] = left {
-        push_folder_line(&mut lines, path)?;
+        push_parent_line(&mut lines, path)?;
         left = others;
     }
     Ok(lines)
 }
 
 /// The words that follow the number on the line about dropped lines of mergeinfo.
-fn left_out_words(count: usize) -> &'static [u8]
-    ensures { result.now ≡ left_out_words count }
+fn omitted_words(count: usize) -> &'static [u8]
+    ensures { result.now ≡ omitted_words count }
 {
     if count == 1 {
         b" line of an excluded path\n"
@@ -381,15 +381,15 @@ fn left_out_words(count: usize) -> &'static [u8]
 }
 
 /// The line with the number of dropped lines of mergeinfo; empty if the number is 0.
-#[tactic(auto, unfolding(crate::specs::LeftOutLine::left_out_line))]
-pub(crate) fn left_out_line(alloc: Global, count: usize) -> Result<Vec<u8>, Memory>
-    ensures { IfOk result (λ line. line.items ≡ left_out_line count) }
+#[tactic(auto, unfolding(crate::specs::OmittedLine::omitted_line))]
+pub(crate) fn omitted_line(alloc: Global, count: usize) -> Result<Vec<u8>, Memory>
+    ensures { IfOk result (λ line. line.items ≡ omitted_line count) }
 {
     let mut line = Vec::new(alloc);
     if count > 0 {
         line.extend_from_slice(b"dropped from svn:mergeinfo: ")?;
         push_number(&mut line, count as u64)?;
-        line.extend_from_slice(left_out_words(count))?;
+        line.extend_from_slice(omitted_words(count))?;
     }
     Ok(line)
 }

@@ -8,12 +8,12 @@ ghost use Rattle.dump_survey.specs.AddedPrefixLines.{AreAddedPrefixLines};
 ghost use Rattle.dump_survey.specs.AdviceLines.{AreAdviceLines, TakesSome, TakesSomeAdvice};
 
 use crate::advice::added_prefixes::prefixes_to_add;
-use crate::advice::folders::folders_to_make;
-use crate::advice::left_out_mergeinfo::left_out_lines;
+use crate::advice::omitted_mergeinfo::omitted_lines;
+use crate::advice::parents::parents_to_create;
 use crate::findings::surveyor::{Step, Surveyor};
 use crate::report::counts::Counts;
 use crate::report::survey_lines::{
-    added_prefix_lines, end_lines, folder_lines, left_out_line, node_lines,
+    added_prefix_lines, end_lines, node_lines, omitted_line, parent_lines,
 };
 use dump_rules::{Memory, Options};
 use dump_writer::{Chunk, Piece, Sink, write_piece};
@@ -137,10 +137,10 @@ fn advice_lines(
     requires { IsFalse found → FindsNothing options.now dump.now }
     ensures { IfOk result (λ lines. AreAdviceLines options.now dump.now lines.items) }
 {
-    let folders = folders_to_make(alloc, options)?;
+    let directories = parents_to_create(alloc, options)?;
     let added_lines = lines_of_added_prefixes(alloc, dump, options, found)?;
-    let mut lines = left_out_line(alloc, left_out_lines(dump, options))?;
-    let to_make = folder_lines(alloc, &folders)?;
+    let mut lines = omitted_line(alloc, omitted_lines(dump, options))?;
+    let to_make = parent_lines(alloc, &directories)?;
     lines.extend_from_slice(&to_make)?;
     lines.extend_from_slice(&added_lines)?;
     Ok(lines)
@@ -148,8 +148,8 @@ fn advice_lines(
 
 /// Writes the advice for a dump that is filtered under these options, which follows the findings.
 ///
-/// The first line has the number of [`left_out_lines`], unless that is 0. Then there is one line for each parent
-/// directory to create, in the order of [`folders_to_make`], and one for each prefix to add, in the order of
+/// The first line has the number of [`omitted_lines`], unless that is 0. Then there is one line for each parent
+/// directory to create, in the order of [`parents_to_create`], and one for each prefix to add, in the order of
 /// [`prefixes_to_add`]. There is no prefix to add if the filter stops at no copy. The function writes nothing before
 /// all lines are known.
 ///

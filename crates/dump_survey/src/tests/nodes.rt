@@ -191,7 +191,7 @@ const FOLDERS_AND_MERGES: [(Side, &str, &str, &[Finding]); 10] = [
 ];
 
 #[test]
-fn left_out_folders_and_mergeinfo_are_found(rt: HostRuntime) -> Result<(), Fail> {
+fn parents_and_omitted_mergeinfo_are_found(rt: HostRuntime) -> Result<(), Fail> {
     for (side, prefix, node, wanted) in &FOLDERS_AND_MERGES {
         assert_found_alone(&rt, rt.alloc(), *side, prefix, node, wanted)?;
     }

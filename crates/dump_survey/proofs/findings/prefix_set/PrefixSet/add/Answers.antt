@@ -1,5 +1,5 @@
 use Rattle.dump_survey.proofs.Prelude.{◌≡◌, ◌||◌, ◌++◌, ◌∷◌, [], ℕ, List, length, bytes_eq, sym, ap, ◌∙◌, arith, list_any, bare_prefix, begins_path}
-use Rattle.dump_survey.proofs.FolderLemmas.{any_inserted, any_pushed, begin_more, within_more}
+use Rattle.dump_survey.proofs.ParentLemmas.{any_inserted, any_pushed, begin_more, within_more}
 use Rattle.dump_survey.proofs.findings.prefix_set.PrefixSet.add.Goals as goal
 
 pub invariant_of-self : goal.invariant_of-self

@@ -1,5 +1,5 @@
 use Rattle.dump_survey.proofs.Prelude.{bytes_eq, ap, ◌∙◌, List, ℕ, list_any}
-use Rattle.dump_survey.proofs.FolderLemmas.{any_found}
+use Rattle.dump_survey.proofs.ParentLemmas.{any_found}
 use Rattle.dump_survey.proofs.findings.prefix_set.PrefixSet.has.Goals as goal
 
 pub returns : goal.returns
