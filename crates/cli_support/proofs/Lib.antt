@@ -1,6 +1,7 @@
 mod Prelude
 pub mod CommandLemmas
 pub mod FilledLemmas
+pub mod FilterLemmas
 pub mod InputLemmas
 pub mod LineLemmas
 pub mod NumberLemmas

@@ -12,15 +12,18 @@ pub use Rattle.std.specs.List.{All, list_any, slice_index_or}
 pub use Rattle.std.specs.Option.{option_and_then, option_map, option_map_or, unwrap_or}
 pub use Rattle.std.specs.Str.{bytes_eq}
 pub use Rattle.std.specs.Str.Parse.{ExplainsUnsignedError, HasUnsignedDigitsIfOk, ParsesBool, ParsesUnsigned, digits_value, without_leading_plus}
-pub use Rattle.cli_support.specs.Arguments.{Answers, empty_of, flag_number, is_set, meaning_by, meaning_in, named_side, refusal_status, settings_of, side_in}
+pub use Rattle.cli_support.specs.Arguments.{Answers, empty_in, empty_of, flag_number, is_set, meaning_by, meaning_in, named_side, refusal_status, settings_of, settings_with, side_in}
+pub use Rattle.cli_support.specs.FilterCalls.{call_of_side, call_with, filter_call_of}
 pub use Rattle.cli_support.specs.FilterCommand.{filter_command, number, prefixes, switch}
 pub use Rattle.cli_support.specs.steps.FilledFlags.{AreFilled, IsNumber}
 pub use Rattle.cli_support.specs.steps.LineReading.{ReadsLine, is_call_of}
 pub use Rattle.dump_text.proofs.BoolLemmas.{first_true, not_true}
 pub use Rattle.dump_writer.specs.SinkWords.{IsPrefixOf}
 pub use Rattle.dump_writer.specs.steps.SinkStates.{LentState, lent_taken}
+pub use Rattle.cli_support.specs.declared.filter_call.FilterCall.{FilterCall}
 pub use Rattle.cli_support.specs.declared.usage.Usage.{Usage}
 pub use Rattle.cli_support.specs.declared.usage.Usage.TheVariants.{BothDrops, Memory, Words}
+pub use Rattle.dump_rules.specs.declared.options.Empty.{Empty}
 pub use Rattle.dump_rules.specs.declared.options.Empty.TheVariants.{DropAll, DropEmptied, Pad}
 pub use Rattle.dump_rules.specs.declared.options.Side.{Side}
 pub use Rattle.dump_rules.specs.declared.options.Side.TheVariants.{Exclude, Include}

@@ -1,7 +1,7 @@
 -- Examples for the definitions; the checker computes and proves them.
-use Rattle.cli_support.proofs.Prelude.{◌≡◌, refl, true, false, List, [], ◌∷◌, ℕ, length, lit<, lit≤, Some, None, Ok, Err, codes, Include, Exclude, Pad, DropEmptied, DropAll, Answers, AreFilled, IsNumber, empty_of, filter_command, flag_number, is_call_of, is_set, meaning_in, named_side, number, prefixes, refusal_status, settings_of, side_in, switch, Words, BothDrops, Memory}
+use Rattle.cli_support.proofs.Prelude.{◌≡◌, refl, true, false, List, [], ◌∷◌, ℕ, length, lit<, lit≤, Some, None, Ok, Err, codes, Include, Exclude, Pad, DropEmptied, DropAll, Answers, AreFilled, FilterCall, IsNumber, call_of_side, empty_of, filter_call_of, filter_command, flag_number, is_call_of, is_set, named_side, number, prefixes, refusal_status, settings_of, side_in, switch, Words, BothDrops, Memory}
 use Rattle.std.proofs.Common.{inl, inr}
-use Rattle.clap.specs.Words.{App, Row, with_rule}
+use Rattle.clap.specs.Words.{Row}
 use Rattle.cli_support.specs.FilterCommand.{any_prefixes, repeated, valued}
 use Rattle.cli_support.specs.Info.{Prints, TakesFront, info_in, info_of, named_info}
 use Rattle.cli_support.specs.NamedOutputs.{Replaces}
@@ -30,10 +30,11 @@ spelled_value = refl
 wanted_prefixes : prefixes.required ≡ true
 wanted_prefixes = refl
 
-five_options : length (filter_command (codes "p")).top.rules ≡ 5
-five_options = refl
+-- eight options, and the prefixes
+nine_rules : length filter_command.top.rules ≡ 9
+nine_rules = refl
 
-no_subcommands : (filter_command (codes "p")).subs ≡ []
+no_subcommands : filter_command.subs ≡ []
 no_subcommands = refl
 
 -- arguments
@@ -94,33 +95,56 @@ settings = refl
 both_drops : settings_of Exclude (rows (codes "true") (codes "true")) ≡ Err BothDrops
 both_drops = refl
 
-abbrev command : App
-command = with_rule (with_rule (filter_command (codes "p")) (switch (codes "loud"))) prefixes
+-- filterCalls
+
+abbrev plain : FilterCall
+plain = record {
+  options = record {
+    side = Include;
+    prefixes = codes "a" ∷ [];
+    empty = Pad;
+    renumber = false;
+    preserve = false;
+    skip_missing = false;
+  };
+  workers = 4;
+  window = 64;
+  quiet = false;
+}
+
+abbrev call_rows : List Row
+call_rows = row (codes "PREFIX") (codes "a" ∷ []) ∷ row (codes "workers") (codes "12" ∷ []) ∷ row (codes "window") (codes "64" ∷ [])
+    ∷ row (codes "quiet") (codes "true" ∷ []) ∷ []
+
+twelve_and_quiet : call_of_side Include call_rows ≡ Ok (record plain { workers = 12; quiet = true })
+twelve_and_quiet = refl
+
+drops_twice : call_of_side Include (rows (codes "true") (codes "true")) ≡ Err BothDrops
+drops_twice = refl
+
+-- without the options for threads their defaults count
+defaults : filter_call_of (codes "include" ∷ codes "a" ∷ []) ≡ Ok plain
+unfolding clap_on_literals
+defaults = refl
 
 -- an option after a prefix is read, and one after the two minus signs is a prefix
-around : meaning_in command settings_of
-    (codes "include" ∷ codes "a" ∷ codes "--drop-all-empty-revs" ∷ codes "--" ∷ codes "--x" ∷ [])
-    ≡ Ok (record {
-      side = Include;
-      prefixes = codes "a" ∷ codes "--x" ∷ [];
-      empty = DropAll;
-      renumber = false;
-      preserve = false;
-      skip_missing = false;
-    })
+around : filter_call_of (codes "include" ∷ codes "a" ∷ codes "--quiet" ∷ codes "--" ∷ codes "--x" ∷ [])
+    ≡ Ok (record plain { options = record plain.options { prefixes = codes "a" ∷ codes "--x" ∷ [] }; quiet = true })
 unfolding clap_on_literals
 around = refl
 
-no_prefix : meaning_in command settings_of (codes "include" ∷ []) ≡ Err Words
+no_prefix : filter_call_of (codes "include" ∷ []) ≡ Err Words
 unfolding clap_on_literals
 no_prefix = refl
 
-option_before : meaning_in command settings_of (codes "--loud" ∷ codes "include" ∷ codes "a" ∷ []) ≡ Err Words
+option_before : filter_call_of (codes "--quiet" ∷ codes "include" ∷ codes "a" ∷ []) ≡ Err Words
 option_before = refl
 
-lawful : is_call_of command (codes "p" ∷ codes "include" ∷ codes "--loud" ∷ codes "a" ∷ []) ≡ true
+lawful : is_call_of filter_command (codes "p" ∷ codes "include" ∷ codes "--quiet" ∷ codes "a" ∷ []) ≡ true
 unfolding clap_on_literals
 lawful = refl
+
+-- arguments
 
 refused_for_its_arguments : Answers (λ (n : ℕ). n) (Err Words) (Err Words)
 refused_for_its_arguments = refl

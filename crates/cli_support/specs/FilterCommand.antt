@@ -42,10 +42,13 @@ valued name = record (new_rule name) { long = Some name; action = Some Set }
 abbrev pub bare_command : Text → App
 bare_command name = on_top (λ s. record s { disable_help_flag = true }) (new_app name)
 
--- the same with the options of the filter
-abbrev pub filter_command : Text → App
-filter_command name =
-    let drops = with_rule (with_rule (bare_command name) (switch (codes "drop-empty-revs")))
+-- the filter's command: its options in any order, before, between and after the prefixes; the side is no argument of it
+abbrev pub filter_command : App
+filter_command =
+    let drops = with_rule (with_rule (bare_command (codes "svndumpfilter")) (switch (codes "drop-empty-revs")))
     (switch (codes "drop-all-empty-revs")) in
     let numbers = with_rule (with_rule drops (switch (codes "renumber-revs"))) (switch (codes "preserve-revprops")) in
-    with_rule numbers (switch (codes "skip-missing-merge-sources"))
+    let quiet = with_rule (with_rule numbers (switch (codes "skip-missing-merge-sources"))) (switch (codes "quiet")) in
+    let plan = with_rule (with_rule quiet (number (codes "workers") 64 (codes "4")))
+    (number (codes "window") 4096 (codes "64")) in
+    with_rule plan prefixes

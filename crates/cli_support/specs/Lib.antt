@@ -1,4 +1,5 @@
 pub mod Arguments
+pub mod FilterCalls
 pub mod FilterCommand
 pub mod Info
 pub mod NamedOutputs

@@ -70,16 +70,19 @@ pub fn valued<'a>(alloc: Global, name: &'a str) -> Arg<'a>
     Arg::new(alloc, name).long(name).action(ArgAction::Set)
 }
 
-/// A command with the options of the filter. A program adds its own options and the prefixes. The side is no argument
-/// of the command.
-pub fn filter_command<'a>(alloc: Global, program: &'a str) -> Result<Command<'a>, AllocError>
-    ensures { IfOk result (λ c. app_of c ≡ filter_command program.entry.now) }
+/// The filter's command: its options and the prefixes. The side is no argument of it.
+pub fn filter_command<'a>(alloc: Global) -> Result<Command<'a>, AllocError>
+    ensures { IfOk result (λ c. app_of c ≡ filter_command) }
 {
-    Command::new(alloc, program)
+    Command::new(alloc, "svndumpfilter")
         .disable_help_flag(true)
         .arg(switch(alloc, "drop-empty-revs"))?
         .arg(switch(alloc, "drop-all-empty-revs"))?
         .arg(switch(alloc, "renumber-revs"))?
         .arg(switch(alloc, "preserve-revprops"))?
-        .arg(switch(alloc, "skip-missing-merge-sources"))
+        .arg(switch(alloc, "skip-missing-merge-sources"))?
+        .arg(switch(alloc, "quiet"))?
+        .arg(workers(alloc))?
+        .arg(window(alloc))?
+        .arg(prefixes(alloc))
 }

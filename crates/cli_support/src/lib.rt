@@ -1,25 +1,24 @@
 //! Code that the command-line programs share: it reads arguments and input, and writes output and the
 //! lines with which a program ends.
 //!
-//! A program is called with a side, the options of the filter, options of its own, and prefixes.
-//! [`side_in`] reads the side with which a line begins. [`filter_command`] is a command with the options
-//! of the filter. A program adds its own options to it, for example a [`switch`], and then the
-//! [`prefixes`]. [`read_line`] parses a line by such a command, and [`read_options`] makes the options
-//! of the filter from the result. [`is_set`] says whether a switch is set, and [`read_number`] is the
-//! number of an option. [`workers`] and [`window`] are the options for threads.
+//! A program is called with a side, options and prefixes. [`read_filter_call`] reads the arguments of the
+//! filter. Another program with the same arguments calls it too:
 //!
 //! ```
-//! filter_command(alloc, "svndumptest")?
-//!     .arg(switch(alloc, "loud"))?
-//!     .arg(prefixes(alloc))
+//! let call = read_filter_call(alloc, line)?;
+//! Ok((call.options.renumber(), call.workers))
 //! ```
 //!
-//! `tests::lines::loud_command` runs this. This parses a line by that command:
+//! `tests::lines::read_call` runs this.
+//!
+//! A program with other options makes a command of its own. A [`switch`] is an option without a value,
+//! [`workers`] and [`window`] are the options for threads, and the [`prefixes`] come last. [`side_in`]
+//! reads the side with which a line begins, and [`read_line`] parses the line by the command. [`is_set`]
+//! says whether a switch is set, and [`read_number`] is the number of an option:
 //!
 //! ```
 //! let matches = read_line(command, line)?;
-//! let options = read_options(alloc, side, &matches)?;
-//! Ok((options, is_set(&matches, "loud")))
+//! let loud = is_set(&matches, "loud");
 //! ```
 //!
 //! `tests::lines::read` runs this.
@@ -43,6 +42,7 @@
 #![tactic(auto)]
 
 mod buffered;
+mod filter_call;
 mod flags;
 mod info;
 mod input;
@@ -54,14 +54,11 @@ mod targets;
 mod usage;
 
 pub use buffered::{finish, output_buffer};
-pub use flags::{
-    any_prefixes, filter_command, prefixes, repeated, switch, valued, window, workers,
-};
+pub use filter_call::{FilterCall, read_filter_call};
+pub use flags::{any_prefixes, prefixes, repeated, switch, valued, window, workers};
 pub use info::{Info, Unwritten, info_of, print_text, write_text};
 pub use input::{Unread, read_all};
-pub use line::{
-    is_set, read_line, read_number, read_options, read_prefixes, read_value, read_values, side_in,
-};
+pub use line::{is_set, read_line, read_number, read_prefixes, read_value, read_values, side_in};
 pub use named_output::NamedOutput;
 pub use outcome::{Cause, Program, fail, fail_unread, refuse};
 pub use process::{NewFile, arguments, as_texts, input_size};

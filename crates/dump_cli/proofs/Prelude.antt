@@ -12,15 +12,9 @@ pub use Rattle.std.specs.List.{All, list_any, slice_index_or}
 pub use Rattle.std.specs.Option.{option_and_then, option_map, unwrap_or}
 pub use Rattle.std.specs.Str.{bytes_eq}
 pub use Rattle.std.specs.Str.Parse.{ExplainsUnsignedError, HasUnsignedDigitsIfOk, ParsesUnsigned, digits_value, without_leading_plus}
-pub use Rattle.cli_support.proofs.LineLemmas.{lawful_is_read, line_answers, refusal_answers, second_holds}
 pub use Rattle.cli_support.proofs.OutputLemmas.{from_none, handed_on, part_taken}
-pub use Rattle.cli_support.specs.Arguments.{flag_number, settings_with, side_in}
-pub use Rattle.cli_support.specs.FilterCommand.{number}
-pub use Rattle.cli_support.specs.steps.FilledFlags.{AreFilled, IsNumber}
-pub use Rattle.cli_support.specs.steps.LineReading.{ReadsLine}
-pub use Rattle.dump_cli.specs.CommandLine.{program}
 pub use Rattle.dump_cli.specs.Drive.{BreaksOff, CarriesOut, Drives, Obeys, Ran, status_of}
-pub use Rattle.dump_cli.specs.Words.{AnswersTo, meaning_of, meaning_with, order_of}
+pub use Rattle.dump_cli.specs.Words.{AnswersTo, meaning_of, shown}
 pub use Rattle.dump_cli.specs.steps.DrainedRun.{FailsOnlyBehind, IsSilent, TellsBehind, is_sink_failure}
 pub use Rattle.dump_filter.proofs.Values.{padding}
 pub use Rattle.dump_filter.specs.Counts.{report_of}
@@ -31,6 +25,7 @@ pub use Rattle.dump_text.proofs.BoolLemmas.{first_true, not_true}
 pub use Rattle.dump_writer.proofs.Values.{lent}
 pub use Rattle.dump_writer.specs.steps.SinkStates.{LentState, lent_taken}
 pub use Rattle.dump_cli.specs.declared.words.Order.{Order}
+pub use Rattle.cli_support.specs.declared.filter_call.FilterCall.{FilterCall}
 pub use Rattle.cli_support.specs.declared.usage.Usage.{Usage}
 pub use Rattle.cli_support.specs.declared.usage.Usage.TheVariants.{BothDrops, Words}
 pub use Rattle.dump_pipeline.specs.declared.answer.Answer.{Answer}

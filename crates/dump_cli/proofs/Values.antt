@@ -1,36 +1,25 @@
 -- Worked values of the definitions, computed and proved by the kernel.
-use Rattle.dump_cli.proofs.Prelude.{◌≡◌, ℕ, refl, true, false, List, [], ◌∷◌, length, Some, None, Ok, Err, codes, inl, inr, ap, arith, Include, lent, report_of, padding, Clean, Fault, Failed, empty_answer, program, Words, BothDrops, order_of, AnswersTo, status_of, BreaksOff, Ran, CarriesOut, Obeys, Drives, IsSilent, TellsBehind, FailsOnlyBehind, is_sink_failure}
+use Rattle.dump_cli.proofs.Prelude.{◌≡◌, ℕ, refl, true, false, List, [], ◌∷◌, length, Some, None, Ok, Err, codes, inl, inr, ap, arith, lent, report_of, padding, Clean, Fault, Failed, empty_answer, Words, BothDrops, AnswersTo, FilterCall, Order, meaning_of, shown, status_of, BreaksOff, Ran, CarriesOut, Obeys, Drives, IsSilent, TellsBehind, FailsOnlyBehind, is_sink_failure}
 use base.Fml.{GName}
-use Rattle.clap.specs.Words.{Row}
-use Rattle.clap.specs.declared.builder.value_parser.Reading.TheVariants as reading
+use Rattle.clap.proofs.OnLiterals.{clap_on_literals}
 use Rattle.dump_text.specs.declared.fault.FaultKind.TheVariants as faults
 use Rattle.dump_pipeline.specs.declared.answer.Failure.TheVariants as failures
 
--- CommandLine
-
--- eight flags, and the prefixes
-nine_rules : length program.top.rules ≡ 9
-nine_rules = refl
-
 -- Words
 
-abbrev row : List ℕ → List (List ℕ) → Row
-row name values = record { id = name; values = values; count = None; source = None; reading = reading.AsWritten }
+abbrev call : FilterCall
+call = record { options = padding; workers = 4; window = 64; quiet = true }
 
-abbrev flags : List ℕ → List ℕ → List Row
-flags empty all =
-    row (codes "drop-empty-revs") (empty ∷ []) ∷ row (codes "drop-all-empty-revs") (all ∷ [])
-    ∷ row (codes "renumber-revs") (codes "false" ∷ []) ∷ row (codes "preserve-revprops") (codes "false" ∷ [])
-    ∷ row (codes "skip-missing-merge-sources") (codes "false" ∷ []) ∷ row (codes "quiet") (codes "true" ∷ [])
-    ∷ row (codes "workers") (codes "12" ∷ []) ∷ row (codes "window") (codes "64" ∷ [])
-    ∷ row (codes "PREFIX") (codes "trunk" ∷ []) ∷ []
+quiet : meaning_of (codes "p" ∷ codes "include" ∷ codes "trunk" ∷ codes "--quiet" ∷ []) ≡ Ok call
+unfolding clap_on_literals
+quiet = refl
 
-order : order_of Include (flags (codes "false") (codes "false"))
-    ≡ Ok (record { settings = padding; workers = 12; window = 64; quiet = true })
-order = refl
+no_prefix : meaning_of (codes "p" ∷ codes "include" ∷ []) ≡ Err Words
+unfolding clap_on_literals
+no_prefix = refl
 
-both_drops : order_of Include (flags (codes "true") (codes "true")) ≡ Err BothDrops
-both_drops = refl
+own_order : (order : Order) → AnswersTo (Ok (shown order)) (Ok order)
+own_order order = refl
 
 refused_for_its_words : AnswersTo (Err Words) (Err Words)
 refused_for_its_words = refl

@@ -1,14 +1,11 @@
--- What is read of the rows of a line.
-use Rattle.dump_cli.proofs.Prelude.{◌≡◌, List, Option, Some, None, Result, Err, subst, Empty, Side, AnswersTo, meaning_with, order_of, settings_with, Order, Usage, Words}
-use Rattle.clap.specs.Words.{Row}
-use Rattle.cli_support.specs.Arguments.{empty_in}
+-- Rejected arguments.
+use Rattle.dump_cli.proofs.Prelude.{Result, Err, AnswersTo, BothDrops, FilterCall, Usage, Words}
+use Rattle.cli_support.specs.Arguments.{Answers}
+use Rattle.cli_support.specs.declared.usage.Usage.TheVariants.{Memory}
 
-never_with : (o : Option Empty) (side : Side) (rows : List Row) → meaning_with (settings_with o side rows) rows ≡ Err Words
-    → ⊥
-never_with None side rows e = cc
-never_with (Some empty) side rows e = cc
-
--- rows after a side aren't rejected as wrong arguments
-pub never_words : (side : Side) (rows : List Row) (r : Result Order Usage) → AnswersTo (order_of side rows) r
-    → r ≡ Err Words → ⊥
-never_words side rows r answers is = never_with (empty_in rows) side rows (subst (AnswersTo (order_of side rows)) is answers)
+-- arguments that the filter's reader rejects are rejected for the same reason
+pub rejected_alike : (meaning : Result FilterCall Usage) (usage : Usage)
+    → Answers (λ (call : FilterCall). call) meaning (Err usage) → AnswersTo meaning (Err usage)
+rejected_alike meaning Words is = is
+rejected_alike meaning BothDrops is = is
+rejected_alike meaning Memory is = tt

@@ -7,7 +7,8 @@ use Rattle.dump_pipeline.specs.declared.answer.Answer.{Answer}
 use Rattle.dump_pipeline.specs.declared.answer.Answer.TheVariants.{Clean, Fault, Failed}
 use Rattle.dump_pipeline.specs.declared.answer.Failure.TheVariants as failures
 use Rattle.dump_pipeline.specs.RunAnswer.{IsRunAnswer}
-use Rattle.dump_cli.specs.Words.{AnswersTo, Meaning}
+use Rattle.cli_support.specs.declared.filter_call.FilterCall.{FilterCall}
+use Rattle.dump_cli.specs.Words.{AnswersTo}
 use Rattle.dump_cli.specs.declared.words.Order.{Order}
 use Rattle.cli_support.specs.Arguments.{refusal_status}
 use Rattle.cli_support.specs.declared.usage.Usage.{Usage}
@@ -47,6 +48,6 @@ Obeys (Err usage) input old new status = Keeps old new × (status ≡ refusal_st
 Obeys (Ok order) input old new status = CarriesOut order.options input old new status
 
 -- words of this meaning have an answer, and it is obeyed
-abbrev pub Drives : Result Meaning Usage → Option (List ℕ) → Option (List ℕ) → Option (List ℕ) → ℕ → Type 0
+abbrev pub Drives : Result FilterCall Usage → Option (List ℕ) → Option (List ℕ) → Option (List ℕ) → ℕ → Type 0
 Drives meaning input old new status = (answer : Result Order Usage) × AnswersTo meaning answer
     × Obeys answer input old new status

@@ -1,4 +1,3 @@
-pub mod CommandLine
 pub mod Drive
 pub mod Words
 pub mod steps

@@ -1,46 +1,26 @@
--- What the program's words mean, by the side and by what clap finds after it.
-use Rattle.std.specs.Prelude.{ℕ, Bool, List, Result, Ok, Err, codes, drop}
-use Rattle.clap.specs.Words.{Row, Text}
-use Rattle.dump_rules.specs.Settings.{Settings}
-use Rattle.dump_rules.specs.declared.options.Side.{Side}
+-- What the program's arguments mean.
+use Rattle.std.specs.Prelude.{List, Result, drop}
+use Rattle.clap.specs.Words.{Text}
 use Rattle.dump_pipeline.specs.PlanViews.{worker_count, window_size}
-use Rattle.cli_support.specs.Arguments.{Answers, flag_number, is_set, meaning_in, settings_of}
+use Rattle.cli_support.specs.Arguments.{Answers}
+use Rattle.cli_support.specs.FilterCalls.{filter_call_of}
+use Rattle.cli_support.specs.declared.filter_call.FilterCall.{FilterCall}
 use Rattle.cli_support.specs.declared.usage.Usage.{Usage}
-use Rattle.dump_cli.specs.CommandLine.{program}
 use Rattle.dump_cli.specs.declared.words.Order.{Order}
 
--- an order: the filter's settings, how many workers, how wide a window, and whether a clean run is silent
-pub record Meaning : Type 0 where
-  pub settings : Settings
-  pub workers : ℕ
-  pub window : ℕ
-  pub quiet : Bool
-
-abbrev pub shown : Order → Meaning
+-- the call that an order is for
+abbrev pub shown : Order → FilterCall
 shown order = record {
-  settings = order.options;
+  options = order.options;
   workers = worker_count order.plan;
   window = window_size order.plan;
   quiet = order.quiet;
 }
 
-abbrev pub meaning_with : Result Settings Usage → List Row → Result Meaning Usage
-meaning_with (Err usage) rows = Err usage
-meaning_with (Ok settings) rows = Ok (record {
-  settings = settings;
-  workers = flag_number (codes "workers") rows;
-  window = flag_number (codes "window") rows;
-  quiet = is_set (codes "quiet") rows;
-})
+-- the call that the arguments give
+abbrev pub meaning_of : List Text → Result FilterCall Usage
+meaning_of words = filter_call_of (drop 1 words)
 
--- the order that a side and its rows give
-abbrev pub order_of : Side → List Row → Result Meaning Usage
-order_of side rows = meaning_with (settings_of side rows) rows
-
--- the order that the words give: only a lawful line is one, unless it asks for both ways to drop revisions
-abbrev pub meaning_of : List Text → Result Meaning Usage
-meaning_of words = meaning_in program order_of (drop 1 words)
-
--- the answer to words of this meaning: out of memory may hide it, and nothing else
-abbrev pub AnswersTo : Result Meaning Usage → Result Order Usage → Type 0
+-- the answer to arguments of this meaning: out of memory may hide it, and nothing else
+abbrev pub AnswersTo : Result FilterCall Usage → Result Order Usage → Type 0
 AnswersTo meaning answer = Answers shown meaning answer

@@ -1,7 +1,6 @@
 //! A filter for Subversion dump files, on standard input and output.
 #![tactic(auto)]
 
-mod command;
 mod drive;
 mod messages;
 #[cfg(test)]

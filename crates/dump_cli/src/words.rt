@@ -1,17 +1,11 @@
 //! The arguments on the command line.
-ghost use Rattle.std.specs.Prelude.{◌≡◌, ◌≢◌, Err, map, true, codes};
-ghost use Rattle.clap.specs.Words.{found_of, rows_of};
-ghost use Rattle.dump_pipeline.specs.PlanViews.{worker_count, window_size};
-ghost use Rattle.cli_support.specs.Arguments.{flag_number};
-ghost use Rattle.cli_support.specs.steps.FilledFlags.{AreFilled, IsNumber};
-ghost use Rattle.dump_cli.specs.Words.{AnswersTo, meaning_of, order_of};
+ghost use Rattle.std.specs.Prelude.{◌≡◌, ◌≢◌, ◌≤◌, Err, map, true};
+ghost use Rattle.dump_cli.specs.Words.{AnswersTo, meaning_of, shown};
 ghost use Rattle.dump_cli.specs.steps.LawfulLines.{is_call, is_taken};
 
-use crate::command::program;
-use clap::ArgMatches;
-use cli_support::{Usage, is_set, read_line, read_number, read_options, side_in};
+use cli_support::{FilterCall, Usage, read_filter_call};
 use dump_pipeline::Plan;
-use dump_rules::{Options, Side};
+use dump_rules::Options;
 use std::alloc::Global;
 
 /// What the arguments ask for.
@@ -34,42 +28,24 @@ pub fn options_of<'a>(alloc: Global, words: &'a [&'a str]) -> Result<Order, Usag
     let Some((_, line)) = words.split_first() else {
         return Err(Usage::Words);
     };
-    let Some(side) = side_in(line) else {
-        return Err(Usage::Words);
-    };
-    let Ok(command) = program(alloc) else {
-        return Err(Usage::Memory);
-    };
-    match read_line(command, line) {
-        Ok(matches) => read_order(alloc, side, &matches),
+    match read_filter_call(alloc, line) {
+        Ok(call) => Ok(order_of(call)),
         Err(usage) => Err(usage),
     }
 }
 
-/// The order of a side and the arguments after it.
-fn read_order(alloc: Global, side: Side, inner: &ArgMatches<'_>) -> Result<Order, Usage>
-    requires { AreFilled (rows_of (found_of inner.now)) }
-    ensures { AnswersTo (order_of side (rows_of (found_of inner.now))) result }
+/// The order of a call.
+fn order_of(call: FilterCall) -> Order
+    requires workers { (1 ≤ call.workers) × (call.workers ≤ 64) }
+    requires window { (1 ≤ call.window) × (call.window ≤ 4096) }
+    ensures { shown result ≡ call }
 {
-    match read_options(alloc, side, inner) {
-        Ok(options) => Ok(Order {
-            options,
-            plan: read_plan(inner),
-            quiet: is_set(inner, "quiet"),
-        }),
-        Err(usage) => Err(usage),
-    }
-}
-
-/// The number of workers, and the width of their window.
-fn read_plan(inner: &ArgMatches<'_>) -> Plan
-    requires workers { IsNumber (codes "workers") 64 (rows_of (found_of inner.now)) }
-    requires window { IsNumber (codes "window") 4096 (rows_of (found_of inner.now)) }
-    ensures workers { worker_count result ≡ flag_number (codes "workers") (rows_of (found_of inner.now)) }
-    ensures window { window_size result ≡ flag_number (codes "window") (rows_of (found_of inner.now)) }
-{
-    let Some(plan) = Plan::new(read_number(inner, "workers"), read_number(inner, "window")) else {
+    let Some(plan) = Plan::new(call.workers, call.window) else {
         unreachable!()
     };
-    plan
+    Order {
+        options: call.options,
+        plan,
+        quiet: call.quiet,
+    }
 }

@@ -1,5 +1,5 @@
 -- A survey whose last bytes are written.
-use Rattle.survey_cli.proofs.Prelude.{◌≡◌, ℕ, Bool, List, [], ◌++◌, Option, None, Some, Result, Ok, Err, IfOk, IfErr, IfSome, OnErr, MatchBool, true, false, inl, inr, refl, sym, ap, subst, ◌∙◌, append_assoc, Appends, Keeps, GrowsBy, append_known, Appends-kept, Appends-trans, from_none, handed_on, part_taken, each_dump_has_one_list, Settings, kept_revisions, LentState, lent_taken, IsPrefixOf, IsSurveyText, BreaksOffSurvey, IsRevisionMap, map_lines, AreAdviceLines, TakesSomeAdvice, SurveyFailure, IsCallText, IsMapAskedFor, IsWholeText, SurveysDump, SurveysInput, TakesFirst, BrokenOff, Call, Arrives, FrontBreaksOff, MapBreaksOff, SurveyBreaksOff, told_status}
+use Rattle.survey_cli.proofs.Prelude.{◌≡◌, ℕ, Bool, List, [], ◌++◌, Option, None, Some, Result, Ok, Err, IfOk, IfErr, IfSome, OnErr, MatchBool, true, false, inl, inr, refl, sym, ap, subst, ◌∙◌, append_assoc, Appends, Keeps, GrowsBy, append_known, Appends-kept, Appends-trans, from_none, handed_on, part_taken, each_dump_has_one_list, Settings, kept_revisions, LentState, lent_taken, IsPrefixOf, IsSurveyText, BreaksOffSurvey, IsRevisionMap, map_lines, AreAdviceLines, TakesSomeAdvice, SurveyFailure, IsCallText, IsMapAskedFor, IsWholeText, SurveysDump, SurveysInput, TakesFirst, BrokenOff, Call, Arrives, FrontBreaksOff, MapBreaksOff, SurveyBreaksOff, answer_status}
 use Rattle.std.proofs.lemmas.List.{append-nil}
 
 -- who took the first bytes of a first part took the first of the whole
@@ -177,14 +177,14 @@ arrives_behind call dump answer (Err off) a b sink written kept start all broken
 
 -- the status says how the text arrived
 surveys_so : (call : Call) (dump : List ℕ) (old new : Option (List ℕ)) (answer : Result Bool BrokenOff)
-    → Arrives call dump old new answer → SurveysDump call dump old new (told_status answer)
+    → Arrives call dump old new answer → SurveysDump call dump old new (answer_status answer)
 surveys_so call dump old new (Ok found) (text, is, all) = (text, found, inl (is, all, refl))
 surveys_so call dump old new (Err off) (text, found, is, part) = (text, found, inr (is, part, refl))
 
 -- so it is of the whole input
 pub surveys_input : (call : Call) (input : Option (List ℕ)) (dump : List ℕ) (old new : Option (List ℕ))
     (answer : Result Bool BrokenOff) (status : ℕ) → IfSome input (λ left. dump ≡ left)
-    → Arrives call dump old new answer → status ≡ told_status answer → SurveysInput call input old new status
+    → Arrives call dump old new answer → status ≡ answer_status answer → SurveysInput call input old new status
 surveys_input call None dump old new answer status whole arrives is = inl tt
 surveys_input call (Some left) dump old new answer status whole arrives is =
     inl (subst (λ text. SurveysDump call text old new status) whole

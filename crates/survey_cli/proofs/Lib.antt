@@ -1,4 +1,4 @@
 mod Prelude
 pub mod DriveLemmas
-pub mod LineLemmas
+pub mod MapLemmas
 mod Values

@@ -1,5 +1,5 @@
 -- Worked values of the definitions, computed and proved by the kernel.
-use Rattle.survey_cli.proofs.Prelude.{◌≡◌, refl, true, false, List, [], ◌∷◌, length, None, Some, Ok, Err, inl, inr, codes, Include, Pad, DropAll, flags, TellsCall, call_of_words, Words, BothDrops}
+use Rattle.survey_cli.proofs.Prelude.{◌≡◌, refl, true, false, List, [], ◌∷◌, None, Some, Ok, Err, inl, inr, codes, Include, Pad, DropAll, TellsCall, place_of_map, without, call_of_words, Words, BothDrops}
 use Rattle.std.proofs.Common.{arith}
 use Rattle.cli_support.specs.declared.info.Info.TheVariants.{Version}
 use Rattle.survey_cli.specs.Drive.{AnswersWords, IsMapAskedFor, SurveysDump, SurveysOrRefuses, finding_status}
@@ -8,15 +8,6 @@ use Rattle.survey_cli.specs.declared.texts.TheConstants.{VERSION}
 use Rattle.survey_cli.specs.steps.LawfulLines.{is_survey_call}
 use Rattle.clap.specs.Words.{Text}
 use Rattle.clap.proofs.OnLiterals.{clap_on_literals}
-
--- CommandLine
-
--- six flags, and the prefixes
-seven_rules : length flags.top.rules ≡ 7
-seven_rules = refl
-
-no_sides : flags.subs ≡ []
-no_sides = refl
 
 -- Words
 
@@ -53,6 +44,18 @@ asks_for_the_map : call_of_words (flagged (codes "--map" ∷ codes "a" ∷ []))
     })
 unfolding clap_on_literals
 asks_for_the_map = refl
+
+-- after the two minus signs --map is a prefix
+no_option : place_of_map (codes "a" ∷ codes "--" ∷ codes "--map" ∷ []) ≡ None
+no_option = refl
+
+first_of_two : without (place_of_map (codes "a" ∷ codes "--map" ∷ codes "--map" ∷ []))
+    (codes "a" ∷ codes "--map" ∷ codes "--map" ∷ []) ≡ codes "a" ∷ codes "--map" ∷ []
+first_of_two = refl
+
+asked_for_twice : call_of_words (flagged (codes "--map" ∷ codes "a" ∷ codes "--map" ∷ [])) ≡ Err Words
+unfolding clap_on_literals
+asked_for_twice = refl
 
 nothing : call_of_words (codes "p" ∷ []) ≡ Err Words
 nothing = refl

@@ -1,4 +1,4 @@
-pub mod CommandLine
+pub mod CallLaws
 pub mod Drive
 pub mod Words
 pub mod steps

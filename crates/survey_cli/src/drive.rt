@@ -5,7 +5,7 @@ ghost use Rattle.dump_writer.specs.steps.SinkStates.{lent_taken, loan_of};
 ghost use Rattle.cli_support.specs.Info.{info_of};
 ghost use Rattle.survey_cli.specs.Words.{call_of_words};
 ghost use Rattle.survey_cli.specs.Drive.{AnswersWords, IsCallText, IsMapAskedFor, IsWholeText, SurveysInput, DrivesSurvey};
-ghost use Rattle.survey_cli.specs.steps.Answered.{Arrives, FrontBreaksOff, MapBreaksOff, SurveyBreaksOff, told_status};
+ghost use Rattle.survey_cli.specs.steps.Answered.{Arrives, FrontBreaksOff, MapBreaksOff, SurveyBreaksOff, answer_status};
 
 use crate::texts::{HELP, VERSION};
 use crate::words::{Call, call_of};
@@ -195,7 +195,7 @@ fn broken_off<W: Write>(sink: &OutMut<'_, W>, failure: SurveyFailure) -> BrokenO
 
 /// Writes the line of a survey that failed, and returns the status.
 fn tell<E: Write>(errors: &mut E, answer: Result<bool, BrokenOff>) -> u8
-    ensures { result ≡ told_status answer }
+    ensures { result ≡ answer_status answer }
 {
     match answer {
         Ok(false) => 0,

@@ -1,8 +1,8 @@
 //! A survey of Subversion dumps before they are filtered, on standard input and output.
 #![tactic(auto)]
 
-mod command;
 mod drive;
+pub mod laws;
 #[cfg(test)]
 mod tests;
 mod texts;

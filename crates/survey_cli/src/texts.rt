@@ -12,6 +12,8 @@ standard output what filtering it with these arguments would lose.
   --preserve-revprops           keep the properties of emptied revisions
   --skip-missing-merge-sources  drop lines of svn:mergeinfo of excluded paths
   --map                         write the new number of each kept revision too
+  --quiet                       no effect; accepted because the filter has it
+  --workers N, --window N       no effect either
   --help                        print this text
   --version                     print the version
   --                            every argument after this one is a prefix

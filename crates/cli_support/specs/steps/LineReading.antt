@@ -15,10 +15,18 @@ ReadsLine app line (Err Words) = is_empty (fault_of app line) ≡ false
 ReadsLine app line (Err BothDrops) = ⊥
 ReadsLine app line (Err Memory) = ⊤
 
--- after the program's name there is a side, and after it arguments that the command accepts
+-- a line begins with a side, and the command accepts the arguments after it
+abbrev pub is_line_of : App → List Text → Bool
+is_line_of app line = is_some (side_in line) && is_empty (fault_of app line)
+
+-- the same by the test that clap makes
+abbrev pub is_line_taken_by : App → List Text → Bool
+is_line_taken_by app line = is_some (side_in line) && takes app line
+
+-- after the program's name there is such a line
 abbrev pub is_call_of : App → List Text → Bool
-is_call_of app arguments = is_some (side_in (drop 1 arguments)) && is_empty (fault_of app (drop 1 arguments))
+is_call_of app arguments = is_line_of app (drop 1 arguments)
 
 -- the same by the test that clap makes
 abbrev pub is_taken_by : App → List Text → Bool
-is_taken_by app arguments = is_some (side_in (drop 1 arguments)) && takes app (drop 1 arguments)
+is_taken_by app arguments = is_line_taken_by app (drop 1 arguments)

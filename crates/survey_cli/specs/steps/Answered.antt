@@ -30,6 +30,6 @@ Arrives call dump old new (Ok found) =
 Arrives call dump old new (Err failure) = SurveyBreaksOff call dump old new
 
 -- the exit status
-abbrev pub told_status : {E : Type 0} → Result Bool E → ℕ
-told_status (Ok found) = finding_status found
-told_status (Err failure) = 3
+abbrev pub answer_status : {E : Type 0} → Result Bool E → ℕ
+answer_status (Ok found) = finding_status found
+answer_status (Err failure) = 3

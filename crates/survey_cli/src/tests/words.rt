@@ -67,7 +67,7 @@ const FLAGS: Wanted = Wanted {
 };
 
 /// Arguments, and the call that they give: the prefixes and the rest.
-const READ: [(&str, &str, Wanted); 9] = [
+const READ: [(&str, &str, Wanted); 12] = [
     ("p include a", "a", PLAIN),
     (
         "p exclude //trunk/  br\u{e4}nche include -",
@@ -123,6 +123,9 @@ const READ: [(&str, &str, Wanted); 9] = [
         FLAGS,
     ),
     ("p include -- --renumber-revs a", "--renumber-revs a", PLAIN),
+    ("p include --quiet --workers 4 a --window=1", "a", PLAIN),
+    ("p --map include a", "a", Wanted { map: true, ..PLAIN }),
+    ("p include a -- --map", "a --map", PLAIN),
 ];
 
 #[test]
@@ -146,7 +149,7 @@ fn is_line_refused(alloc: Global, line: &str, usage: Usage) -> Result<bool, Fail
     Ok(is_refused(alloc, words.as_slice(), usage))
 }
 
-const REFUSED: [(&str, Usage); 20] = [
+const REFUSED: [(&str, Usage); 23] = [
     ("svndumpsurvey", Usage::Words),
     ("svndumpsurvey include", Usage::Words),
     ("svndumpsurvey survey a", Usage::Words),
@@ -157,8 +160,11 @@ const REFUSED: [(&str, Usage); 20] = [
     ("svndumpsurvey include --preserve-revprops", Usage::Words),
     ("p include -x", Usage::Words),
     ("p include a -x", Usage::Words),
-    ("p include --quiet a", Usage::Words),
-    ("p include --workers 4 a", Usage::Words),
+    ("p include --workers 65 a", Usage::Words),
+    ("p include --window 0 a", Usage::Words),
+    ("p include --map --map a", Usage::Words),
+    ("p --map", Usage::Words),
+    ("p include --map=yes a", Usage::Words),
     ("p include --preserve a", Usage::Words),
     ("p include --preserve-revprops= a", Usage::Words),
     ("p include --help a", Usage::Words),
@@ -199,7 +205,14 @@ fn is_two_prefixes_renumbered(options: &Options) -> bool {
 /// Run with each allocation failing in turn: the call returns options, or the error for memory.
 #[test]
 fn options_or_no_memory(rt: HostRuntime) {
-    let words = ["svndumpsurvey", "exclude", "--renumber-revs", "a", "b"];
+    let words = [
+        "svndumpsurvey",
+        "exclude",
+        "--map",
+        "--renumber-revs",
+        "a",
+        "b",
+    ];
     let answered = match call_of(rt.alloc(), &words) {
         Ok(call) => is_two_prefixes_renumbered(&call.options),
         Err(usage) => usage == Usage::Memory,

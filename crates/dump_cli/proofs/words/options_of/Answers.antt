@@ -1,71 +1,42 @@
-use Rattle.dump_cli.proofs.Prelude.{◌≡◌, ◌∙◌, ap, drop, map, subst, sym, true, List, Some, Ok, Err, Bor, program, AnswersTo, lawful_is_read, line_answers, order_of, refusal_answers, second_holds, side_in, ReadsLine, Words}
-use Rattle.clap.specs.Walk.{is_empty}
-use Rattle.clap.specs.Words.{takes, Text, fault_of, found_of, is_simple_and_free, rows_of}
-use Rattle.cli_support.specs.Arguments.{meaning_in}
-use Rattle.dump_cli.specs.Words.{shown}
-use Rattle.dump_cli.proofs.ProgramLemmas.{filled, free}
-use Rattle.dump_cli.proofs.WordLemmas.{never_words}
+use Rattle.dump_cli.proofs.Prelude.{◌≡◌, ◌∙◌, AnswersTo, Bor, Err, FilterCall, List, Ok, Words, ap, drop, map, subst, sym}
+use Rattle.clap.specs.Words.{Text}
+use Rattle.cli_support.specs.Arguments.{Answers}
+use Rattle.cli_support.specs.FilterCalls.{filter_call_of}
+use Rattle.cli_support.specs.FilterCommand.{filter_command}
+use Rattle.cli_support.specs.steps.LineReading.{is_line_of, is_line_taken_by}
+use Rattle.dump_cli.proofs.WordLemmas.{rejected_alike}
 use Rattle.dump_cli.proofs.words.options_of.Goals as goal
 
-pub read_order-requires : goal.read_order-requires
-read_order-requires c = filled c.in-Ok.command c.in-Ok-read_line.matches c.in-Ok.ensures c.in-Ok-read_line.ensures.parsed
-
-pub returns-in-Ok-read_line-clause-meaning : goal.returns-in-Ok-read_line-clause-meaning
-returns-in-Ok-read_line-clause-meaning c =
+pub returns-in-Ok-clause-meaning : goal.returns-in-Ok-clause-meaning
+returns-in-Ok-clause-meaning c =
     let line : List Text = map (λ w. w.now) c.in-Some.line.now in
     let behind : drop 1 (map (λ w. w.now) c.args.words.now) ≡ line =
     ap (λ (ws : List (Bor Text)). drop 1 (map (λ w. w.now) ws)) c.in-Some.ensures.cases.0 in
-    let named : side_in line ≡ Some c.in-Some-side_in.side = sym c.side_in.ensures ∙ c.in-Some-side_in.is in
-    let reads : ReadsLine program line (Ok c.in-Ok-read_line.matches) =
-    subst (ReadsLine program line) c.in-Ok-read_line.is
-    (subst (λ a. ReadsLine a line c.read_line.result) c.in-Ok.ensures
-    (c.read_line.ensures.read (ap is_simple_and_free c.in-Ok.ensures ∙ free))) in
-    subst (λ l. AnswersTo (meaning_in program order_of l) c.read_order.result) (sym behind)
-    (line_answers program order_of shown line c.in-Some-side_in.side named c.in-Ok-read_line.matches
-    c.read_order.result reads c.read_order.ensures)
-
-pub returns-in-Ok-read_line-clause-lawful : goal.returns-in-Ok-read_line-clause-lawful
-returns-in-Ok-read_line-clause-lawful c lawful is =
-    never_words c.in-Some-side_in.side (rows_of (found_of c.in-Ok-read_line.matches)) c.read_order.result
-    c.read_order.ensures is
-
-pub returns-in-Ok-read_line-clause-takes : goal.returns-in-Ok-read_line-clause-takes
-returns-in-Ok-read_line-clause-takes c taken is =
-    never_words c.in-Some-side_in.side (rows_of (found_of c.in-Ok-read_line.matches)) c.read_order.result
-    c.read_order.ensures is
+    ap filter_call_of behind
+    ∙ subst (Answers (λ (call : FilterCall). call) (filter_call_of line)) c.in-Ok.is c.read_filter_call.ensures.meaning
+    ∙ ap Ok (sym c.order_of.ensures)
 
 pub returns-in-Err-clause-meaning : goal.returns-in-Err-clause-meaning
 returns-in-Err-clause-meaning c =
     let line : List Text = map (λ w. w.now) c.in-Some.line.now in
     let behind : drop 1 (map (λ w. w.now) c.args.words.now) ≡ line =
     ap (λ (ws : List (Bor Text)). drop 1 (map (λ w. w.now) ws)) c.in-Some.ensures.cases.0 in
-    let named : side_in line ≡ Some c.in-Some-side_in.side = sym c.side_in.ensures ∙ c.in-Some-side_in.is in
-    let reads : ReadsLine program line (Err c.in-Err.usage) =
-    subst (ReadsLine program line) c.in-Err.is
-    (subst (λ a. ReadsLine a line c.read_line.result) c.in-Ok.ensures
-    (c.read_line.ensures.read (ap is_simple_and_free c.in-Ok.ensures ∙ free))) in
-    subst (λ l. AnswersTo (meaning_in program order_of l) (Err c.in-Err.usage)) (sym behind)
-    (refusal_answers program order_of shown line c.in-Some-side_in.side named c.in-Err.usage reads)
+    subst (λ l. AnswersTo (filter_call_of l) (Err c.in-Err.usage)) (sym behind)
+    (rejected_alike (filter_call_of line) c.in-Err.usage
+    (subst (Answers (λ (call : FilterCall). call) (filter_call_of line)) c.in-Err.is c.read_filter_call.ensures.meaning))
 
 pub returns-in-Err-clause-lawful : goal.returns-in-Err-clause-lawful
 returns-in-Err-clause-lawful c lawful is =
     let line : List Text = map (λ w. w.now) c.in-Some.line.now in
     let behind : drop 1 (map (λ w. w.now) c.args.words.now) ≡ line =
     ap (λ (ws : List (Bor Text)). drop 1 (map (λ w. w.now) ws)) c.in-Some.ensures.cases.0 in
-    let reads : ReadsLine program line (Err c.in-Err.usage) =
-    subst (ReadsLine program line) c.in-Err.is
-    (subst (λ a. ReadsLine a line c.read_line.result) c.in-Ok.ensures
-    (c.read_line.ensures.read (ap is_simple_and_free c.in-Ok.ensures ∙ free))) in
-    let none : is_empty (fault_of program line) ≡ true =
-    ap (λ l. is_empty (fault_of program l)) (sym behind) ∙ second_holds _ _ lawful in
     let words : c.in-Err.usage ≡ Words = cc in
-    lawful_is_read program line c.in-Err.usage reads none words
+    c.read_filter_call.ensures.lawful (ap (is_line_of filter_command) (sym behind) ∙ lawful) (c.in-Err.is ∙ ap Err words)
 
 pub returns-in-Err-clause-takes : goal.returns-in-Err-clause-takes
 returns-in-Err-clause-takes c taken is =
     let line : List Text = map (λ w. w.now) c.in-Some.line.now in
     let behind : drop 1 (map (λ w. w.now) c.args.words.now) ≡ line =
     ap (λ (ws : List (Bor Text)). drop 1 (map (λ w. w.now) ws)) c.in-Some.ensures.cases.0 in
-    let passes : takes program line ≡ true = ap (λ l. takes program l) (sym behind) ∙ second_holds _ _ taken in
-    let words : c.read_line.result ≡ Err Words = cc in
-    c.read_line.ensures.takes (ap (λ a. takes a line) c.in-Ok.ensures ∙ passes) words
+    let words : c.in-Err.usage ≡ Words = cc in
+    c.read_filter_call.ensures.takes (ap (is_line_taken_by filter_command) (sym behind) ∙ taken) (c.in-Err.is ∙ ap Err words)

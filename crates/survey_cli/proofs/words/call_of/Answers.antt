@@ -1,66 +1,71 @@
-use Rattle.survey_cli.proofs.Prelude.{◌≡◌, ◌∙◌, ap, drop, map, subst, sym, true, List, Some, Ok, Err, Bor, flags, TellsCall, lawful_is_read, line_answers, call_of_side, refusal_answers, second_holds, side_in, ReadsLine, Words}
-use Rattle.clap.specs.Walk.{is_empty}
-use Rattle.clap.specs.Words.{takes, Text, fault_of, found_of, is_simple_and_free, rows_of}
-use Rattle.cli_support.specs.Arguments.{meaning_in}
-use Rattle.survey_cli.proofs.LineLemmas.{free, never_words}
+use Rattle.survey_cli.proofs.Prelude.{◌≡◌, ◌∙◌, Bor, List, None, Some, TellsCall, ap, drop, filter_call_of, filter_command, is_line_of, is_line_taken_by, map, place_of_map, subst, survey_of, sym, true, without}
+use Rattle.clap.specs.Words.{Text}
+use Rattle.survey_cli.proofs.MapLemmas.{accepted_is, call_is, taken_is}
 use Rattle.survey_cli.proofs.words.call_of.Goals as goal
 
-pub returns-in-Ok-read_line-clause-meaning : goal.returns-in-Ok-read_line-clause-meaning
-returns-in-Ok-read_line-clause-meaning c =
+pub returns-in_default-place_of_map-clause-meaning : goal.returns-in_default-place_of_map-clause-meaning
+returns-in_default-place_of_map-clause-meaning c =
+    let words : List Text = map (λ w. w.now) c.args.words.now in
     let line : List Text = map (λ w. w.now) c.in-Some.line.now in
-    let behind : drop 1 (map (λ w. w.now) c.args.words.now) ≡ line =
+    let behind : drop 1 words ≡ line =
     ap (λ (ws : List (Bor Text)). drop 1 (map (λ w. w.now) ws)) c.in-Some.ensures.cases.0 in
-    let named : side_in line ≡ Some c.in-Some-side_in.side = sym c.side_in.ensures ∙ c.in-Some-side_in.is in
-    let reads : ReadsLine flags line (Ok c.in-Ok-read_line.matches) =
-    subst (ReadsLine flags line) c.in-Ok-read_line.is
-    (subst (λ a. ReadsLine a line c.read_line.result) c.in-Ok.ensures
-    (c.read_line.ensures.read (ap is_simple_and_free c.in-Ok.ensures ∙ free))) in
-    subst (λ l. TellsCall (meaning_in flags call_of_side l) c.read_call.result) (sym behind)
-    (line_answers flags call_of_side (λ call. call) line c.in-Some-side_in.side named c.in-Ok-read_line.matches
-    c.read_call.result reads c.read_call.ensures)
+    let none : None ≡ place_of_map line = sym c.in_default-place_of_map.is ∙ c.place_of_map.ensures.place in
+    subst (λ m. TellsCall m c.read_call.result) (sym (call_is words line behind None none)) c.read_call.ensures.meaning
 
-pub returns-in-Ok-read_line-clause-lawful : goal.returns-in-Ok-read_line-clause-lawful
-returns-in-Ok-read_line-clause-lawful c lawful is =
-    never_words c.in-Some-side_in.side (rows_of (found_of c.in-Ok-read_line.matches)) c.read_call.result
-    c.read_call.ensures is
-
-pub returns-in-Ok-read_line-clause-takes : goal.returns-in-Ok-read_line-clause-takes
-returns-in-Ok-read_line-clause-takes c taken is =
-    never_words c.in-Some-side_in.side (rows_of (found_of c.in-Ok-read_line.matches)) c.read_call.result
-    c.read_call.ensures is
-
-pub returns-in-Err-clause-meaning : goal.returns-in-Err-clause-meaning
-returns-in-Err-clause-meaning c =
+pub returns-in_default-place_of_map-clause-lawful : goal.returns-in_default-place_of_map-clause-lawful
+returns-in_default-place_of_map-clause-lawful c lawful =
+    let words : List Text = map (λ w. w.now) c.args.words.now in
     let line : List Text = map (λ w. w.now) c.in-Some.line.now in
-    let behind : drop 1 (map (λ w. w.now) c.args.words.now) ≡ line =
+    let behind : drop 1 words ≡ line =
     ap (λ (ws : List (Bor Text)). drop 1 (map (λ w. w.now) ws)) c.in-Some.ensures.cases.0 in
-    let named : side_in line ≡ Some c.in-Some-side_in.side = sym c.side_in.ensures ∙ c.in-Some-side_in.is in
-    let reads : ReadsLine flags line (Err c.in-Err.usage) =
-    subst (ReadsLine flags line) c.in-Err.is
-    (subst (λ a. ReadsLine a line c.read_line.result) c.in-Ok.ensures
-    (c.read_line.ensures.read (ap is_simple_and_free c.in-Ok.ensures ∙ free))) in
-    subst (λ l. TellsCall (meaning_in flags call_of_side l) (Err c.in-Err.usage)) (sym behind)
-    (refusal_answers flags call_of_side (λ call. call) line c.in-Some-side_in.side named c.in-Err.usage reads)
+    let none : None ≡ place_of_map line = sym c.in_default-place_of_map.is ∙ c.place_of_map.ensures.place in
+    c.read_call.ensures.lawful (sym (accepted_is words line behind None none) ∙ lawful)
 
-pub returns-in-Err-clause-lawful : goal.returns-in-Err-clause-lawful
-returns-in-Err-clause-lawful c lawful is =
+pub returns-in_default-place_of_map-clause-takes : goal.returns-in_default-place_of_map-clause-takes
+returns-in_default-place_of_map-clause-takes c taken =
+    let words : List Text = map (λ w. w.now) c.args.words.now in
     let line : List Text = map (λ w. w.now) c.in-Some.line.now in
-    let behind : drop 1 (map (λ w. w.now) c.args.words.now) ≡ line =
+    let behind : drop 1 words ≡ line =
     ap (λ (ws : List (Bor Text)). drop 1 (map (λ w. w.now) ws)) c.in-Some.ensures.cases.0 in
-    let reads : ReadsLine flags line (Err c.in-Err.usage) =
-    subst (ReadsLine flags line) c.in-Err.is
-    (subst (λ a. ReadsLine a line c.read_line.result) c.in-Ok.ensures
-    (c.read_line.ensures.read (ap is_simple_and_free c.in-Ok.ensures ∙ free))) in
-    let none : is_empty (fault_of flags line) ≡ true =
-    ap (λ l. is_empty (fault_of flags l)) (sym behind) ∙ second_holds _ _ lawful in
-    let words : c.in-Err.usage ≡ Words = cc in
-    lawful_is_read flags line c.in-Err.usage reads none words
+    let none : None ≡ place_of_map line = sym c.in_default-place_of_map.is ∙ c.place_of_map.ensures.place in
+    c.read_call.ensures.takes (sym (taken_is words line behind None none) ∙ taken)
 
-pub returns-in-Err-clause-takes : goal.returns-in-Err-clause-takes
-returns-in-Err-clause-takes c taken is =
+pub returns-in-Ok-clause-meaning : goal.returns-in-Ok-clause-meaning
+returns-in-Ok-clause-meaning c =
+    let words : List Text = map (λ w. w.now) c.args.words.now in
     let line : List Text = map (λ w. w.now) c.in-Some.line.now in
-    let behind : drop 1 (map (λ w. w.now) c.args.words.now) ≡ line =
+    let behind : drop 1 words ≡ line =
     ap (λ (ws : List (Bor Text)). drop 1 (map (λ w. w.now) ws)) c.in-Some.ensures.cases.0 in
-    let passes : takes flags line ≡ true = ap (λ l. takes flags l) (sym behind) ∙ second_holds _ _ taken in
-    let words : c.read_line.result ≡ Err Words = cc in
-    c.read_line.ensures.takes (ap (λ a. takes a line) c.in-Ok.ensures ∙ passes) words
+    let place = Some c.in-Some-place_of_map.place in
+    let there : place ≡ place_of_map line = sym c.in-Some-place_of_map.is ∙ c.place_of_map.ensures.place in
+    let rest : map (λ w. w.now) c.as_slice.result.now ≡ without place line =
+    ap (λ (ws : List (Bor Text)). map (λ w. w.now) ws) c.as_slice.ensures.value ∙ c.in-Ok.ensures in
+    subst (λ m. TellsCall m c.read_call-in-Ok.result)
+    (ap (λ l. survey_of true (filter_call_of l)) rest ∙ sym (call_is words line behind place there))
+    c.read_call-in-Ok.ensures.meaning
+
+pub returns-in-Ok-clause-lawful : goal.returns-in-Ok-clause-lawful
+returns-in-Ok-clause-lawful c lawful =
+    let words : List Text = map (λ w. w.now) c.args.words.now in
+    let line : List Text = map (λ w. w.now) c.in-Some.line.now in
+    let behind : drop 1 words ≡ line =
+    ap (λ (ws : List (Bor Text)). drop 1 (map (λ w. w.now) ws)) c.in-Some.ensures.cases.0 in
+    let place = Some c.in-Some-place_of_map.place in
+    let there : place ≡ place_of_map line = sym c.in-Some-place_of_map.is ∙ c.place_of_map.ensures.place in
+    let rest : map (λ w. w.now) c.as_slice.result.now ≡ without place line =
+    ap (λ (ws : List (Bor Text)). map (λ w. w.now) ws) c.as_slice.ensures.value ∙ c.in-Ok.ensures in
+    c.read_call-in-Ok.ensures.lawful
+    (ap (is_line_of filter_command) rest ∙ sym (accepted_is words line behind place there) ∙ lawful)
+
+pub returns-in-Ok-clause-takes : goal.returns-in-Ok-clause-takes
+returns-in-Ok-clause-takes c taken =
+    let words : List Text = map (λ w. w.now) c.args.words.now in
+    let line : List Text = map (λ w. w.now) c.in-Some.line.now in
+    let behind : drop 1 words ≡ line =
+    ap (λ (ws : List (Bor Text)). drop 1 (map (λ w. w.now) ws)) c.in-Some.ensures.cases.0 in
+    let place = Some c.in-Some-place_of_map.place in
+    let there : place ≡ place_of_map line = sym c.in-Some-place_of_map.is ∙ c.place_of_map.ensures.place in
+    let rest : map (λ w. w.now) c.as_slice.result.now ≡ without place line =
+    ap (λ (ws : List (Bor Text)). map (λ w. w.now) ws) c.as_slice.ensures.value ∙ c.in-Ok.ensures in
+    c.read_call-in-Ok.ensures.takes
+    (ap (is_line_taken_by filter_command) rest ∙ sym (taken_is words line behind place there) ∙ taken)

@@ -1,0 +1,111 @@
+-- The place of --map in a line, and the line without it.
+use Rattle.survey_cli.proofs.Prelude.{◌≡◌, ◌≤◌, ◌||◌, ◌+◌, ◌-◌, ◌++◌, ◌∷◌, ◌∙◌, ℕ, suc, Bool, true, false, List, [], Option, Some, None, ap, ap₂, arith, codes, drop, drop-map, Bor, map, map-append, sym, take-map, get_or, is_some, length, length-drop, list_any, subst, take-length, take, option_map, refl, bytes_eq, filter_call_of, survey_of, call_of_line, call_of_words, filter_line, filter_command, is_line_of, is_line_taken_by, is_survey_call, is_taken_call, place_of_map, without, ReadsAsFilter, ReadsMapAnywhere}
+use Rattle.clap.specs.Words.{Text}
+
+-- if neither of two facts holds
+or_none : (a b : Bool) → (a || b) ≡ false → (a ≡ false) × (b ≡ false)
+or_none true b e = cc
+or_none false b e = (refl, e)
+
+-- a place among the words left, counted from the line's front
+abbrev pub after : ℕ → Option ℕ → Option ℕ
+after count place = option_map (λ n. count + n) place
+
+pub one_more : (count : ℕ) (place : Option ℕ) → after count (option_map suc place) ≡ after (count + 1) place
+one_more count None = refl
+one_more count (Some n) = ap Some (omega arith)
+
+pub from_front : (place : Option ℕ) → after 0 place ≡ place
+from_front None = refl
+from_front (Some n) = ap Some (omega arith)
+
+-- the place of --map after words that are neither --map nor two minus signs
+place_among : (before after : List Text)
+    → list_any (λ word. bytes_eq word (codes "--") || bytes_eq word (codes "--map")) before ≡ false
+    → place_of_map (before ++ codes "--map" ∷ after) ≡ Some (length before)
+place_among [] after none = refl
+place_among (word ∷ before) after none =
+    let parts = or_none (bytes_eq word (codes "--") || bytes_eq word (codes "--map")) _ none in
+    let each = or_none (bytes_eq word (codes "--")) _ parts.0 in
+    rw each.0 (rw each.1 (ap (option_map suc) (place_among before after parts.1)))
+
+without_there : (before rest : List Text)
+    → without (Some (length before)) (before ++ codes "--map" ∷ rest) ≡ before ++ rest
+without_there [] rest = refl
+without_there (word ∷ before) rest =
+    let line : List Text = before ++ codes "--map" ∷ rest in
+    let n : ℕ = length before in
+    ap (λ k. word ∷ take n line ++ drop k (word ∷ line)) (next n) ∙ ap (λ words. word ∷ words) (without_there before rest)
+  where
+    next : (n : ℕ) → suc n + 1 ≡ suc (n + 1)
+    next n = omega arith
+
+pub reads_as_filter : ReadsAsFilter
+reads_as_filter words none =
+    ap (λ place. survey_of (is_some place) (filter_call_of (without place (drop 1 words)))) none
+
+pub reads_map_anywhere : ReadsMapAnywhere
+reads_map_anywhere name before after none =
+    let line : List Text = before ++ codes "--map" ∷ after in
+    ap (λ place. survey_of (is_some place) (filter_call_of (without place line))) (place_among before after none)
+    ∙ ap (λ words. survey_of true (filter_call_of words)) (without_there before after)
+
+-- the words of a line without the one at a place
+pub without_words : (place : ℕ) (line : List (Bor Text))
+    → map (λ (word : Bor Text). word.now) (take place line ++ drop (place + 1) line)
+    ≡ take place (map (λ (word : Bor Text). word.now) line) ++ drop (place + 1) (map (λ (word : Bor Text). word.now) line)
+without_words place line =
+    map-append (λ (word : Bor Text). word.now) (take place line) (drop (place + 1) line)
+    ∙ ap₂ (λ front rest. front ++ rest) (sym (take-map (λ (word : Bor Text). word.now) place line))
+    (sym (drop-map (λ (word : Bor Text). word.now) (place + 1) line))
+
+pub all_taken : (n : ℕ) (words : List (Bor Text)) → take (length words - n) (drop n words) ≡ drop n words
+all_taken n words =
+    subst (λ size. take size (drop n words) ≡ drop n words) (length-drop n words) (take-length (drop n words))
+
+-- after so many words without --map or two minus signs, these words of the line are left
+abbrev pub IsLooking : List (Bor Text) → ℕ → List (Bor Text) → Type 0
+IsLooking line count left = (count + length left ≡ length line)
+    × (place_of_map (map (λ (word : Bor Text). word.now) line)
+    ≡ after count (place_of_map (map (λ (word : Bor Text). word.now) left)))
+
+pub looking_begins : (line : List (Bor Text)) → IsLooking line 0 line
+looking_begins line = (omega arith, sym (from_front (place_of_map (map (λ (word : Bor Text). word.now) line))))
+
+word_passed : (word : Text) (words : List Text) → bytes_eq word (codes "--") ≡ false → bytes_eq word (codes "--map") ≡ false
+    → place_of_map (word ∷ words) ≡ option_map suc (place_of_map words)
+word_passed word words no_end no_map = rw no_end (rw no_map refl)
+
+module _ (line : List (Bor Text)) (count : ℕ) (none : Bor Text) where
+  one_passed : (left : List (Bor Text)) → 1 ≤ length left → IsLooking line count left
+      → bytes_eq (get_or left 0 none).now (codes "--") ≡ false
+      → bytes_eq (get_or left 0 none).now (codes "--map") ≡ false
+      → IsLooking line (count + 1) (drop 1 left)
+  one_passed [] some looking no_end no_map = absurd (omega arith)
+  one_passed (word ∷ left) some (size, place) no_end no_map = (
+    omega (arith, size),
+    place
+        ∙ ap (after count) (word_passed word.now (map (λ (w : Bor Text). w.now) left) no_end no_map)
+        ∙ one_more count (place_of_map (map (λ (w : Bor Text). w.now) left)),
+  )
+
+  pub looking_goes_on : (left : List (Bor Text)) → 1 ≤ length left → IsLooking line count left
+      → bytes_eq (get_or left 0 none).now (codes "--") ≡ false
+      → bytes_eq (get_or left 0 none).now (codes "--map") ≡ false
+      → IsLooking line (count + 1) (take (length left - 1) (drop 1 left))
+  looking_goes_on left some looking no_end no_map =
+      subst (IsLooking line (count + 1)) (sym (all_taken 1 left)) (one_passed left some looking no_end no_map)
+
+-- what a line asks for, and whether it is accepted, by the place of --map
+module _ (words line : List Text) (behind : drop 1 words ≡ line) (place : Option ℕ) (is : place ≡ place_of_map line) where
+  pub call_is : call_of_words words ≡ survey_of (is_some place) (filter_call_of (without place line))
+  call_is = ap call_of_line behind ∙ ap (λ p. survey_of (is_some p) (filter_call_of (without p line))) (sym is)
+
+  rest_is : filter_line (drop 1 words) ≡ without place line
+  rest_is = ap filter_line behind ∙ ap (λ p. without p line) (sym is)
+
+  pub accepted_is : is_survey_call words ≡ is_line_of filter_command (without place line)
+  accepted_is = ap (is_line_of filter_command) rest_is
+
+  pub taken_is : is_taken_call words ≡ is_line_taken_by filter_command (without place line)
+  taken_is = ap (is_line_taken_by filter_command) rest_is
