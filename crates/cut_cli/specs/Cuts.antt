@@ -346,8 +346,8 @@ pub record ExcludesNamed (m : CutMeaning) (trees : List Tree) (revisions : List 
   pub unfollowed : m.follow ≡ false → excluded ≡ first
   pub closure : m.keep ≡ false → IsClosureOf Way.ToCopies trees revisions first excluded
 
--- the filter keeps a line of mergeinfo in the dump exactly if its path, as the load reads it, is in the cut. The path is in
--- short form, as svnadmin writes it
+-- the filter keeps a line of mergeinfo in the dump exactly if its path, as the load reads it, is in the cut. The path is
+-- canonical, as svnadmin writes it
 abbrev pub MergeinfoStaysByCut : Settings → List NodePath → List DumpRecord → Type 0
 MergeinfoStaysByCut settings included records = (r : DumpRecord) (ps : List Property) (p : Property) (lines : List MergeLine)
     (line : MergeLine) →

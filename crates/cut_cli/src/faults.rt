@@ -7,7 +7,7 @@ use dump_additions::{NotAdded, Reason};
 use dump_cut::{NoPart, Refusal, Refused};
 use dump_digest::properties_of;
 use dump_index::NodeChange;
-use dump_nodes::{action_of, has_odd_delta};
+use dump_nodes::{action_of, has_undefined_delta};
 use dump_text::FaultKind;
 use std::io::{self, Write};
 
@@ -197,7 +197,7 @@ fn write_no_change<E: Write>(errors: &mut E, spot: Spot<'_>) -> io::Result<()> {
     }
     let text = if !action_of(&record).is_known() {
         "no action, or an unknown one"
-    } else if has_odd_delta(&record) {
+    } else if has_undefined_delta(&record) {
         "a delta in a dump of version 2"
     } else {
         "a path or name that is not in canonical form"

@@ -7,7 +7,7 @@ use Rattle.std.proofs.lemmas.Option.{slice_get-map}
 use Rattle.dump_filter.specs.Groups.{revision_number}
 use Rattle.dump_trees.specs.Changes.{Change, PropertyChange}
 use Rattle.dump_trees.specs.Looking.{Placed}
-use Rattle.dump_history.specs.RecordChanges.{change_of, has_known_action, has_odd_delta, property_change_of}
+use Rattle.dump_history.specs.RecordChanges.{change_of, has_known_action, has_undefined_delta, property_change_of}
 use Rattle.dump_index.specs.IndexLaws.{HasProps, IsListed, props_after, props_by, props_there}
 use Rattle.dump_index.specs.Listed.{Listed, listed_of}
 use Rattle.dump_index.specs.declared.change.NodeChange.{NodeChange}
@@ -48,7 +48,7 @@ module _ (blocks : List (List ℕ)) (records : List DumpRecord) (number : ℕ) (
 -- the properties that a node's change sets
 its_props : (patched : Patching) (r : DumpRecord) (ps : List Property) (c : Change) → change_of patched r ps ≡ Some c
     → property_change_of r ps ≡ c.props
-its_props patched r ps c is = cases (has_known_action r && not (has_odd_delta r)) is
+its_props patched r ps c is = cases (has_known_action r && not (has_undefined_delta r)) is
   where
     set : Option Change → Option PropertyChange
     set None = None

@@ -10,7 +10,7 @@ use Rattle.dump_trees.specs.Changes.{Change, TextChange}
 use Rattle.dump_trees.specs.Looking.{Placed, end_of, look}
 use Rattle.dump_trees.specs.Trees.{Node, root_alone}
 use Rattle.dump_trees.proofs.expansions.LookLemmas.{look_finds_each}
-use Rattle.dump_history.specs.RecordChanges.{has_known_action, has_odd_delta, text_change_of}
+use Rattle.dump_history.specs.RecordChanges.{has_known_action, has_undefined_delta, text_change_of}
 use Rattle.dump_index.specs.IndexLaws.{HasText, text_after, text_by, text_there}
 use Rattle.dump_index.specs.Listed.{Listed, listed_of}
 use Rattle.dump_index.specs.Settings.{Copied, Edited, IsTrail, NewMade, Unset, Whole, is_replacing, own_place, sets_at, sets_there}
@@ -92,7 +92,7 @@ stored_nowhere texts listed path count places is none =
 
 -- the text that a node's change sets
 its_text : (patched : Patching) (r : DumpRecord) (c : Change) → MakesChange patched r c → text_change_of patched r ≡ c.text
-its_text patched r c (ps, has, plain, is) = cases (has_known_action r && not (has_odd_delta r)) is
+its_text patched r c (ps, has, plain, is) = cases (has_known_action r && not (has_undefined_delta r)) is
   where
     set : Option Change → Option TextChange
     set None = None

@@ -11,7 +11,7 @@ ghost use Rattle.dump_rules.specs.Prefix.{bare_path};
 ghost use Rattle.dump_digest.specs.RecordParts.{HasPropertyList, is_copy, is_node, node_path};
 ghost use Rattle.dump_digest.specs.steps.ContentViews.{ArePropertiesOf};
 ghost use Rattle.dump_trees.specs.Changes.{PropertyChange};
-ghost use Rattle.dump_history.specs.RecordChanges.{Patching, copy_path, has_plain_texts, made_by_kind, made_of, property_change_of, text_change_of};
+ghost use Rattle.dump_history.specs.RecordChanges.{Patching, copy_path, loads_as_written, made_by_kind, made_of, property_change_of, text_change_of};
 ghost use Rattle.dump_history.specs.Findings.{IsReadBlock};
 ghost use Rattle.dump_index.specs.Listed.{listed_made, listed_of};
 ghost use Rattle.dump_index.specs.IndexLaws.{HasProps, HasText};
@@ -21,8 +21,8 @@ ghost use Rattle.dump_changes.specs.steps.Nodes.{IsChangeOf, has_entry, is_told}
 use dump_digest::properties_of;
 use dump_index::{NodeChange, NodeMade, Setting, Source};
 use dump_nodes::{
-    Action, action_of, copy_path_of, copy_revision_of, has_odd_delta, has_plain_texts, is_copy,
-    kind_of, path_of,
+    Action, action_of, copy_path_of, copy_revision_of, has_undefined_delta, is_copy, kind_of,
+    loads_as_written, path_of,
 };
 use dump_records::Record;
 use dump_rules::bare_path;
@@ -41,8 +41,8 @@ fn is_told(item: &Record<'_>, action: Action, props: &Option<Props<'_>>) -> bool
         → result ≡ is_told (record_item item.now) ps }
 {
     let read = props.is_some();
-    let delta = has_odd_delta(item);
-    let plain = has_plain_texts(item, props);
+    let delta = has_undefined_delta(item);
+    let plain = loads_as_written(item, props);
     read & !delta & action.is_known() & plain
 }
 

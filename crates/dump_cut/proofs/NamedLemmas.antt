@@ -12,7 +12,7 @@ use Rattle.dump_trees.specs.Looking.{Placed}
 use Rattle.dump_trees.specs.Paths.{is_short, names_of}
 use Rattle.dump_trees.specs.Siblings.{has_node_names}
 use Rattle.dump_trees.proofs.paths.SiblingLemmas.{short_names}
-use Rattle.dump_history.specs.RecordChanges.{Patching, MakesChange, copied_from, copy_path, has_known_action, has_odd_delta, is_plain_line, made_by_kind, made_of, makes, says, property_change_of, text_change_of, deletes}
+use Rattle.dump_history.specs.RecordChanges.{Patching, MakesChange, copied_from, copy_path, has_known_action, has_undefined_delta, is_plain_line, made_by_kind, made_of, makes, says, property_change_of, text_change_of, deletes}
 use Rattle.dump_index.specs.IndexLaws.{IsListed}
 use Rattle.dump_index.specs.Listed.{Listed, listed_of}
 use Rattle.dump_index.specs.declared.change.NodeChange.{NodeChange}
@@ -45,7 +45,7 @@ module _ (patched : Patching) where
       let names = list_all (λ (p : Property). not (has_byte 0 p.name)) ps in
       let parts = and_parts (lines && names && is_short (node_path r)) (is_short (copy_path r)) plain in
       let path = and_parts (lines && names) (is_short (node_path r)) parts.0 in
-      told (has_known_action r && not (has_odd_delta r)) is
+      told (has_known_action r && not (has_undefined_delta r)) is
       (and_from (has_node_names (Rattle.dump_trees.specs.Paths.path_of (node_path r))) (has_named_source (made_of r))
       (short_names (node_path r) path.1) (made_named r parts.1))
     where

@@ -59,7 +59,7 @@ FirstPartsGoOn = (settings others : Settings) (number : ℕ) (dump text first pa
     → HasRecords first firsts Ending.Whole → AreFilteredAlike settings others firsts
     → IsCleanText others first firsts part
 
--- each path of a line of mergeinfo in the records is in short form, as svnadmin writes it
+-- each path of a line of mergeinfo in the records is canonical, as svnadmin writes it
 abbrev pub HaveShortLines : List DumpRecord → Type 0
 HaveShortLines records = (r : DumpRecord) (ps : List Property) (p : Property) (lines : List MergeLine) (line : MergeLine) →
     Contains records r → HasPropertyList r ps → Contains ps p → IsTrue (is_mergeinfo p) → IsMergeinfo (value_of p) lines

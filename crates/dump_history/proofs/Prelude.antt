@@ -36,7 +36,7 @@ pub use Rattle.dump_history.specs.Findings.{AreDumpFactsOf, AreDumpFindingsOf, A
 pub use Rattle.dump_history.specs.NumberGaps.{HasNamingNode, HasNamingNodeBehind, KeepsNamedNumbers, LoadsWithGapsAs, MakeRevisionsWithGaps, NamesRevision, NamesRevisionBehind, SetsMergeinfo, count_to_gap, entries_of, go_up, name_no_revision, names_revision, sets_mergeinfo}
 pub use Rattle.dump_history.specs.PartLaws.{FilteredPartRestricts, IsLoadedBehindOne, IsLoadedProperty, MakePartRevisions, MakePartRevisionsWithGaps, NoGapIsNeededInPart, PartLoadsAs, PartLoadsBehind, QuietPartRestricts, kept_as_loaded}
 pub use Rattle.dump_history.specs.RaisedMergeinfo.{AreRaisedLines, HasMergedNumber, IsRaised, IsRaisedValue}
-pub use Rattle.dump_history.specs.RecordChanges.{MakesChange, Patching, change_of, copied_from, copy_path, copy_revision, deletes, has_known_action, has_odd_delta, has_plain_texts, is_plain_line, made_by_kind, made_of, makes, property_change_of, says, text_change_of}
+pub use Rattle.dump_history.specs.RecordChanges.{MakesChange, Patching, change_of, copied_from, copy_path, copy_revision, deletes, has_known_action, has_undefined_delta, loads_as_written, is_plain_line, made_by_kind, made_of, makes, property_change_of, says, text_change_of}
 pub use Rattle.dump_history.specs.SurveyLaws.{AlarmsAreExact, AreFindingsBehind, DumpFindingsAreOnce, FindingsAreOnce, HaveFindings, HaveFindingsBehind, ObstaclesAreExact, RestrictsFrom, SurveyedDumpFrontRestricts, SurveyedDumpRestricts, none_is}
 pub use Rattle.dump_history.specs.steps.NamingTests.{TellsNaming, groups_name, groups_name_behind, nodes_name}
 pub use Rattle.dump_history.specs.steps.NodeReading.{copy_faults, copy_refused, faults_read, has_up_to, is_missing_number, is_unread_value, names_missing_source, names_outside, no_node_faults}

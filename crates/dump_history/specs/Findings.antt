@@ -18,7 +18,7 @@ use Rattle.dump_filter.specs.RecordFaults.{HoldsOfRecord}
 use Rattle.dump_trees.specs.Paths.{path_of}
 use Rattle.dump_trees.specs.Restriction.{is_above_some}
 use Rattle.dump_trees.specs.Quiet.{cuts_alike}
-use Rattle.dump_history.specs.RecordChanges.{copy_path, copy_revision, deletes, makes, has_known_action, has_odd_delta, has_plain_texts}
+use Rattle.dump_history.specs.RecordChanges.{copy_path, copy_revision, deletes, makes, has_known_action, has_undefined_delta, loads_as_written}
 use Rattle.dump_history.specs.DumpChanges.{counts_from, has_ordered_nodes}
 use Rattle.dump_history.specs.NumberGaps.{go_up, NamesRevisionBehind}
 use Rattle.dump_history.specs.declared.findings.Finding.{Finding}
@@ -31,7 +31,7 @@ abbrev pub every_finding : List Finding
 every_finding = findings.UnreadBlock ∷ findings.Delta ∷ findings.UnknownAction ∷ findings.TextReadDifferently
     ∷ findings.NoWholeFile ∷ findings.MissingCopyRevision ∷ findings.UnreadMergeinfo ∷ findings.MissingMergeSource
     ∷ findings.MissingMergeRevision ∷ findings.PropertiesLost ∷ findings.CopyLoses ∷ findings.CopyLetsIn
-    ∷ findings.FolderTakes ∷ findings.FolderBrings ∷ findings.TextComesIn ∷ []
+    ∷ findings.IncludedStays ∷ findings.IncludedMissing ∷ findings.TextComesIn ∷ []
 
 -- whether the node's path is kept
 abbrev pub has_kept_path : Settings → DumpRecord → Bool
@@ -82,9 +82,9 @@ pub record AreNodeFaultsOf (settings : Settings) (before : List DumpRecord) (r :
 -- those of the node
 abbrev pub is_found : Settings → DumpRecord → Option (List Property) → NodeFaults → Finding → Bool
 is_found settings r ps faults findings.UnreadBlock = is_none ps
-is_found settings r ps faults findings.Delta = has_odd_delta r
+is_found settings r ps faults findings.Delta = has_undefined_delta r
 is_found settings r ps faults findings.UnknownAction = not (has_known_action r)
-is_found settings r ps faults findings.TextReadDifferently = not (has_plain_texts r (unwrap_or ps []))
+is_found settings r ps faults findings.TextReadDifferently = not (loads_as_written r (unwrap_or ps []))
 is_found settings r ps faults findings.NoWholeFile = lacks_source settings r
 is_found settings r ps faults findings.MissingCopyRevision = faults.copy_revision
 is_found settings r ps faults findings.UnreadMergeinfo = faults.unread
@@ -97,9 +97,9 @@ is_found settings r ps faults findings.CopyLoses =
     has_kept_path settings r && makes_copy r && has_kept_source settings r && cuts settings (copy_path r) (node_path r)
 is_found settings r ps faults findings.CopyLetsIn =
     has_kept_path settings r && makes_copy r && has_kept_source settings r && cuts settings (node_path r) (copy_path r)
-is_found settings r ps faults findings.FolderTakes =
+is_found settings r ps faults findings.IncludedStays =
     not (has_kept_path settings r) && deletes r && is_above_prefix settings r
-is_found settings r ps faults findings.FolderBrings =
+is_found settings r ps faults findings.IncludedMissing =
     not (has_kept_path settings r) && makes_copy r && is_above_prefix settings r
 is_found settings r ps faults findings.TextComesIn =
     is_exclude settings.side && has_kept_path settings r && makes r && becomes_plain settings r
@@ -131,8 +131,8 @@ abbrev pub is_alarm : Finding → Bool
 is_alarm findings.PropertiesLost = true
 is_alarm findings.CopyLoses = true
 is_alarm findings.CopyLetsIn = true
-is_alarm findings.FolderTakes = true
-is_alarm findings.FolderBrings = true
+is_alarm findings.IncludedStays = true
+is_alarm findings.IncludedMissing = true
 is_alarm _ = false
 
 -- what can be found in a dump as a whole, in order

@@ -79,8 +79,8 @@ text_change_of patched r =
 
 -- whether the node says that its properties or its text are a delta, but version 3 isn't in force; the format has no
 -- deltas there, but the load obeys it
-abbrev pub has_odd_delta : DumpRecord → Bool
-has_odd_delta r =
+abbrev pub has_undefined_delta : DumpRecord → Bool
+has_undefined_delta r =
     not (r.version == 3) && (says_true prop_delta_name r.headers || says_true text_delta_name r.headers)
 
 -- the change of a node with these entries in its property block; none without a known action, which the load rejects,
@@ -88,7 +88,7 @@ has_odd_delta r =
 -- node states of texts, and rejects others; here such a node loads, so more loads here than there
 abbrev pub change_of : Patching → DumpRecord → List Property → Option Change
 change_of patched r ps =
-    if has_known_action r && not (has_odd_delta r) then Some record {
+    if has_known_action r && not (has_undefined_delta r) then Some record {
       path = path_of (node_path r);
       deletes = deletes r;
       made = made_of r;
@@ -103,13 +103,13 @@ is_plain_line h = not (has_byte 0 h.name) && not (has_byte 0 h.value)
 
 -- whether the load reads the node's texts as they are: no zero byte in its lines and in the names of its properties,
 -- and its paths in canonical form
-abbrev pub has_plain_texts : DumpRecord → List Property → Bool
-has_plain_texts r ps = list_all is_plain_line r.headers
+abbrev pub loads_as_written : DumpRecord → List Property → Bool
+loads_as_written r ps = list_all is_plain_line r.headers
     && list_all (λ (p : Property). not (has_byte 0 p.name)) ps
     && is_short (node_path r)
     && is_short (copy_path r)
 
 -- the node makes this change
 abbrev pub MakesChange : Patching → DumpRecord → Change → Type 0
-MakesChange patched r c = (ps : List Property) × HasPropertyList r ps × IsTrue (has_plain_texts r ps)
+MakesChange patched r c = (ps : List Property) × HasPropertyList r ps × IsTrue (loads_as_written r ps)
     × (change_of patched r ps ≡ Some c)

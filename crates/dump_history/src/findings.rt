@@ -1,4 +1,6 @@
 //! What a survey can find in a dump.
+ghost use Rattle.std.specs.Prelude.{◌≡◌};
+ghost use Rattle.dump_history.specs.Findings.{every_dump_finding, every_finding};
 
 /// What a survey can find in a node.
 #[derive(Clone, Copy, Debug, PartialEq, Eq)]
@@ -28,9 +30,9 @@ pub enum Finding {
     /// A copy of a kept path may bring back what is excluded below the copy.
     CopyLetsIn,
     /// The node deletes an excluded directory, and what is included below it may stay.
-    FolderTakes,
+    IncludedStays,
     /// The node is an excluded directory that is a copy, and what is included below it may be missing.
-    FolderBrings,
+    IncludedMissing,
     /// The node is a kept file that is a copy of an excluded one, and it has the excluded file's text.
     TextComesIn,
 }
@@ -56,8 +58,10 @@ pub enum DumpFinding {
     NumbersLeft,
 }
 
-/// All findings in nodes, in the order in which they are reported.
-pub const EVERY_FINDING: [Finding; 15] = [
+/// The number of findings in nodes.
+pub const FINDINGS: usize = EVERY_FINDING.len();
+
+const EVERY_FINDING: [Finding; 15] = [
     Finding::UnreadBlock,
     Finding::Delta,
     Finding::UnknownAction,
@@ -70,13 +74,12 @@ pub const EVERY_FINDING: [Finding; 15] = [
     Finding::PropertiesLost,
     Finding::CopyLoses,
     Finding::CopyLetsIn,
-    Finding::FolderTakes,
-    Finding::FolderBrings,
+    Finding::IncludedStays,
+    Finding::IncludedMissing,
     Finding::TextComesIn,
 ];
 
-/// All findings in a dump as a whole, in the order in which they are reported.
-pub const EVERY_DUMP_FINDING: [DumpFinding; 8] = [
+const EVERY_DUMP_FINDING: [DumpFinding; 8] = [
     DumpFinding::NoRevision,
     DumpFinding::OtherNumbers,
     DumpFinding::NumberFalls,
@@ -86,3 +89,17 @@ pub const EVERY_DUMP_FINDING: [DumpFinding; 8] = [
     DumpFinding::NodeOutside,
     DumpFinding::NumbersLeft,
 ];
+
+/// All findings in nodes, in the order in which they are reported.
+pub fn every_finding() -> &'static [Finding]
+    ensures { result.now ≡ every_finding }
+{
+    &EVERY_FINDING
+}
+
+/// All findings in a dump as a whole, in the order in which they are reported.
+pub fn every_dump_finding() -> &'static [DumpFinding]
+    ensures { result.now ≡ every_dump_finding }
+{
+    &EVERY_DUMP_FINDING
+}

@@ -4,7 +4,7 @@ ghost use Rattle.dump_text.specs.HeaderLine.{header_value};
 ghost use Rattle.dump_text.specs.Names.{node_kind_name};
 ghost use Rattle.dump_text.specs.steps.KnownValues.{name_text};
 ghost use Rattle.dump_records.specs.steps.RecordViews.{record_item};
-ghost use Rattle.dump_history.specs.RecordChanges.{has_odd_delta};
+ghost use Rattle.dump_history.specs.RecordChanges.{has_undefined_delta};
 ghost use Rattle.dump_nodes.specs.steps.Actions.{action_named, is_deleting, is_making, is_known_action, IsActionOf};
 
 use dump_records::Record;
@@ -80,8 +80,8 @@ fn value_of<'a>(item: &Record<'a>, name: HeaderName) -> &'a [u8]
 }
 
 /// Whether the node says that its properties or its text are a delta, although version 3 isn't in force.
-pub fn has_odd_delta(item: &Record<'_>) -> bool
-    ensures { result ≡ has_odd_delta (record_item item.now) }
+pub fn has_undefined_delta(item: &Record<'_>) -> bool
+    ensures { result ≡ has_undefined_delta (record_item item.now) }
 {
     item.version() != 3 && item.says_delta()
 }

@@ -2,7 +2,7 @@
 //!
 //! [`action_of`] reads what the node does at its path. [`path_of`], [`copy_path_of`] and
 //! [`copy_revision_of`] read where it does so, and [`kind_of`] and [`is_whole_file`] what kind of node
-//! it is. [`has_plain_texts`] and [`has_odd_delta`] find the nodes whose change isn't modelled.
+//! it is. [`loads_as_written`] and [`has_undefined_delta`] find the nodes whose change isn't modelled.
 //! [`is_canonical`] tests a path.
 //!
 //! ```
@@ -27,13 +27,13 @@
 
 mod action;
 mod canonical_path;
+mod loaded_texts;
 mod node;
-mod plain_texts;
 
-pub use action::{Action, action_of, has_odd_delta, kind_of};
+pub use action::{Action, action_of, has_undefined_delta, kind_of};
 pub use canonical_path::is_canonical;
+pub use loaded_texts::loads_as_written;
 pub use node::{copy_path_of, copy_revision_of, is_copy, is_whole_file, makes_copy, path_of};
-pub use plain_texts::has_plain_texts;
 
 #[cfg(test)]
 mod tests;

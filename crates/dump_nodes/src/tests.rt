@@ -45,7 +45,7 @@ fn is_copied(item: &Record<'_>) -> bool
 fn is_replaced(item: &Record<'_>) -> bool
     requires { IsTrue (is_node (record_item item.now)) }
 {
-    let plain = has_plain_texts(item, &properties_of(item));
+    let plain = loads_as_written(item, &properties_of(item));
     action_of(item) == Action::Replace
         && kind_of(item) == FILE_KIND
         && is_whole_file(item)
@@ -56,7 +56,7 @@ fn is_replaced(item: &Record<'_>) -> bool
 fn copies_are_read(rt: HostRuntime) -> Result<(), Fail> {
     let item = second(COPY).ok_or("no record")?;
     let read = match item.kind() {
-        RecordKind::Node => is_copied(&item) && makes_copy(&item) && !has_odd_delta(&item),
+        RecordKind::Node => is_copied(&item) && makes_copy(&item) && !has_undefined_delta(&item),
         _ => false,
     };
     assert!(rt; read);

@@ -35,8 +35,8 @@ all_among findings.MissingMergeRevision = refl
 all_among findings.PropertiesLost = refl
 all_among findings.CopyLoses = refl
 all_among findings.CopyLetsIn = refl
-all_among findings.FolderTakes = refl
-all_among findings.FolderBrings = refl
+all_among findings.IncludedStays = refl
+all_among findings.IncludedMissing = refl
 all_among findings.TextComesIn = refl
 
 pub none_counted_yet : (old : Counts) (found : Found) → AreCounted old found every_finding old.times

@@ -242,9 +242,9 @@ given_is Exclude settings (name ∷ path) = no (not (keeps_path settings (path_t
     no false = refl
 
 -- these are the directories to create
-pub are_to_make : (settings : Settings) (directories : List (List ℕ)) → directories ≡ left_above settings.side settings
+pub are_parents_to_create : (settings : Settings) (directories : List (List ℕ)) → directories ≡ left_above settings.side settings
     → AreParentsToCreate settings directories
-are_to_make settings directories same = record {
+are_parents_to_create settings directories same = record {
   are_given = λ path. given_is settings.side settings path
       ∙ ap (λ fs. is_root path || list_any (λ directory. bytes_eq (47 ∷ directory) (path_text path)) fs) (sym same);
   in_order = same;
@@ -261,6 +261,6 @@ pub made_if_ok : (settings : Settings) (bare : List (Bor (List ℕ))) (r : Resul
     → IfOk r (λ paths. AreParentsToCreate settings (map (λ path. path.now) paths.items))
 made_if_ok settings bare (Err failure) included same is = tt
 made_if_ok settings bare (Ok paths) included same is =
-    are_to_make settings (map (λ path. path.now) paths.items)
+    are_parents_to_create settings (map (λ path. path.now) paths.items)
     (is ∙ (ap (λ l. each_once [] (left_of settings l)) (ap (flat_map fronts) same ∙ made_above settings.prefixes)
     ∙ ap (λ side. left_above side settings) (sym included)))

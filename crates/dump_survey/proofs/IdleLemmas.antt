@@ -1,5 +1,5 @@
 -- The idle bare prefixes after one more record, and what is reported of the prefixes.
-use Rattle.dump_survey.proofs.Prelude.{◌≡◌, ℕ, Bool, true, false, not, ◌&&◌, ◌||◌, List, [], ◌∷◌, ◌++◌, map, Option, Some, None, option_map, bytes_eq, refl, sym, ap, ap₂, ◌∙◌, append_assoc, if◌then◌else◌, and-true, or-false, list_any, cons_option, or_left, or_right, map-append, list_any-append, bytes_eq-Decides, DumpRecord, bare_prefix, bare_path, begins_path, is_node, is_copy, node_path, copy_path, makes_copy, PrefixFinding, NotShort, Idle, ReportedPrefix, PrefixReport, is_short_prefix, prefix_view, reported_of_prefix, reported_prefixes, HaveSame, is_among, AreWithout, is_begun_by, is_below_copy, is_touched_by, AreIdle, reported_by, prefixes_by}
+use Rattle.dump_survey.proofs.Prelude.{◌≡◌, ℕ, Bool, true, false, not, ◌&&◌, ◌||◌, List, [], ◌∷◌, ◌++◌, map, Option, Some, None, option_map, bytes_eq, refl, sym, ap, ap₂, ◌∙◌, append_assoc, if◌then◌else◌, and-true, or-false, list_any, cons_option, or_left, or_right, map-append, list_any-append, bytes_eq-Decides, DumpRecord, bare_prefix, bare_path, begins_path, is_node, is_copy, node_path, copy_path, makes_copy, PrefixFinding, NotCanonical, Idle, ReportedPrefix, PrefixReport, is_short_prefix, prefix_view, reported_of_prefix, reported_prefixes, HaveSame, is_among, AreWithout, is_begun_by, is_below_copy, is_touched_by, AreIdle, reported_by, prefixes_by}
 
 -- a set of texts, text by text
 
@@ -101,7 +101,7 @@ module _ (records : List DumpRecord) (prefixes idle : List (List ℕ)) (are : Ar
       → reported_by idle prefix ≡ reported_of_prefix records prefix
   reported_of_each prefix here =
       ap (λ b. option_map (λ (f : PrefixFinding). reported f)
-      (if is_short_prefix prefix then (if b then Some Idle else None) else Some NotShort))
+      (if is_short_prefix prefix then (if b then Some Idle else None) else Some NotCanonical))
       (are (bare_prefix prefix) ∙ ap (λ b. b && not (list_any (λ r. is_touched_by r (bare_prefix prefix)) records)) here)
     where
       reported : PrefixFinding → PrefixReport

@@ -16,8 +16,8 @@ at_place findings.MissingMergeRevision = refl
 at_place findings.PropertiesLost = refl
 at_place findings.CopyLoses = refl
 at_place findings.CopyLetsIn = refl
-at_place findings.FolderTakes = refl
-at_place findings.FolderBrings = refl
+at_place findings.IncludedStays = refl
+at_place findings.IncludedMissing = refl
 at_place findings.TextComesIn = refl
 
 pub same_place : (f g : Finding) → (finding_place g == finding_place f) ≡ true → g ≡ f
@@ -39,8 +39,8 @@ once findings.MissingMergeRevision = refl
 once findings.PropertiesLost = refl
 once findings.CopyLoses = refl
 once findings.CopyLetsIn = refl
-once findings.FolderTakes = refl
-once findings.FolderBrings = refl
+once findings.IncludedStays = refl
+once findings.IncludedMissing = refl
 once findings.TextComesIn = refl
 
 -- an element that is put in front if a test passes adds one to the length if it does

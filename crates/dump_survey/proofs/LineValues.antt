@@ -48,7 +48,7 @@ unfolding node_line shown_path shown_byte shown_control source_text finding_row 
 copy_that_is_cut = refl
 
 -- a line that doesn't name the copy source
-deleted_directory : node_line (reported findings.FolderTakes None)
+deleted_directory : node_line (reported findings.IncludedStays None)
     ≡ codes "r12: /tags/1.0: this excluded directory is deleted: what is included below it may stay (record 38, byte 66371)\n"
 unfolding node_line shown_path shown_byte shown_control finding_row cut_words fault_and_place place_text digits
 deleted_directory = refl

@@ -8,8 +8,8 @@ no_losses = record {
   properties_lost = false;
   copy_loses = None;
   copy_lets_in = None;
-  folder_takes = false;
-  folder_brings = false;
+  included_stays = false;
+  included_missing = false;
   text_comes_in = false;
 }
 
@@ -23,8 +23,8 @@ module _ (settings : Settings) (r : DumpRecord) (kept : has_kept_path settings r
     loses_by = λ none. cc;
     copy_lets_in = rw (kept, copy, and-false (makes r)) refl;
     lets_in_by = λ none. cc;
-    folder_takes = rw kept refl;
-    folder_brings = rw kept refl;
+    included_stays = rw kept refl;
+    included_missing = rw kept refl;
     text_comes_in = rw (kept, copy, and-false (is_exclude settings.side && true && makes r)) refl;
   }
 
@@ -34,8 +34,8 @@ module _ (settings : Settings) (r : DumpRecord) (kept : has_kept_path settings r
     properties_lost = makes r && not (has_header property_length_name r.headers);
     copy_loses = None;
     copy_lets_in = None;
-    folder_takes = false;
-    folder_brings = false;
+    included_stays = false;
+    included_missing = false;
     text_comes_in = is_exclude settings.side && makes r && is_whole_file r;
   })
   lost_losses copy lost = record {
@@ -45,7 +45,7 @@ module _ (settings : Settings) (r : DumpRecord) (kept : has_kept_path settings r
     loses_by = λ none. cc;
     copy_lets_in = rw (kept, copy, lost, and-true (makes r), and-false (makes r)) refl;
     lets_in_by = λ none. cc;
-    folder_takes = rw kept refl;
-    folder_brings = rw kept refl;
+    included_stays = rw kept refl;
+    included_missing = rw kept refl;
     text_comes_in = rw (kept, copy, lost, and-true (is_exclude settings.side)) refl;
   }

@@ -34,8 +34,8 @@ module _ (settings : Settings) (r : DumpRecord) (ps : Option (List Property)) (m
   found_named findings.CopyLetsIn is = cut_there settings (node_path r) (copy_path r)
       ∙ last_holds (has_kept_path settings r) (makes_copy r) (has_kept_source settings r)
       (cuts settings (node_path r) (copy_path r)) is
-  found_named findings.FolderTakes is = refl
-  found_named findings.FolderBrings is = refl
+  found_named findings.IncludedStays is = refl
+  found_named findings.IncludedMissing is = refl
   found_named findings.TextComesIn is = refl
 
   all_named : (number revision : ℕ) (fs : List Finding)

@@ -1,5 +1,5 @@
 -- What copies need, record by record, and the prefixes to add.
-use Rattle.dump_survey.proofs.Prelude.{◌≡◌, ℕ, ◌+◌, ◌-◌, ◌≤◌, ◌<◌, Bool, true, false, not, ◌&&◌, ◌||◌, List, [], ◌∷◌, ◌++◌, length, map, take, get_or, reverse, Option, Some, None, option_map, bytes_eq, Bor, Vec, Global, Result, Ok, Err, cond, refl, sym, ap, ap₂, ◌∙◌, subst, arith, append-nil, append_assoc, list_any, filter_map, cons_option, IsPermutation, list_any-IsPermutation, any_mapped, or_from, and_parts, and_from, take-length, map-append, take_more, reverse-append, reverse-reverse, list_any-append, filter_map-append, DumpRecord, Ending, HasRecords, bare_prefix, bare_path, begins_path, matches_path, BeginSame, Side, Include, Exclude, Settings, side_keeps, is_node, is_copy, node_path, is_whole_file, copy_path, Memory, CopyNeed, with_prefixes, stops_at, wanted_path, matches_itself, is_wanted, AreWanted, covers, uncovered, are_apart, stops_somewhere, ArePrefixesToAdd, ArePrefixesToAddIn, HasCollected, NeedCollector, PathNeed, need_view, need_of, needs_of, can_not_stand, copy_need, is_matched, is_unmet, AreNeeded, each_matches_itself}
+use Rattle.dump_survey.proofs.Prelude.{◌≡◌, ℕ, ◌+◌, ◌-◌, ◌≤◌, ◌<◌, Bool, true, false, not, ◌&&◌, ◌||◌, List, [], ◌∷◌, ◌++◌, length, map, take, get_or, reverse, Option, Some, None, option_map, bytes_eq, Bor, Vec, Global, Result, Ok, Err, cond, refl, sym, ap, ap₂, ◌∙◌, subst, arith, append-nil, append_assoc, list_any, filter_map, cons_option, IsPermutation, list_any-IsPermutation, any_mapped, or_from, and_parts, and_from, take-length, map-append, take_more, reverse-append, reverse-reverse, list_any-append, filter_map-append, DumpRecord, Ending, HasRecords, bare_prefix, bare_path, begins_path, matches_path, BeginSame, Side, Include, Exclude, Settings, side_keeps, is_node, is_copy, node_path, is_whole_file, copy_path, Memory, CopyNeed, with_prefixes, stops_at, wanted_path, matches_itself, is_wanted, AreWanted, covers, uncovered, are_apart, stops_somewhere, ArePrefixesToAdd, ArePrefixesToAddIn, HasCollected, NeedCollector, PathNeed, need_view, need_of, needs_of, needs_source, copy_need, is_matched, is_unmet, AreNeeded, each_matches_itself}
 use Rattle.std.proofs.Common.{unwrap_or}
 use Rattle.std.specs.Result.{IfOk}
 use Rattle.dump_survey.proofs.GrowingPrefixLemmas.{any_both, needs_path, uncovered_same, uncovered_apart}
@@ -13,13 +13,13 @@ pub needs_more : (first old now : NeedCollector) (before : List DumpRecord) (r :
     ≡ map need_view old.needs.items ++ filter_map (λ (n : Option PathNeed). n) (need ∷ [])
     → HasCollected first (before ++ r ∷ []) now
 needs_more first old now before r need so_far side is are = record {
-  none = so_far.none;
   side = side ∙ so_far.side;
   needs = are
       ∙ ap₂ (λ some others. some ++ others) so_far.needs
       (ap (λ (n : Option PathNeed). filter_map (λ (m : Option PathNeed). m) (n ∷ []))
       (is ∙ ap (λ s. need_of s r) so_far.side))
-      ∙ sym (filter_map-append (need_of first.side) before (r ∷ []));
+      ∙ append_assoc (map need_view first.needs.items) (needs_of first.side before) (needs_of first.side (r ∷ []))
+      ∙ ap (λ needs. map need_view first.needs.items ++ needs) (sym (filter_map-append (need_of first.side) before (r ∷ [])));
 }
 
 -- from the last path to the first
@@ -175,7 +175,7 @@ and_swapped false false = refl
 
 -- the filter stops at a copy exactly if the copy's need isn't met
 open_stops : (side : Side) (prefixes : List (List ℕ)) (r : DumpRecord)
-    → ((can_not_stand r && matches_itself (wanted_path side r)) && is_unmet prefixes (copy_need side r))
+    → ((needs_source r && matches_itself (wanted_path side r)) && is_unmet prefixes (copy_need side r))
     ≡ ((is_node r && ((side_keeps side (is_matched prefixes (node_path r))
     && (is_copy r && not (side_keeps side (is_matched prefixes (copy_path r))))) && not (is_whole_file r)))
     && matches_itself (wanted_path side r))
@@ -183,7 +183,7 @@ open_stops Include prefixes r =
     parts_of_stop (is_node r) (is_copy r) (not (is_whole_file r)) (matches_itself (copy_path r))
     (is_matched prefixes (node_path r)) (not (is_matched prefixes (copy_path r)))
 open_stops Exclude prefixes r =
-    ap (λ b. (can_not_stand r && matches_itself (node_path r)) && b)
+    ap (λ b. (needs_source r && matches_itself (node_path r)) && b)
     (and_swapped (is_matched prefixes (copy_path r)) (is_matched prefixes (node_path r)))
     ∙ parts_of_stop (is_node r) (is_copy r) (not (is_whole_file r)) (matches_itself (node_path r))
     (not (is_matched prefixes (node_path r))) (not (not (is_matched prefixes (copy_path r))))
@@ -194,7 +194,7 @@ none_stops : (settings : Settings) (records : List DumpRecord)
 none_stops settings records =
     any_filtered (is_unmet settings.prefixes) (need_of settings.side) records
     ∙ any_same _ (λ r. stops_at settings r && matches_itself (wanted_path settings.side r))
-    (λ r. some_where (can_not_stand r && matches_itself (wanted_path settings.side r)) (copy_need settings.side r)
+    (λ r. some_where (needs_source r && matches_itself (wanted_path settings.side r)) (copy_need settings.side r)
     (is_unmet settings.prefixes) ∙ open_stops settings.side settings.prefixes r) records
 
 -- the path that an unmet need wants is a wanted path
@@ -210,7 +210,7 @@ need_wanted settings records path some =
         → unwrap_or (option_map (λ (n : PathNeed). is_unmet settings.prefixes n && bytes_eq n.wanted path)
         (need_of settings.side r)) false ≡ true → (stops_at settings r && bytes_eq (wanted_path settings.side r) path) ≡ true
     each r found =
-        let can = can_not_stand r && matches_itself (wanted_path settings.side r) in
+        let can = needs_source r && matches_itself (wanted_path settings.side r) in
         let here = is_unmet settings.prefixes (copy_need settings.side r) in
         let same = bytes_eq (wanted_path settings.side r) path in
         let parts = and_parts can (here && same) (sym (some_where can (copy_need settings.side r)
@@ -238,9 +238,9 @@ needs_match side records needs same =
         → list_any (λ r. unwrap_or (option_map (λ (n : PathNeed). not (matches_itself n.wanted)) (need_of side r)) false) rs ≡ false
     none_of [] = refl
     none_of (r ∷ rs) = or_from _ _
-        (some_where (can_not_stand r && matches_itself (wanted_path side r)) (copy_need side r)
+        (some_where (needs_source r && matches_itself (wanted_path side r)) (copy_need side r)
         (λ (n : PathNeed). not (matches_itself n.wanted))
-        ∙ by (can_not_stand r) (matches_itself (wanted_path side r))) (none_of rs)
+        ∙ by (needs_source r) (matches_itself (wanted_path side r))) (none_of rs)
 
 -- so each needed path is a wanted path
 all_wanted : (settings : Settings) (records : List DumpRecord) (needs : List PathNeed)

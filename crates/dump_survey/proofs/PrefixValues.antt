@@ -1,5 +1,5 @@
 -- Examples of findings in prefixes; the checker computes and proves them.
-use Rattle.dump_survey.proofs.Prelude.{◌≡◌, ℕ, List, [], ◌∷◌, Some, None, refl, codes, DumpRecord, NotShort, Idle, prefix_finding, reported_prefixes, line, record_at, records, version, one}
+use Rattle.dump_survey.proofs.Prelude.{◌≡◌, ℕ, List, [], ◌∷◌, Some, None, refl, codes, DumpRecord, NotCanonical, Idle, prefix_finding, reported_prefixes, line, record_at, records, version, one}
 use Rattle.dump_history.proofs.values.WorkedDump.{zero}
 
 -- a dump with one node: a directory with this path and action that is a copy of a path that no node has
@@ -74,7 +74,7 @@ copy_of_the_root_path = refl
 copy_of_a_slash : prefix_finding (copied_to (codes "/") (codes "add")) (codes "x") ≡ None
 copy_of_a_slash = refl
 
-in_no_short_form : prefix_finding copied (codes "tag//x") ≡ Some NotShort
+in_no_short_form : prefix_finding copied (codes "tag//x") ≡ Some NotCanonical
 in_no_short_form = refl
 
 -- slashes at the ends don't matter, and the root is above each node
@@ -90,10 +90,10 @@ root_of_no_node = refl
 
 -- only the form is reported
 
-two_slashes : prefix_finding records (codes "trunk//b") ≡ Some NotShort
+two_slashes : prefix_finding records (codes "trunk//b") ≡ Some NotCanonical
 two_slashes = refl
 
-dot_first : prefix_finding records (codes "./trunk") ≡ Some NotShort
+dot_first : prefix_finding records (codes "./trunk") ≡ Some NotCanonical
 dot_first = refl
 
 two_dots : prefix_finding records (codes "trunk/../other") ≡ Some Idle
@@ -101,6 +101,6 @@ two_dots = refl
 
 -- each prefix has its own report, in order
 in_order : reported_prefixes records (codes "b" ∷ codes "trunk" ∷ codes "./a" ∷ codes "c" ∷ [])
-    ≡ record { prefix = codes "b"; finding = Idle } ∷ record { prefix = codes "./a"; finding = NotShort }
+    ≡ record { prefix = codes "b"; finding = Idle } ∷ record { prefix = codes "./a"; finding = NotCanonical }
     ∷ record { prefix = codes "c"; finding = Idle } ∷ []
 in_order = refl

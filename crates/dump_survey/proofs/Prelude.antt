@@ -95,9 +95,9 @@ pub use Rattle.dump_survey.specs.RevisionMap.{map_lines}
 pub use Rattle.dump_survey.specs.SurveyEnds.{survey_ending}
 pub use Rattle.dump_survey.specs.SurveyText.{BreaksOffSurvey, FindsNothing, IsSurveyText, survey_lines}
 pub use Rattle.dump_survey.specs.SurveyTies.{EachCutNamesPrefix, SilentSurveyRestricts, SilentTextLeavesDigests, SilentTextRestricts, ReportsAreFindings, ReportedOnce, all_findings, is_digest_fault, none_reported, tells_cut}
-pub use Rattle.dump_survey.specs.Reported.{AreReported, IsReportedOf, IsReportedOfNode, NodeReport, present_after, reported_in, reported_naming, reported_view}
+pub use Rattle.dump_survey.specs.Reported.{AreReported, IsReportedOf, IsReportedOfNode, NodeReport, present_after, reported_in, report_with_prefix, reported_view}
 pub use Rattle.dump_survey.specs.steps.Counts.{AreWithNode, count_in}
-pub use Rattle.dump_survey.specs.steps.Directories.{BeginSame, HaveSame}
+pub use Rattle.dump_survey.specs.steps.SameTexts.{BeginSame, HaveSame}
 pub use Rattle.dump_survey.specs.steps.Found.{AreFaultsBy, IsFoundIn, has_found, listed, node_faults}
 pub use Rattle.dump_survey.specs.steps.IdlePrefixes.{AreIdle, AreWithout, is_among, is_begun_by, is_below_copy, is_touched_by, prefixes_by, reported_by}
 pub use Rattle.dump_survey.specs.steps.KeptNumbers.{AreKeptIn, HasKept, ended_numbers, kept_by, kept_view, numbers_before}
@@ -105,7 +105,7 @@ pub use Rattle.dump_survey.specs.steps.Visits.{IsVisitedAfter}
 pub use Rattle.dump_survey.specs.steps.OmittedCounts.{HasCounted, properties_count, property_count, text_lines_count, value_count}
 pub use Rattle.dump_survey.specs.steps.Losses.{AreLossesOf}
 pub use Rattle.dump_survey.specs.steps.NamedRevisions.{LeaveNumber, is_behind_dropped, leave_number, leaves_number}
-pub use Rattle.dump_survey.specs.steps.CopyNeeds.{AreNeeded, Grown, HasCollected, IsPass, PathNeed, can_not_stand, copy_need, each_matches_itself, grown_prefixes, is_matched, is_unmet, need_of, need_view, needs_of, unmatched}
+pub use Rattle.dump_survey.specs.steps.CopyNeeds.{AreNeeded, Grown, HasCollected, IsPass, PathNeed, needs_source, copy_need, each_matches_itself, grown_prefixes, is_matched, is_unmet, need_of, need_view, needs_of, unmatched}
 pub use Rattle.dump_survey.specs.steps.Places.{AreNextPlaces, first_place, no_places}
 pub use Rattle.dump_survey.specs.steps.Prefixes.{IsRestBelow, behind_slash, cuts_below, is_below}
 pub use Rattle.dump_survey.specs.steps.RevisionNumbers.{AreNumbersBehind, is_missing, is_up_to, misses_revision}
@@ -146,7 +146,7 @@ pub use Rattle.dump_survey.specs.declared.advice.copy_needs.CopyNeed.{CopyNeed}
 pub use Rattle.dump_survey.specs.declared.findings.places.DumpPlaces.{DumpPlaces}
 pub use Rattle.dump_survey.specs.declared.findings.places.Place.{Place}
 pub use Rattle.dump_survey.specs.declared.findings.prefix_findings.PrefixFinding.{PrefixFinding}
-pub use Rattle.dump_survey.specs.declared.findings.prefix_findings.PrefixFinding.TheVariants.{Idle, NotShort}
+pub use Rattle.dump_survey.specs.declared.findings.prefix_findings.PrefixFinding.TheVariants.{Idle, NotCanonical}
 pub use Rattle.dump_survey.specs.declared.findings.prefix_findings.ReportedPrefix.{ReportedPrefix}
 pub use Rattle.dump_survey.specs.declared.findings.revision_numbers.Numbers.{Numbers}
 pub use Rattle.dump_survey.specs.declared.findings.surveyor.End.{End}

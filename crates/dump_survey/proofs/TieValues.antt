@@ -59,7 +59,7 @@ no_alarm = refl
 an_obstacle : none_reported is_obstacle (report findings.NoWholeFile ∷ report findings.Delta ∷ []) ≡ false
 an_obstacle = refl
 
-an_alarm : none_reported is_alarm (report findings.FolderTakes ∷ stops) ≡ false
+an_alarm : none_reported is_alarm (report findings.IncludedStays ∷ stops) ≡ false
 an_alarm = refl
 
 nothing : none_reported is_alarm [] ≡ true

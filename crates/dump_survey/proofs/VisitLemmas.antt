@@ -1,5 +1,5 @@
 -- One pass over the records of a dump.
-use Rattle.dump_survey.proofs.Prelude.{◌≡◌, ℕ, ◌+◌, ◌-◌, ◌<◌, ◌∷◌, ◌++◌, [], List, sym, ap, ◌∙◌, subst, arith, length, length-append, Record, DumpRecord, Ending, BeginsWithRecords, HasRecords, CutterState, EndsAfter, CutStep, record_item, whole_list, IsVisitedAfter}
+use Rattle.dump_survey.proofs.Prelude.{◌≡◌, ℕ, ◌+◌, ◌-◌, ◌<◌, ◌∷◌, ◌++◌, [], List, refl, sym, ap, ◌∙◌, subst, arith, length, length-append, Record, DumpRecord, Cut, Ending, BeginsWithRecords, HasRecords, CutterState, EndsAfter, CutStep, record_item, whole_list, IsVisitedAfter}
 use Rattle.dump_records.specs.declared.cutter.Cut.TheVariants as cuts
 use Rattle.dump_survey.proofs.SurveyorLemmas.{begins_next, begins_with_none, nearer_by_one}
 
@@ -58,9 +58,9 @@ module _ {V : Type 0} (has_visited : V → List DumpRecord → V → Type 0) (du
       }
 
     -- when the records end, the visitor was given all of them
-    pub all_visited : (ending : Ending) → EndsAfter cutter.dump cutter.number ending
+    given_all : (ending : Ending) → EndsAfter cutter.dump cutter.number ending
         → (records : List DumpRecord) × (end : Ending) × HasRecords dump records end × has_visited first records now
-    all_visited ending ends = (
+    given_all ending ends = (
       so_far.before,
       ending,
       whole_list dump so_far.before ending so_far.begins
@@ -68,3 +68,10 @@ module _ {V : Type 0} (has_visited : V → List DumpRecord → V → Type 0) (du
           (subst (λ n. EndsAfter cutter.dump n ending) (sym so_far.count) ends)),
       so_far.visited,
     )
+
+    pub all_visited : (cut : Cut) (after : CutterState) → CutStep cutter cut after
+        → ((item : Record) → cut ≡ cuts.Item item → ⊥)
+        → (records : List DumpRecord) × (end : Ending) × HasRecords dump records end × has_visited first records now
+    all_visited (cuts.Item item) after step other = absurd (other item refl)
+    all_visited cuts.Finished after step other = given_all Ending.Whole step.0
+    all_visited (cuts.Fault kind place) after step other = given_all (Ending.Broken kind place) step.0

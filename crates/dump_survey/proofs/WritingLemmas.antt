@@ -1,5 +1,5 @@
 -- What a sink has taken of a survey so far, and what it takes next.
-use Rattle.dump_survey.proofs.Prelude.{◌≡◌, ◌≤◌, ℕ, ◌+◌, Bool, true, false, not, ◌||◌, ◌==◌, List, [], ◌∷◌, ◌++◌, length, map, flat_map, Option, refl, sym, ap, ap₂, ◌∙◌, subst, append_assoc, append-nil, arith, Result, Ok, Err, OnErr, list_any, or-false, ne_eqb, Appends, Appends-nil, Appends-trans, flat_map-append, Ending, Settings, Finding, every_finding, DumpFinding, each_dump_has_one_list, begins_prefix, IsPrefixOf, Counts, NotShort, Idle, Node, Finished, SurveyEnd, SurveyedNode, listed_findings, reported_at_end, ending_kind_line, finding_row, kind_line, kind_lines, prefix_kind, times_in_prefixes, times_reported, dump_line, PrefixReport, reported_prefixes, prefix_lines, survey_ending, IsSurveyText, BreaksOffSurvey, NodeReport, AreWithNode, count_in, has_found, SurveyStep, reported_of_finding, reported_of_node, Surveying, TakesSome}
+use Rattle.dump_survey.proofs.Prelude.{◌≡◌, ◌≤◌, ℕ, ◌+◌, Bool, true, false, not, ◌||◌, ◌==◌, List, [], ◌∷◌, ◌++◌, length, map, flat_map, Option, refl, sym, ap, ap₂, ◌∙◌, subst, append_assoc, append-nil, arith, Result, Ok, Err, OnErr, list_any, or-false, ne_eqb, Appends, Appends-nil, Appends-trans, flat_map-append, Ending, Settings, Finding, every_finding, DumpFinding, each_dump_has_one_list, begins_prefix, IsPrefixOf, Counts, NotCanonical, Idle, Node, Finished, SurveyEnd, SurveyedNode, listed_findings, reported_at_end, ending_kind_line, finding_row, kind_line, kind_lines, prefix_kind, times_in_prefixes, times_reported, dump_line, PrefixReport, reported_prefixes, prefix_lines, survey_ending, IsSurveyText, BreaksOffSurvey, NodeReport, AreWithNode, count_in, has_found, SurveyStep, reported_of_finding, reported_of_node, Surveying, TakesSome}
 use Rattle.dump_survey.specs.declared.findings.surveyor.Step.TheVariants.{Other}
 use Rattle.dump_survey.specs.Kinds.{dump_kind_line}
 use Rattle.dump_survey.specs.Lines.{node_line, ending_line}
@@ -11,7 +11,7 @@ use Rattle.dump_survey.proofs.SurveyTextLemmas.{begins_text}
 -- the lines of all kinds except those of nodes
 abbrev kinds_behind : List DumpFinding → List PrefixReport → Ending → List ℕ
 kinds_behind found prefixes ending = flat_map dump_kind_line found
-    ++ (kind_line (times_in_prefixes prefixes NotShort) (prefix_kind NotShort)
+    ++ (kind_line (times_in_prefixes prefixes NotCanonical) (prefix_kind NotCanonical)
     ++ (kind_line (times_in_prefixes prefixes Idle) (prefix_kind Idle) ++ ending_kind_line ending))
 
 -- whether a text isn't empty

@@ -131,7 +131,7 @@ finding_row findings.CopyLetsIn = record {
     advice = codes "exclude these paths below the source too";
   };
 }
-finding_row findings.FolderTakes = record {
+finding_row findings.IncludedStays = record {
   words = codes "this excluded directory is deleted: what is included below it may stay";
   states_source = false;
   kind = record {
@@ -140,7 +140,7 @@ finding_row findings.FolderTakes = record {
     advice = codes "include the directory, or delete what stays after the load";
   };
 }
-finding_row findings.FolderBrings = record {
+finding_row findings.IncludedMissing = record {
   words = codes "this copy of a directory is excluded: what is included below it may be missing";
   states_source = true;
   kind = record {

@@ -4,7 +4,7 @@ use Rattle.std.specs.List.{concat}
 use Rattle.dump_records.specs.DumpText.{Ending}
 use Rattle.dump_history.specs.Findings.{every_finding}
 use Rattle.dump_survey.specs.declared.findings.prefix_findings.PrefixFinding.{PrefixFinding}
-use Rattle.dump_survey.specs.declared.findings.prefix_findings.PrefixFinding.TheVariants.{NotShort, Idle}
+use Rattle.dump_survey.specs.declared.findings.prefix_findings.PrefixFinding.TheVariants.{NotCanonical, Idle}
 use Rattle.dump_survey.specs.FindingRows.{KindText, finding_row, dump_row}
 use Rattle.dump_survey.specs.Lines.{fault_and_place}
 use Rattle.dump_survey.specs.PrefixFindings.{PrefixReport}
@@ -27,8 +27,8 @@ finding_place findings.MissingMergeRevision = 8
 finding_place findings.PropertiesLost = 9
 finding_place findings.CopyLoses = 10
 finding_place findings.CopyLetsIn = 11
-finding_place findings.FolderTakes = 12
-finding_place findings.FolderBrings = 13
+finding_place findings.IncludedStays = 12
+finding_place findings.IncludedMissing = 13
 finding_place findings.TextComesIn = 14
 
 -- how often the finding is reported
@@ -37,7 +37,7 @@ times_reported reported finding = length (filter (λ (t : NodeReport). finding_p
 
 -- the index of a finding in the list of all findings in prefixes
 abbrev pub prefix_place : PrefixFinding → ℕ
-prefix_place NotShort = 0
+prefix_place NotCanonical = 0
 prefix_place Idle = 1
 
 abbrev pub times_in_prefixes : List PrefixReport → PrefixFinding → ℕ
@@ -55,7 +55,7 @@ dump_kind_line f = kind_line 1 (dump_row f).kind
 
 -- the parts of the line of a finding in prefixes
 unfoldable pub prefix_kind : PrefixFinding → KindText
-prefix_kind NotShort = record {
+prefix_kind NotCanonical = record {
   what = codes "prefixes that are not in canonical form";
   fault = None;
   advice = codes "write them without empty names and without single dots";
@@ -84,5 +84,5 @@ ending_kind_line (Ending.Broken _ _) = kind_line 1 broken_kind
 abbrev pub kind_lines : (Finding → ℕ) → List DumpFinding → List PrefixReport → Ending → List ℕ
 kind_lines times found prefixes ending = flat_map (λ f. kind_line (times f) (finding_row f).kind) every_finding
     ++ (flat_map dump_kind_line found
-    ++ (kind_line (times_in_prefixes prefixes NotShort) (prefix_kind NotShort)
+    ++ (kind_line (times_in_prefixes prefixes NotCanonical) (prefix_kind NotCanonical)
     ++ (kind_line (times_in_prefixes prefixes Idle) (prefix_kind Idle) ++ ending_kind_line ending)))

@@ -8,7 +8,7 @@ use Rattle.dump_trees.specs.Paths.{is_short}
 use Rattle.dump_history.specs.RecordChanges.{copy_path}
 use Rattle.dump_history.specs.Findings.{makes_copy}
 use Rattle.dump_survey.specs.declared.findings.prefix_findings.PrefixFinding.{PrefixFinding}
-use Rattle.dump_survey.specs.declared.findings.prefix_findings.PrefixFinding.TheVariants.{NotShort, Idle}
+use Rattle.dump_survey.specs.declared.findings.prefix_findings.PrefixFinding.TheVariants.{NotCanonical, Idle}
 use Rattle.dump_survey.specs.declared.findings.prefix_findings.ReportedPrefix.{ReportedPrefix}
 
 -- whether the prefix is canonical, as `svnadmin load` makes paths canonical: after the slashes at both ends are
@@ -33,7 +33,7 @@ is_idle records prefix = not (list_any (λ r. is_matched_by prefix r || is_in_co
 -- the finding in the prefix, if there is one; for a prefix that isn't canonical, no other finding is reported
 abbrev pub prefix_finding : List DumpRecord → List ℕ → Option PrefixFinding
 prefix_finding records prefix =
-    if is_short_prefix prefix then (if is_idle records prefix then Some Idle else None) else Some NotShort
+    if is_short_prefix prefix then (if is_idle records prefix then Some Idle else None) else Some NotCanonical
 
 -- a prefix as the caller gave it, and the finding in it
 pub record PrefixReport : Type 0 where

@@ -37,8 +37,8 @@ reported_view t = record {
 }
 
 -- the report of a finding in the node with this number, in this revision, with this prefix
-abbrev pub reported_naming : Option (List ℕ) → ℕ → ℕ → DumpRecord → Finding → NodeReport
-reported_naming prefix number revision r finding = record {
+abbrev pub report_with_prefix : Option (List ℕ) → ℕ → ℕ → DumpRecord → Finding → NodeReport
+report_with_prefix prefix number revision r finding = record {
   finding = finding;
   number = number;
   place = r.place;
@@ -52,7 +52,7 @@ reported_naming prefix number revision r finding = record {
 -- the report of a finding in the node with this number, in this revision
 abbrev pub reported_in : Settings → ℕ → ℕ → DumpRecord → Finding → NodeReport
 reported_in settings number revision r finding =
-    reported_naming (cutting_prefix settings r finding) number revision r finding
+    report_with_prefix (cutting_prefix settings r finding) number revision r finding
 
 -- the revision that the next record belongs to if it is a node: after a revision that revision, and after a node the
 -- node's revision

@@ -1,6 +1,5 @@
 pub mod CopyNeeds
 pub mod Counts
-pub mod Directories
 pub mod Found
 pub mod IdlePrefixes
 pub mod KeptNumbers
@@ -11,6 +10,7 @@ pub mod OmittedCounts
 pub mod Places
 pub mod Prefixes
 pub mod RevisionNumbers
+pub mod SameTexts
 pub mod Steps
 pub mod Surveyed
 pub mod Surveying

@@ -61,7 +61,7 @@ mod visitor;
 pub use advice::added_prefixes::prefixes_to_add;
 pub use advice::omitted_mergeinfo::omitted_lines;
 pub use advice::parents::parents_to_create;
-pub use dump_history::{DumpFinding, EVERY_FINDING, Finding};
+pub use dump_history::{DumpFinding, Finding, every_finding};
 pub use dump_rules::Memory;
 pub use findings::node_finding::Found;
 pub use findings::places::{DumpPlaces, Place};

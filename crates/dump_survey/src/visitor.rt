@@ -7,12 +7,12 @@ ghost use Rattle.dump_survey.specs.steps.Visits.{IsVisitedAfter};
 
 use dump_records::{Cut, Cutter, Record};
 
-/// Collects something from the records of a dump.
+/// What is made of the records of a dump, one after the other.
 pub(crate) trait RecordVisitor<'a> {
     /// Why it stops before the last record.
     type Error: Drop;
 
-    /// By these records of a dump the first value becomes the second one.
+    /// The first value becomes the second one if it is given these records.
     ghost has_visited: { Self → List DumpRecord → Self → Type 0 };
 
     /// Takes the next record.
@@ -32,11 +32,8 @@ pub(crate) fn visit_records<'a, V: RecordVisitor<'a>>(
         × V.has_visited visitor.old records visitor.new) }
 {
     let mut cutter = Cutter::new(dump);
-    loop {
-        match cutter.next() {
-            Cut::Item(item) => visitor.visit(&item)?,
-            Cut::Finished => return Ok(()),
-            Cut::Fault { .. } => return Ok(()),
-        }
+    while let Cut::Item(item) = cutter.next() {
+        visitor.visit(&item)?;
     }
+    Ok(())
 }

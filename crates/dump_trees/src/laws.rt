@@ -184,15 +184,15 @@ pub fn siblings_are_ever_found()
     ensures copied { CopiedPathsExist }
 {}
 
-/// In each loaded tree the nodes are in directories, and have names of nodes if the paths of the changes have. A path
-/// in short form has names of nodes.
+/// In each loaded tree the nodes are in directories, and have names of nodes if the paths of the changes have. A canonical
+/// path has names of nodes.
 pub fn loaded_trees_have_names()
     ensures folders { LoadedTreesHaveFolders }
     ensures names { LoadedTreesHaveNames }
     ensures short { ShortPathsHaveNames }
 {}
 
-/// A prefix names the path that a load reads from it. This path has names of nodes. A prefix in short form names the
+/// A prefix names the path that a load reads from it. This path has names of nodes. A canonical prefix names the
 /// path of its text.
 pub fn prefixes_are_canonical()
     ensures have { CanonicalPathsHaveNames }

@@ -3,7 +3,7 @@ use Rattle.std.specs.Prelude.{ℕ, Bool, true, false, not, ◌&&◌, List, [], �
 use Rattle.dump_text.specs.PropertyList.{Property}
 use Rattle.dump_records.specs.RecordText.{DumpRecord}
 use Rattle.dump_trees.specs.Changes.{Change}
-use Rattle.dump_history.specs.RecordChanges.{Patching, MakesChange, has_known_action, has_odd_delta, has_plain_texts}
+use Rattle.dump_history.specs.RecordChanges.{Patching, MakesChange, has_known_action, has_undefined_delta, loads_as_written}
 use Rattle.dump_index.specs.Listed.{Listed}
 use Rattle.dump_index.specs.IndexLaws.{IsListed}
 
@@ -15,7 +15,7 @@ has_entry (p ∷ ps) = true
 -- whether the node, which has these properties, makes a change that is modelled
 abbrev pub is_told : DumpRecord → Option (List Property) → Bool
 is_told r ps =
-    is_some ps && (not (has_odd_delta r) && (has_known_action r && has_plain_texts r (unwrap_or ps [])))
+    is_some ps && (not (has_undefined_delta r) && (has_known_action r && loads_as_written r (unwrap_or ps [])))
 
 -- what an index says of a node of a revision: whatever text deltas make, the node makes a change of which this is said;
 -- or it makes none

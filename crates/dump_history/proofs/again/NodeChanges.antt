@@ -1,5 +1,5 @@
 -- What is written of a kept node, read again, makes the filtered change.
-use Rattle.dump_history.proofs.Prelude.{◌≡◌, Bool, true, not, ◌&&◌, ◌||◌, ◌==◌, refl, sym, ap, ◌∙◌, subst, bytes_eq, Option, None, is_some, unwrap_or, MatchBool, if◌then◌else◌, list_all, list_any, bytes_eq-Decides, action_name, node_kind_name, path_name, property_length_name, text_delta_name, prop_delta_name, has_byte, has_header, header_value, Property, first_true, second_true, both_true, not_true, absurd_bool, DumpRecord, has_prop_delta, has_text_delta, Settings, keeps_path, IsNewMergeinfo, KeptRevisions, is_mergeinfo, mergeinfo_name, value_of, is_node, is_copy, has_text, node_path, has_lost_source, property_list_once, AreNewProperties, IsNewProperty, is_whole_file, becomes_plain, IsWrittenCopyNumber, IsNodeAgain, IsReadAgain, path_of, is_short, keeps, Made, PropertyChange, TextChange, Change, KeepsEntries, edits_props, sets_whole_text, sets_whole, AreNewProps, IsNewMade, IsNewChange, keeps_text, Patching, has_known_action, deletes, makes, made_by_kind, copy_path, copied_from, made_of, property_change_of, text_change_of, has_odd_delta, change_of, is_plain_line, has_plain_texts, MakesChange}
+use Rattle.dump_history.proofs.Prelude.{◌≡◌, Bool, true, not, ◌&&◌, ◌||◌, ◌==◌, refl, sym, ap, ◌∙◌, subst, bytes_eq, Option, None, is_some, unwrap_or, MatchBool, if◌then◌else◌, list_all, list_any, bytes_eq-Decides, action_name, node_kind_name, path_name, property_length_name, text_delta_name, prop_delta_name, has_byte, has_header, header_value, Property, first_true, second_true, both_true, not_true, absurd_bool, DumpRecord, has_prop_delta, has_text_delta, Settings, keeps_path, IsNewMergeinfo, KeptRevisions, is_mergeinfo, mergeinfo_name, value_of, is_node, is_copy, has_text, node_path, has_lost_source, property_list_once, AreNewProperties, IsNewProperty, is_whole_file, becomes_plain, IsWrittenCopyNumber, IsNodeAgain, IsReadAgain, path_of, is_short, keeps, Made, PropertyChange, TextChange, Change, KeepsEntries, edits_props, sets_whole_text, sets_whole, AreNewProps, IsNewMade, IsNewChange, keeps_text, Patching, has_known_action, deletes, makes, made_by_kind, copy_path, copied_from, made_of, property_change_of, text_change_of, has_undefined_delta, change_of, is_plain_line, loads_as_written, MakesChange}
 use Rattle.std.proofs.Common.{ℕ, false, List, [], ◌∷◌, codes, Some}
 use Rattle.dump_history.proofs.again.NodeLines.{value_stays, text_there, props_there, plain_stays, HasNewSource, new_source, short_stays}
 
@@ -31,7 +31,7 @@ entries_kept settings kept old new is = (is.0, by_case (is_mergeinfo old) refl i
 
 -- whether the node makes a change
 abbrev pub makes_change : DumpRecord → Bool
-makes_change r = has_known_action r && not (has_odd_delta r)
+makes_change r = has_known_action r && not (has_undefined_delta r)
 
 -- the change of a node that makes one
 abbrev pub node_change : Patching → DumpRecord → List Property → Change
@@ -101,7 +101,7 @@ module _ (patched : Patching) (settings : Settings) (kept : KeptRevisions) (r s 
   same_by_kind = ap (λ o. if tells o (codes "dir") then Some Made.NewFolder
       else if tells o (codes "file") then Some Made.NewFile else None) kind
 
-  same_delta : has_odd_delta s ≡ has_odd_delta r
+  same_delta : has_undefined_delta s ≡ has_undefined_delta r
   same_delta = λ i. not (same_version i == 3)
       && (tells (value_stays settings kept r s a prop_delta_name refl i) (codes "true")
       || tells (value_stays settings kept r s a text_delta_name refl i) (codes "true"))
@@ -117,7 +117,7 @@ module _ (patched : Patching) (settings : Settings) (kept : KeptRevisions) (r s 
   still_makes : makes_change r ≡ true → makes_change s ≡ true
   still_makes is = rw (same_known, same_delta) is
 
-  still_plain : has_plain_texts r a.old ≡ true → has_plain_texts s a.new ≡ true
+  still_plain : loads_as_written r a.old ≡ true → loads_as_written s a.new ≡ true
   still_plain is =
       let lines = list_all is_plain_line r.headers in
       let names = list_all is_plain_property a.old in
@@ -256,7 +256,7 @@ module _ (patched : Patching) (settings : Settings) (kept : KeptRevisions) (r s 
       let made = change_is patched r a.old c (sym (ap (change_of patched r) same) ∙ is) in
       let again : change_of patched s a.new ≡ Some (node_change patched s a.new) = rw (still_makes made.0) refl in (
         node_change patched s a.new,
-        (a.new, a.new_list, still_plain (sym (ap (has_plain_texts r) same) ∙ plain), again),
+        (a.new, a.new_list, still_plain (sym (ap (loads_as_written r) same) ∙ plain), again),
         subst (λ (old : Change). IsNewChange settings (IsNewProperty settings kept)
             (IsWrittenCopyNumber settings kept) old (node_change patched s a.new)) made.1 new_node_change,
       )

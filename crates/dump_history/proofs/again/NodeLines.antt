@@ -149,7 +149,7 @@ module _ (settings : Settings) (kept : KeptRevisions) (r s : DumpRecord) (a : Is
           )
       by_plain false false is lines = late_has copy_path_name refl ∙ ap (has_header copy_path_name) lines ∙ is
 
-  -- the path of the copy source is still in short form
+  -- the path of the copy source is still canonical
   pub short_stays : is_short (copy_path r) ≡ true → is_short (copy_path s) ≡ true
   short_stays short = by_source (becomes_plain settings r) (is_copy r) new_source
     where

@@ -1,5 +1,5 @@
 -- What remains of a node, and the nodes before it: they are nodes, break no rule, and make their changes.
-use Rattle.dump_history.proofs.Prelude.{◌≡◌, ◌+◌, ◌==◌, Bool, true, not, ◌&&◌, ◌||◌, ◌++◌, length, refl, sym, ap, ◌∙◌, subst, lit<, if◌then◌else◌, list_all, list_any, bytes_eq, Option, None, is_some, unwrap_or, option_and_then, number_of, header_number, first_true, second_true, both_true, first_false, second_false, not_so, or-true, has_byte, has_header, header_value, has_value, path_name, action_name, property_length_name, text_length_name, content_length_name, prop_delta_name, text_delta_name, node_kind_name, copy_path_name, copy_revision_name, is_block, IsCutInto, property_length, text_length, BeginsWithRecord, DumpRecord, record_text, is_lawful, Property, HasPropertyList, is_node, is_revision_record, is_copy, node_path, copy_path, is_copy_line, gone, put_has, put_own, put_change, alone, is_short, path_of, Made, PropertyChange, TextChange, Change, Patching, MakesChange, change_of, made_of, makes, copied_from, made_by_kind, is_plain_line, has_plain_texts}
+use Rattle.dump_history.proofs.Prelude.{◌≡◌, ◌+◌, ◌==◌, Bool, true, not, ◌&&◌, ◌||◌, ◌++◌, length, refl, sym, ap, ◌∙◌, subst, lit<, if◌then◌else◌, list_all, list_any, bytes_eq, Option, None, is_some, unwrap_or, option_and_then, number_of, header_number, first_true, second_true, both_true, first_false, second_false, not_so, or-true, has_byte, has_header, header_value, has_value, path_name, action_name, property_length_name, text_length_name, content_length_name, prop_delta_name, text_delta_name, node_kind_name, copy_path_name, copy_revision_name, is_block, IsCutInto, property_length, text_length, BeginsWithRecord, DumpRecord, record_text, is_lawful, Property, HasPropertyList, is_node, is_revision_record, is_copy, node_path, copy_path, is_copy_line, gone, put_has, put_own, put_change, alone, is_short, path_of, Made, PropertyChange, TextChange, Change, Patching, MakesChange, change_of, made_of, makes, copied_from, made_by_kind, is_plain_line, loads_as_written}
 use Rattle.std.proofs.Common.{ℕ, false, List, [], ◌∷◌, Some, codes, is_none}
 use Rattle.std.proofs.Math.Bool.{and-false}
 use Rattle.dump_records.specs.HeaderRules.{has_bad_kind, has_bad_version, has_bad_number, has_bad_lengths, is_one_alone}
@@ -260,7 +260,7 @@ module _ (r s : DumpRecord) (touches : List ℕ → Bool) (change : IsChange tou
     pub new_plain : (ps : List Property)
         → (list_all is_plain_line r.headers ≡ true → list_all is_plain_line s.headers ≡ true)
         → (is_short (copy_path r) ≡ true → is_short (copy_path s) ≡ true)
-        → has_plain_texts r ps ≡ true → has_plain_texts s ps ≡ true
+        → loads_as_written r ps ≡ true → loads_as_written s ps ≡ true
     new_plain ps lines short is =
         let three = first_true (list_all is_plain_line r.headers && plain_names ps && is_short (node_path r))
         (is_short (copy_path r)) is in

@@ -1,5 +1,5 @@
 -- The nodes that are written in place of others are records of a dump, and make their changes.
-use Rattle.dump_history.proofs.Prelude.{◌≡◌, ◌+◌, ◌<◌, ◌^◌, ◌==◌, Bool, true, not, ◌&&◌, ◌++◌, length, Option, None, refl, sym, inl, arith, list_all, spelled_number, has_byte, Property, property_block_text, first_true, second_true, not_true, absurd_bool, number_of-spelled, equals_itself, subst, DumpRecord, record_text, is_lawful, BeginsWithRecord, HasPropertyList, is_short, Patching, MakesChange, change_of, has_plain_texts}
+use Rattle.dump_history.proofs.Prelude.{◌≡◌, ◌+◌, ◌<◌, ◌^◌, ◌==◌, Bool, true, not, ◌&&◌, ◌++◌, length, Option, None, refl, sym, inl, arith, list_all, spelled_number, has_byte, Property, property_block_text, first_true, second_true, not_true, absurd_bool, number_of-spelled, equals_itself, subst, DumpRecord, record_text, is_lawful, BeginsWithRecord, HasPropertyList, is_short, Patching, MakesChange, change_of, loads_as_written}
 use Rattle.std.proofs.Common.{ℕ, false, List, [], Some}
 use Rattle.std.proofs.Math.Bool.{and-false}
 use Rattle.std.proofs.lemmas.Bool.{ltb-true}
@@ -343,7 +343,7 @@ module _ (patched : Patching) (place version : ℕ) where
 
   file_plain : (replaces : Bool) (path : List ℕ) (entries : List Property) (text : List ℕ) (md5 sha1 : Option (List ℕ))
       → IsPlainFile path entries text md5 sha1
-      → has_plain_texts (node_record place version (WrittenNode.File replaces path entries text md5 sha1)) entries ≡ true
+      → loads_as_written (node_record place version (WrittenNode.File replaces path entries text md5 sha1)) entries ≡ true
   file_plain replaces path entries text None None f =
       rw (
         f.path_is.value.no_zero,

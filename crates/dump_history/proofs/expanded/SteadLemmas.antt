@@ -1,5 +1,5 @@
 -- The changes that replace a dump's changes are those of the records that replace its records.
-use Rattle.dump_history.proofs.Prelude.{◌≡◌, Bool, true, not, ◌++◌, drop, map, refl, sym, ap, ◌∙◌, subst, take_while, AllZip, if◌then◌else◌, list_all, take_while-cons, first_true, second_true, absurd_bool, not_so, not_true, has_header, path_name, change_of, has_plain_texts, DumpRecord, is_node, is_revision_record, alone, Group, group_of, groups, Change, Patching, MakesChange, MakeChanges, MakeRevisions, makes, Ending, HasRecords, Settings, root_alone}
+use Rattle.dump_history.proofs.Prelude.{◌≡◌, Bool, true, not, ◌++◌, drop, map, refl, sym, ap, ◌∙◌, subst, take_while, AllZip, if◌then◌else◌, list_all, take_while-cons, first_true, second_true, absurd_bool, not_so, not_true, has_header, path_name, change_of, loads_as_written, DumpRecord, is_node, is_revision_record, alone, Group, group_of, groups, Change, Patching, MakesChange, MakeChanges, MakeRevisions, makes, Ending, HasRecords, Settings, root_alone}
 use Rattle.std.proofs.Common.{ℕ, false, List, [], ◌∷◌, codes}
 use Rattle.dump_text.specs.Names.{revision_name}
 use Rattle.dump_history.specs.RecordChanges.{has_action}
@@ -21,7 +21,7 @@ module _ (patched : Patching) where
   same_makes r s c same (ps, list, plain, is) = (
     ps,
     same_list r s ps same list,
-    ap (λ h. has_plain_texts (record { place = 0; version = 0; headers = h; props = []; text = [] }) ps) same.headers
+    ap (λ h. loads_as_written (record { place = 0; version = 0; headers = h; props = []; text = [] }) ps) same.headers
         ∙ plain,
     (λ i. change_of patched (record {
       place = r.place;

@@ -1,6 +1,6 @@
 -- What is found in a node is found exactly: a node without an obstacle makes a change, and one without an alarm a quiet
 -- change.
-use Rattle.dump_history.proofs.Prelude.{◌≡◌, ◌⊎◌, ◌↔◌, ◌<◌, Bool, true, not, ◌&&◌, ◌||◌, ◌++◌, Option, None, is_some, option_map, cond, if◌then◌else◌, refl, sym, ap, ap₂, ◌∙◌, subst, inl, inr, Contains, IsTrue, arith, list_any, last_or, or-true, or_parts, or_cases, copy_revision_name, property_length_name, has_header, Property, CopyRevision, MergeSource, MergeRange, first_true, second_true, first_false, second_false, both_true, not_true, not_false, header_number, DumpRecord, has_prop_delta, Settings, HasMergeLines, KeptRevisions, new_number, last_kept, image, HasMissingSource, HasForeignNumber, value_reads, reads_exactly, found, finds, missing_there, missing_back, foreign_there, foreign_back, is_copy, is_kept_node, is_mergeinfo, value_of, node_path, HasPropertyList, HasPropertyBlock, HasBadMergeinfo, IsMergeinfoValueOf, property_list_once, block_or_not, kept_revisions, stays_copy, present_number, HasBadCopyRevision, HoldsOfRecord, path_of, Made, is_copied, PropertyChange, Change, cuts_alike, is_quiet_kept, is_quiet_dropped, is_quiet, keeps_text, Patching, has_known_action, deletes, makes, made_by_kind, copy_path, copied_from, made_of, property_change_of, has_odd_delta, change_of, has_plain_texts, MakesChange, begins_at, Finding, every_finding, NodeFaults, AreNodeFaultsOf, has_kept_path, has_kept_source, is_above_prefix, is_found, findings_of, IsReadBlock, is_obstacle, is_alarm, is_unread_value, names_missing_source, names_outside, has_up_to, is_missing_number, copy_refused, faults_read, copy_faults, no_node_faults, FindingsAreOnce, ObstaclesAreExact, AlarmsAreExact}
+use Rattle.dump_history.proofs.Prelude.{◌≡◌, ◌⊎◌, ◌↔◌, ◌<◌, Bool, true, not, ◌&&◌, ◌||◌, ◌++◌, Option, None, is_some, option_map, cond, if◌then◌else◌, refl, sym, ap, ap₂, ◌∙◌, subst, inl, inr, Contains, IsTrue, arith, list_any, last_or, or-true, or_parts, or_cases, copy_revision_name, property_length_name, has_header, Property, CopyRevision, MergeSource, MergeRange, first_true, second_true, first_false, second_false, both_true, not_true, not_false, header_number, DumpRecord, has_prop_delta, Settings, HasMergeLines, KeptRevisions, new_number, last_kept, image, HasMissingSource, HasForeignNumber, value_reads, reads_exactly, found, finds, missing_there, missing_back, foreign_there, foreign_back, is_copy, is_kept_node, is_mergeinfo, value_of, node_path, HasPropertyList, HasPropertyBlock, HasBadMergeinfo, IsMergeinfoValueOf, property_list_once, block_or_not, kept_revisions, stays_copy, present_number, HasBadCopyRevision, HoldsOfRecord, path_of, Made, is_copied, PropertyChange, Change, cuts_alike, is_quiet_kept, is_quiet_dropped, is_quiet, keeps_text, Patching, has_known_action, deletes, makes, made_by_kind, copy_path, copied_from, made_of, property_change_of, has_undefined_delta, change_of, loads_as_written, MakesChange, begins_at, Finding, every_finding, NodeFaults, AreNodeFaultsOf, has_kept_path, has_kept_source, is_above_prefix, is_found, findings_of, IsReadBlock, is_obstacle, is_alarm, is_unread_value, names_missing_source, names_outside, has_up_to, is_missing_number, copy_refused, faults_read, copy_faults, no_node_faults, FindingsAreOnce, ObstaclesAreExact, AlarmsAreExact}
 use Rattle.std.proofs.Common.{ℕ, false, List, [], ◌∷◌, filter, Some}
 use Rattle.std.specs.Prelude.{nat_lt, nat_le}
 use Rattle.dump_history.proofs.again.NodeChanges.{makes_change, node_change, change_is}
@@ -300,7 +300,7 @@ findings_once settings before r = elim (block_or_not r) [
 module _ (patched : Patching) (settings : Settings) (r : DumpRecord) (m : NodeFaults) where
   -- the obstacles of a node whose block can be read
   obstacles : (ps : List Property) → list_any is_obstacle (findings_of settings r (Some ps) m)
-      ≡ (has_odd_delta r || (not (has_known_action r) || (not (has_plain_texts r ps) || false)))
+      ≡ (has_undefined_delta r || (not (has_known_action r) || (not (loads_as_written r ps) || false)))
   obstacles ps = any_filtered is_obstacle (λ f. is_found settings r (Some ps) m f) every_finding
 
   change_made : (ps : List Property) → makes_change r ≡ true → change_of patched r ps ≡ Some (node_change patched r ps)
@@ -314,12 +314,12 @@ module _ (patched : Patching) (settings : Settings) (r : DumpRecord) (m : NodeFa
       → list_any is_obstacle (findings_of settings r (Some ps) m) ≡ false → (c : Change) × MakesChange patched r c
   made_where_none ps list none =
       let all = sym (obstacles ps) ∙ none in
-      let further = second_false (has_odd_delta r) _ all in
+      let further = second_false (has_undefined_delta r) _ all in
       let last = second_false (not (has_known_action r)) _ further in
       let known = denied (has_known_action r) (first_false (not (has_known_action r)) _ further) in
-      let plain = denied (has_plain_texts r ps) (first_false (not (has_plain_texts r ps)) false last) in
-      let both = both_true (has_known_action r) (not (has_odd_delta r)) known
-      (not_false (has_odd_delta r) (first_false (has_odd_delta r) _ all)) in
+      let plain = denied (loads_as_written r ps) (first_false (not (loads_as_written r ps)) false last) in
+      let both = both_true (has_known_action r) (not (has_undefined_delta r)) known
+      (not_false (has_undefined_delta r) (first_false (has_undefined_delta r) _ all)) in
       (node_change patched r ps, (ps, list, plain, change_made ps both))
 
   none_three : (a b c : Bool) → a ≡ false → b ≡ true → c ≡ true → (a || (not b || (not c || false))) ≡ false
@@ -331,10 +331,10 @@ module _ (patched : Patching) (settings : Settings) (r : DumpRecord) (m : NodeFa
       let same : qs ≡ ps = property_list_once r qs ps other list in
       let made = (change_is patched r qs c is).0 in
       obstacles ps
-      ∙ none_three (has_odd_delta r) (has_known_action r) (has_plain_texts r ps)
-      (not_true (has_odd_delta r) (second_true (has_known_action r) (not (has_odd_delta r)) made))
-      (first_true (has_known_action r) (not (has_odd_delta r)) made)
-      (ap (has_plain_texts r) (sym same) ∙ plain)
+      ∙ none_three (has_undefined_delta r) (has_known_action r) (loads_as_written r ps)
+      (not_true (has_undefined_delta r) (second_true (has_known_action r) (not (has_undefined_delta r)) made))
+      (first_true (has_known_action r) (not (has_undefined_delta r)) made)
+      (ap (loads_as_written r) (sym same) ∙ plain)
 
 -- a node in which no obstacle is found makes a change, and no other node does
 pub obstacles_exact : ObstaclesAreExact

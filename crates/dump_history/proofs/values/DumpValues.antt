@@ -115,7 +115,7 @@ unread_found = (
   refl,
 )
 
--- a directory whose path isn't in its short form
+-- a directory whose path isn't canonical
 abbrev long : DumpRecord
 long = record_at 0 (line (codes "Node-path") (codes "trunk//a") ∷ line (codes "Node-action") (codes "change") ∷ [])
 

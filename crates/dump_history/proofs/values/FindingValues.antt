@@ -161,15 +161,15 @@ change_with_source = refl
 
 -- a directory above an included prefix
 
-folder_takes : in_node include_a (node (codes "p") (codes "delete") []) ≡ findings.FolderTakes ∷ []
-folder_takes = refl
+included_stays : in_node include_a (node (codes "p") (codes "delete") []) ≡ findings.IncludedStays ∷ []
+included_stays = refl
 
-folder_brings : in_node include_a (node (codes "p") (codes "add") (from (codes "q"))) ≡ findings.FolderBrings ∷ []
-folder_brings = refl
+included_missing : in_node include_a (node (codes "p") (codes "add") (from (codes "q"))) ≡ findings.IncludedMissing ∷ []
+included_missing = refl
 
-folder_takes_and_brings : in_node include_a (node (codes "p") (codes "replace") (from (codes "q")))
-    ≡ findings.FolderTakes ∷ findings.FolderBrings ∷ []
-folder_takes_and_brings = refl
+stays_and_missing : in_node include_a (node (codes "p") (codes "replace") (from (codes "q")))
+    ≡ findings.IncludedStays ∷ findings.IncludedMissing ∷ []
+stays_and_missing = refl
 
 folder_stays : in_node include_a (node (codes "p") (codes "change") []) ≡ []
 folder_stays = refl

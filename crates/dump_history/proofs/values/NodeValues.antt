@@ -1,5 +1,5 @@
 -- Examples of the changes that nodes make; the checker computes and proves them.
-use Rattle.dump_history.proofs.Prelude.{◌≡◌, true, ◌++◌, Option, None, refl, inl, inr, Header, Property, DumpRecord, HasPropertyList, path_of, Made, PropertyChange, TextChange, Change, Patching, change_of, has_plain_texts, MakesChange}
+use Rattle.dump_history.proofs.Prelude.{◌≡◌, true, ◌++◌, Option, None, refl, inl, inr, Header, Property, DumpRecord, HasPropertyList, path_of, Made, PropertyChange, TextChange, Change, Patching, change_of, loads_as_written, MakesChange}
 use Rattle.std.proofs.Common.{ℕ, false, List, [], ◌∷◌, Some, codes}
 use Rattle.dump_history.proofs.values.WorkedDump.{line}
 
@@ -192,49 +192,49 @@ deleted_property list = absurd (let bad : false ≡ true = list.1 refl in cc)
 
 -- texts that the load reads as they are, and others
 
-plain : has_plain_texts (node (codes "a/b") (codes "add") copied_from) (property ∷ []) ≡ true
+plain : loads_as_written (node (codes "a/b") (codes "add") copied_from) (property ∷ []) ≡ true
 plain = refl
 
-plain_slash : has_plain_texts (node (codes "/a/b") (codes "change") []) [] ≡ true
+plain_slash : loads_as_written (node (codes "/a/b") (codes "change") []) [] ≡ true
 plain_slash = refl
 
-plain_root : has_plain_texts (node [] (codes "change") []) [] ≡ true
+plain_root : loads_as_written (node [] (codes "change") []) [] ≡ true
 plain_root = refl
 
 -- names that begin with a dot are names
-plain_dots : has_plain_texts (node (codes "a/.b") (codes "change") []) [] ≡ true
+plain_dots : loads_as_written (node (codes "a/.b") (codes "change") []) [] ≡ true
 plain_dots = refl
 
-double_slash : has_plain_texts (node (codes "a//b") (codes "change") []) [] ≡ false
+double_slash : loads_as_written (node (codes "a//b") (codes "change") []) [] ≡ false
 double_slash = refl
 
-two_slashes : has_plain_texts (node (codes "//a/b") (codes "change") []) [] ≡ false
+two_slashes : loads_as_written (node (codes "//a/b") (codes "change") []) [] ≡ false
 two_slashes = refl
 
-last_slash : has_plain_texts (node (codes "a/b/") (codes "change") []) [] ≡ false
+last_slash : loads_as_written (node (codes "a/b/") (codes "change") []) [] ≡ false
 last_slash = refl
 
-dot : has_plain_texts (node (codes "./a/b") (codes "change") []) [] ≡ false
+dot : loads_as_written (node (codes "./a/b") (codes "change") []) [] ≡ false
 dot = refl
 
-long_source : has_plain_texts (node (codes "a/b") (codes "add") (line (codes "Node-copyfrom-rev") (codes "7")
+long_source : loads_as_written (node (codes "a/b") (codes "add") (line (codes "Node-copyfrom-rev") (codes "7")
     ∷ line (codes "Node-copyfrom-path") (codes "trunk//c") ∷ [])) [] ≡ false
 long_source = refl
 
-zero_in_path : has_plain_texts (node (codes "a/b" ++ 0 ∷ codes "x") (codes "change") []) [] ≡ false
+zero_in_path : loads_as_written (node (codes "a/b" ++ 0 ∷ codes "x") (codes "change") []) [] ≡ false
 zero_in_path = refl
 
-zero_in_kind : has_plain_texts (node (codes "a/b") (codes "add") (kind (codes "file" ++ 0 ∷ []) ∷ [])) [] ≡ false
+zero_in_kind : loads_as_written (node (codes "a/b") (codes "add") (kind (codes "file" ++ 0 ∷ []) ∷ [])) [] ≡ false
 zero_in_kind = refl
 
-zero_in_line : has_plain_texts (node (codes "a/b") (codes "change") (line (codes "X" ++ 0 ∷ []) [] ∷ [])) [] ≡ false
+zero_in_line : loads_as_written (node (codes "a/b") (codes "change") (line (codes "X" ++ 0 ∷ []) [] ∷ [])) [] ≡ false
 zero_in_line = refl
 
-zero_in_name : has_plain_texts (with_block (codes "24") []) (record { name = 0 ∷ []; value = Some [] } ∷ []) ≡ false
+zero_in_name : loads_as_written (with_block (codes "24") []) (record { name = 0 ∷ []; value = Some [] } ∷ []) ≡ false
 zero_in_name = refl
 
 -- a zero byte in a property's value is read as it is
-zero_in_value : has_plain_texts (with_block (codes "24") [])
+zero_in_value : loads_as_written (with_block (codes "24") [])
     (record { name = codes "p"; value = Some (0 ∷ []) } ∷ []) ≡ true
 zero_in_value = refl
 

@@ -26,7 +26,7 @@ changed = node (codes "trunk") (codes "change")
 
 all_findings : every_finding ≡ findings.UnreadBlock ∷ findings.Delta ∷ findings.UnknownAction ∷ findings.TextReadDifferently
     ∷ findings.NoWholeFile ∷ findings.MissingCopyRevision ∷ findings.UnreadMergeinfo ∷ findings.MissingMergeSource
-    ∷ findings.MissingMergeRevision ∷ findings.PropertiesLost ∷ findings.CopyLoses ∷ findings.CopyLetsIn ∷ findings.FolderTakes ∷ findings.FolderBrings ∷ findings.TextComesIn ∷ []
+    ∷ findings.MissingMergeRevision ∷ findings.PropertiesLost ∷ findings.CopyLoses ∷ findings.CopyLetsIn ∷ findings.IncludedStays ∷ findings.IncludedMissing ∷ findings.TextComesIn ∷ []
 all_findings = refl
 
 obstacles : filter is_obstacle every_finding
@@ -34,7 +34,7 @@ obstacles : filter is_obstacle every_finding
 obstacles = refl
 
 alarms : filter is_alarm every_finding ≡ findings.PropertiesLost ∷ findings.CopyLoses ∷ findings.CopyLetsIn
-    ∷ findings.FolderTakes ∷ findings.FolderBrings ∷ []
+    ∷ findings.IncludedStays ∷ findings.IncludedMissing ∷ []
 alarms = refl
 
 -- several findings are in this order
@@ -97,12 +97,12 @@ folder_changed : in_node include_a (node (codes "p") (codes "change") (from (cod
 folder_changed = refl
 
 -- a directory that is replaced by a new one takes what is below it
-folder_replaced : in_node include_a (node (codes "p") (codes "replace") []) ≡ findings.FolderTakes ∷ []
+folder_replaced : in_node include_a (node (codes "p") (codes "replace") []) ≡ findings.IncludedStays ∷ []
 folder_replaced = refl
 
 -- a directory far above the prefix counts too
 root_of_prefix : in_node (cut_by Include (codes "p/a/b" ∷ [])) (node (codes "p") (codes "delete") [])
-    ≡ findings.FolderTakes ∷ []
+    ≡ findings.IncludedStays ∷ []
 root_of_prefix = refl
 
 -- of a dump

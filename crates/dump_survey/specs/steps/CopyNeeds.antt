@@ -27,8 +27,8 @@ other_path Include r = node_path r
 other_path Exclude r = copy_path r
 
 -- whether the node is a copy that the filter can't write without its source
-abbrev pub can_not_stand : DumpRecord → Bool
-can_not_stand r = is_node r && is_copy r && not (is_whole_file r)
+abbrev pub needs_source : DumpRecord → Bool
+needs_source r = is_node r && is_copy r && not (is_whole_file r)
 
 -- the two paths of the copy
 abbrev pub copy_need : Side → DumpRecord → PathNeed
@@ -36,17 +36,16 @@ copy_need side r = record { matched = other_path side r; wanted = wanted_path si
 
 -- what the record needs, if it is such a copy
 abbrev pub need_of : Side → DumpRecord → Option PathNeed
-need_of side r = if can_not_stand r && matches_itself (wanted_path side r) then Some (copy_need side r) else None
+need_of side r = if needs_source r && matches_itself (wanted_path side r) then Some (copy_need side r) else None
 
 -- what the records need
 abbrev pub needs_of : Side → List DumpRecord → List PathNeed
 needs_of side records = filter_map (need_of side) records
 
--- from a collector without needs these records made the second one
+-- a collector that was given these records
 pub record HasCollected (first : NeedCollector) (records : List DumpRecord) (now : NeedCollector) : Type 0 where
-  pub none : first.needs.items ≡ []
   pub side : now.side ≡ first.side
-  pub needs : map need_view now.needs.items ≡ needs_of first.side records
+  pub needs : map need_view now.needs.items ≡ map need_view first.needs.items ++ needs_of first.side records
 
 -- whether a prefix matches the path
 abbrev pub is_matched : List (List ℕ) → List ℕ → Bool

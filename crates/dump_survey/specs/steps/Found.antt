@@ -26,8 +26,8 @@ has_found found findings.MissingMergeRevision = found.refused.outside
 has_found found findings.PropertiesLost = found.losses.properties_lost
 has_found found findings.CopyLoses = is_some found.losses.copy_loses
 has_found found findings.CopyLetsIn = is_some found.losses.copy_lets_in
-has_found found findings.FolderTakes = found.losses.folder_takes
-has_found found findings.FolderBrings = found.losses.folder_brings
+has_found found findings.IncludedStays = found.losses.included_stays
+has_found found findings.IncludedMissing = found.losses.included_missing
 has_found found findings.TextComesIn = found.losses.text_comes_in
 
 -- the prefix that is reported with this finding, if there is one

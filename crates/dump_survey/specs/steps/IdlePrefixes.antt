@@ -7,7 +7,7 @@ use Rattle.dump_digest.specs.RecordParts.{is_node, is_copy, node_path}
 use Rattle.dump_history.specs.RecordChanges.{copy_path}
 use Rattle.dump_history.specs.Findings.{makes_copy}
 use Rattle.dump_survey.specs.declared.findings.prefix_findings.PrefixFinding.{PrefixFinding}
-use Rattle.dump_survey.specs.declared.findings.prefix_findings.PrefixFinding.TheVariants.{NotShort, Idle}
+use Rattle.dump_survey.specs.declared.findings.prefix_findings.PrefixFinding.TheVariants.{NotCanonical, Idle}
 use Rattle.dump_survey.specs.PrefixFindings.{PrefixReport, is_short_prefix}
 
 -- whether the text is one of these texts
@@ -39,7 +39,7 @@ AreIdle records prefixes idle =
 -- the finding in the prefix, if these are the idle ones
 abbrev pub finding_by : List (List ℕ) → List ℕ → Option PrefixFinding
 finding_by idle prefix =
-    if is_short_prefix prefix then (if is_among (bare_prefix prefix) idle then Some Idle else None) else Some NotShort
+    if is_short_prefix prefix then (if is_among (bare_prefix prefix) idle then Some Idle else None) else Some NotCanonical
 
 -- what is reported of the prefix, if these are the idle ones
 abbrev pub reported_by : List (List ℕ) → List ℕ → Option PrefixReport

@@ -27,7 +27,7 @@ kept_by settings t [] = ended_numbers settings t.present
 kept_by settings t (r ∷ records) =
     numbers_before settings t.present r ++ kept_by settings (next_tally settings t r) records
 
--- from a collector without records these records made the second one
+-- a collector that was given these records, and nothing before them
 pub record HasKept (first : NumberCollector) (records : List DumpRecord) (now : NumberCollector) : Type 0 where
   pub none : (first.tally ≡ no_tally) × (first.numbers.items ≡ [])
   pub options : now.options.now ≡ first.options.now

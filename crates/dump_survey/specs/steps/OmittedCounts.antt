@@ -25,7 +25,7 @@ property_count settings p = if is_mergeinfo p then value_count settings (value_o
 abbrev pub properties_count : Settings → List Property → ℕ
 properties_count settings ps = sum_by (property_count settings) ps
 
--- from a counter at 0 these records made the second one
+-- a counter at 0 that was given these records
 pub record HasCounted (first : LineCounter) (records : List DumpRecord) (now : LineCounter) : Type 0 where
   pub none : first.count ≡ 0
   pub options : now.options.now ≡ first.options.now

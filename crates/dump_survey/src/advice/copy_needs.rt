@@ -4,7 +4,7 @@ ghost use Rattle.dump_records.specs.RecordText.{DumpRecord};
 ghost use Rattle.dump_records.specs.DumpText.{Ending, HasRecords};
 ghost use Rattle.dump_records.specs.steps.RecordViews.{record_item};
 ghost use Rattle.dump_survey.specs.PrefixesToAdd.{matches_itself};
-ghost use Rattle.dump_survey.specs.steps.CopyNeeds.{HasCollected, can_not_stand, need_of, need_view, needs_of};
+ghost use Rattle.dump_survey.specs.steps.CopyNeeds.{HasCollected, needs_source, need_of, need_view, needs_of};
 
 use crate::findings::prefixes::begins_path;
 use crate::visitor::{RecordVisitor, visit_records};
@@ -28,8 +28,8 @@ fn matches_itself(path: &[u8]) -> bool
 }
 
 /// Whether the node is a copy that the filter can't write without its source: one that isn't a whole file.
-fn can_not_stand(item: &Record<'_>) -> bool
-    ensures { result ≡ can_not_stand (record_item item.now) }
+fn needs_source(item: &Record<'_>) -> bool
+    ensures { result ≡ needs_source (record_item item.now) }
 {
     item.is_node() && is_copy(item) && !is_whole_file(item)
 }
@@ -38,7 +38,7 @@ fn can_not_stand(item: &Record<'_>) -> bool
 fn need_of<'a>(item: &Record<'a>, side: Side) -> Option<CopyNeed<'a>>
     ensures { option_map need_view result ≡ need_of side (record_item item.now) }
 {
-    if !can_not_stand(item) {
+    if !needs_source(item) {
         return None;
     }
     let path = path_of(item);

@@ -20,7 +20,7 @@ struct GrowingPrefixes<'o, 'a> {
 impl<'o, 'a> Model for GrowingPrefixes<'o, 'a> {
     ghost use Rattle.std.specs.Prelude.{map};
     ghost use Rattle.dump_rules.specs.Prefix.{bare_prefix};
-    ghost use Rattle.dump_survey.specs.steps.Directories.{BeginSame};
+    ghost use Rattle.dump_survey.specs.steps.SameTexts.{BeginSame};
     ghost use Rattle.dump_survey.specs.steps.CopyNeeds.{Grown};
 
     ghost Value = { Grown };

@@ -18,7 +18,7 @@ struct Directories<'o> {
 
 impl<'o> Model for Directories<'o> {
     ghost use Rattle.std.specs.Prelude.{ℕ, List, map};
-    ghost use Rattle.dump_survey.specs.steps.Directories.{HaveSame};
+    ghost use Rattle.dump_survey.specs.steps.SameTexts.{HaveSame};
 
     ghost Value = { List (List ℕ) };
 

@@ -16,7 +16,7 @@ use crate::findings::refused::{Refused, refused_of};
 use crate::findings::revision_numbers::Numbers;
 use dump_digest::properties_of;
 use dump_nodes::{
-    Action, action_of, copy_path_of, has_odd_delta, has_plain_texts, is_copy, is_whole_file,
+    Action, action_of, copy_path_of, has_undefined_delta, is_copy, is_whole_file, loads_as_written,
     path_of,
 };
 use dump_records::Record;
@@ -35,9 +35,9 @@ fn obstacles_of(item: &Record<'_>, action: Action, props: &Option<Props<'_>>) ->
 {
     Obstacles {
         unread_block: props.is_none(),
-        delta: has_odd_delta(item),
+        delta: has_undefined_delta(item),
         unknown_action: !action.is_known(),
-        text_read_differently: !has_plain_texts(item, props),
+        text_read_differently: !loads_as_written(item, props),
     }
 }
 
@@ -142,8 +142,8 @@ fn losses_of_left<'o>(
     }
     let above = prefixes.has_below(options, path_of(item));
     Losses {
-        folder_takes: deletes & above,
-        folder_brings: copies & above,
+        included_stays: deletes & above,
+        included_missing: copies & above,
         ..Losses::NONE
     }
 }

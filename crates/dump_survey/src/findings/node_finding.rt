@@ -25,8 +25,8 @@ pub(crate) struct Losses<'o> {
     pub(crate) copy_loses: Option<&'o [u8]>,
     /// The first prefix because of which a copy brings something back.
     pub(crate) copy_lets_in: Option<&'o [u8]>,
-    pub(crate) folder_takes: bool,
-    pub(crate) folder_brings: bool,
+    pub(crate) included_stays: bool,
+    pub(crate) included_missing: bool,
     pub(crate) text_comes_in: bool,
 }
 
@@ -37,8 +37,8 @@ impl Losses<'static> {
         properties_lost: false,
         copy_loses: None,
         copy_lets_in: None,
-        folder_takes: false,
-        folder_brings: false,
+        included_stays: false,
+        included_missing: false,
         text_comes_in: false,
     };
 }
@@ -69,8 +69,8 @@ impl<'o> Found<'o> {
             Finding::PropertiesLost => self.losses.properties_lost,
             Finding::CopyLoses => self.losses.copy_loses.is_some(),
             Finding::CopyLetsIn => self.losses.copy_lets_in.is_some(),
-            Finding::FolderTakes => self.losses.folder_takes,
-            Finding::FolderBrings => self.losses.folder_brings,
+            Finding::IncludedStays => self.losses.included_stays,
+            Finding::IncludedMissing => self.losses.included_missing,
             Finding::TextComesIn => self.losses.text_comes_in,
         }
     }
@@ -92,8 +92,8 @@ impl<'o> Found<'o> {
             | losses.properties_lost
             | losses.copy_loses.is_some()
             | losses.copy_lets_in.is_some()
-            | losses.folder_takes
-            | losses.folder_brings
+            | losses.included_stays
+            | losses.included_missing
             | losses.text_comes_in
     }
 

@@ -14,7 +14,7 @@ use std::alloc::Global;
 #[derive(Clone, Copy, Debug, PartialEq, Eq)]
 pub enum PrefixFinding {
     /// The prefix isn't canonical, so no path of the loaded repository is at or below it.
-    NotShort,
+    NotCanonical,
     /// No node has a path at or below the prefix, and no node is a copy from such a path or a copy to a path above it.
     Idle,
 }
@@ -69,7 +69,7 @@ fn finding_in(idle: &PrefixSet, prefix: &[u8]) -> Option<PrefixFinding>
 {
     let bare = bare_prefix(prefix);
     if !is_canonical(bare) {
-        return Some(PrefixFinding::NotShort);
+        return Some(PrefixFinding::NotCanonical);
     }
     if idle.has(bare) {
         return Some(PrefixFinding::Idle);

@@ -2,7 +2,7 @@
 ghost use Rattle.std.specs.Prelude.{◌≡◌, ◌↔◌, ◌++◌, ◌∷◌, ◌≤◌, ◌<◌, [], List, ℕ, IfOk, IsTrue, OnErr, OnOk, bytes_eq, length, map, true};
 ghost use Rattle.std.specs.List.{list_any};
 ghost use Rattle.dump_rules.specs.Prefix.{bare_prefix, begins_path};
-ghost use Rattle.dump_survey.specs.steps.Directories.{BeginSame, HaveSame};
+ghost use Rattle.dump_survey.specs.steps.SameTexts.{BeginSame, HaveSame};
 ghost use Rattle.dump_survey.specs.steps.IdlePrefixes.{AreWithout, is_among};
 
 use crate::findings::prefixes::begins_path;

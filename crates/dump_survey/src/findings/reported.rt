@@ -6,7 +6,7 @@ ghost use Rattle.dump_survey.specs.Reported.{reported_view};
 ghost use Rattle.dump_survey.specs.steps.Surveyed.{reported_of_finding, reported_of_node};
 
 use crate::findings::node_finding::Found;
-use dump_history::{EVERY_FINDING, Finding};
+use dump_history::{Finding, every_finding};
 use dump_nodes::{copy_path_of, copy_revision_of, path_of};
 use dump_records::Record;
 use dump_rules::Memory;
@@ -65,7 +65,7 @@ impl<'o, 'a> SurveyedNode<'o, 'a> {
         ensures { OnOk result (map reported_view reported.new.items
             ≡ map reported_view reported.old.items ++ reported_of_node self.now) }
     {
-        let mut left = EVERY_FINDING.as_slice();
+        let mut left = every_finding();
         while let [finding, others @ ..] = left {
             if self.found.has(*finding) {
                 reported.push(self.reported(*finding))?;

@@ -4,15 +4,12 @@ ghost use Rattle.dump_history.specs.declared.findings.Finding.{Finding};
 ghost use Rattle.dump_survey.specs.steps.Counts.{AreWithNode, count_in};
 
 use crate::findings::node_finding::Found;
-use dump_history::{EVERY_FINDING, Finding};
-
-/// The number of kinds.
-const KINDS: usize = EVERY_FINDING.len();
+use dump_history::{FINDINGS, Finding, every_finding};
 
 /// For each kind, the number of nodes for which it was reported; the index is the kind's number in `Finding`.
 #[derive(Clone, Copy)]
 pub(crate) struct Counts {
-    times: [u64; KINDS],
+    times: [u64; FINDINGS],
 }
 
 impl Counts {
@@ -20,7 +17,9 @@ impl Counts {
     pub(crate) fn new() -> Counts
         ensures { (f : Finding) → count_in result f ≡ 0 }
     {
-        Counts { times: [0; KINDS] }
+        Counts {
+            times: [0; FINDINGS],
+        }
     }
 
     /// The number of nodes for which the kind was reported.
@@ -36,7 +35,7 @@ impl Counts {
         ensures { AreWithNode self.now found.now result }
     {
         let mut times = self.times;
-        let mut left = EVERY_FINDING.as_slice();
+        let mut left = every_finding();
         while let [finding, others @ ..] = left {
             if found.has(*finding) {
                 times[*finding as usize] += 1;

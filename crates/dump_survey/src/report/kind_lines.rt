@@ -14,7 +14,7 @@ use crate::findings::tally::DumpFindings;
 use crate::report::counts::Counts;
 use crate::report::finding_rows::{Kind, dump_row, node_row};
 use crate::report::survey_lines::{push_fault_and_place, push_number};
-use dump_history::{DumpFinding, EVERY_DUMP_FINDING, EVERY_FINDING, Finding};
+use dump_history::{DumpFinding, Finding, every_dump_finding, every_finding};
 use dump_rules::Memory;
 
 /// The parts of the line of a kind of finding in prefixes.
@@ -23,7 +23,7 @@ fn prefix_kind(finding: PrefixFinding) -> Kind
     ensures { kind_view result ≡ prefix_kind finding }
 {
     match finding {
-        PrefixFinding::NotShort => Kind {
+        PrefixFinding::NotCanonical => Kind {
             what: b"prefixes that are not in canonical form",
             fault: None,
             advice: b"write them without empty names and without single dots",
@@ -99,7 +99,7 @@ fn push_dump_kinds(lines: &mut Vec<u8>, found: &DumpFindings) -> Result<(), Memo
     ensures { OnOk result (lines.new.items ≡ lines.old.items
         ++ flat_map dump_kind_line (listed_findings found.now)) }
 {
-    let mut left = EVERY_DUMP_FINDING.as_slice();
+    let mut left = every_dump_finding();
     while let [finding, others @ ..] = left {
         push_dump_kind(lines, found, *finding)?;
         left = others;
@@ -154,9 +154,9 @@ pub(crate) fn push_kind_lines(
     ensures { OnOk result (lines.new.items ≡ lines.old.items ++ kind_lines (count_in counts.now)
         (listed_findings end.now.dump) (map prefix_view prefixes.now) (survey_ending end.now.end)) }
 {
-    push_node_kinds(lines, counts, EVERY_FINDING.as_slice())?;
+    push_node_kinds(lines, counts, every_finding())?;
     push_dump_kinds(lines, &end.dump)?;
-    push_prefix_kind(lines, prefixes, PrefixFinding::NotShort)?;
+    push_prefix_kind(lines, prefixes, PrefixFinding::NotCanonical)?;
     push_prefix_kind(lines, prefixes, PrefixFinding::Idle)?;
     push_ending_kind(lines, end.end)
 }

@@ -12,7 +12,7 @@ fn prefix_line_words(finding: PrefixFinding) -> &'static [u8]
     ensures { result.now ≡ prefix_line_words finding }
 {
     match finding {
-        PrefixFinding::NotShort => {
+        PrefixFinding::NotCanonical => {
             b": not in canonical form, so it matches no path of the loaded repository\n"
         }
         PrefixFinding::Idle => {

@@ -25,7 +25,7 @@ use crate::report::counts::Counts;
 use crate::report::finding_rows::{dump_row, node_row};
 use crate::report::kind_lines::push_kind_lines;
 use crate::report::prefix_lines::push_prefix_lines;
-use dump_history::{DumpFinding, EVERY_DUMP_FINDING, EVERY_FINDING};
+use dump_history::{DumpFinding, every_dump_finding, every_finding};
 use dump_rules::{Memory, Side, bare_path};
 use dump_text::{FaultKind, spell};
 use std::alloc::Global;
@@ -236,7 +236,7 @@ fn push_dump_line(lines: &mut Vec<u8>, end: &SurveyEnd, finding: DumpFinding) ->
 fn push_dump_lines(lines: &mut Vec<u8>, end: &SurveyEnd) -> Result<(), Memory>
     ensures { OnOk result (lines.new.items ≡ lines.old.items ++ flat_map dump_line (reported_at_end end.now)) }
 {
-    let mut left = EVERY_DUMP_FINDING.as_slice();
+    let mut left = every_dump_finding();
     while let [finding, others @ ..] = left {
         push_dump_line(lines, end, *finding)?;
         left = others;
@@ -299,7 +299,7 @@ pub(crate) fn node_lines(alloc: Global, node: &SurveyedNode<'_, '_>) -> Result<V
     ensures { IfOk result (λ lines. lines.items ≡ flat_map node_line (reported_of_node node.now)) }
 {
     let mut lines = Vec::new(alloc);
-    let mut left = EVERY_FINDING.as_slice();
+    let mut left = every_finding();
     while let [finding, others @ ..] = left {
         if node.found.has(*finding) {
             push_node_line(&mut lines, &node.reported(*finding))?;

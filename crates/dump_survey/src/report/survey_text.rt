@@ -140,8 +140,8 @@ fn advice_lines(
     let directories = parents_to_create(alloc, options)?;
     let added_lines = lines_of_added_prefixes(alloc, dump, options, found)?;
     let mut lines = omitted_line(alloc, omitted_lines(dump, options))?;
-    let to_make = parent_lines(alloc, &directories)?;
-    lines.extend_from_slice(&to_make)?;
+    let parents = parent_lines(alloc, &directories)?;
+    lines.extend_from_slice(&parents)?;
     lines.extend_from_slice(&added_lines)?;
     Ok(lines)
 }

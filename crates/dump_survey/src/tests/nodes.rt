@@ -54,7 +54,7 @@ const LOST: &[Finding] = &[Finding::PropertiesLost];
 
 const LOSES: &[Finding] = &[Finding::CopyLoses];
 
-const TAKES: &[Finding] = &[Finding::FolderTakes];
+const TAKES: &[Finding] = &[Finding::IncludedStays];
 
 const UNCHANGED: [(&str, &[Finding]); 11] = [
     (
@@ -92,7 +92,7 @@ fn nodes_that_make_no_change_are_found(rt: HostRuntime) -> Result<(), Fail> {
 }
 
 /// Nodes that are copies of `o/f`: a directory, and files without and with properties.
-const LOST_FOLDER: &str =
+const LOST_DIRECTORY: &str =
     "Node-path: trunk/f\nNode-action: add\nNode-copyfrom-rev: 0\nNode-copyfrom-path: o/f\n\
 Node-kind: dir\nProp-content-length: 10\nContent-length: 10\n\nPROPS-END\n";
 
@@ -106,7 +106,12 @@ Node-kind: file\nProp-content-length: 10\nText-content-length: 1\nContent-length
 
 /// Each row has the side, the prefix, the node, and the findings in it.
 const COPIES: [(Side, &str, &str, &[Finding]); 13] = [
-    (Side::Include, "trunk", LOST_FOLDER, &[Finding::NoWholeFile]),
+    (
+        Side::Include,
+        "trunk",
+        LOST_DIRECTORY,
+        &[Finding::NoWholeFile],
+    ),
     (Side::Include, "trunk", LOST_BARE_FILE, LOST),
     (Side::Include, "trunk", LOST_FILE, NO),
     (Side::Exclude, "o", LOST_FILE, &[Finding::TextComesIn]),
@@ -116,7 +121,7 @@ const COPIES: [(Side, &str, &str, &[Finding]); 13] = [
         LOST_BARE_FILE,
         &[Finding::PropertiesLost, Finding::TextComesIn],
     ),
-    (Side::Exclude, "trunk", LOST_FOLDER, NO),
+    (Side::Exclude, "trunk", LOST_DIRECTORY, NO),
     (Side::Exclude, "t/f", COPY, LOSES),
     (Side::Exclude, "/t/f//", COPY, LOSES),
     (Side::Exclude, "b/f", COPY, &[Finding::CopyLetsIn]),
@@ -162,17 +167,17 @@ const COPIED: &str =
 const REPLACED: &str =
     "Node-path: o\nNode-kind: dir\nNode-action: replace\nNode-copyfrom-rev: 0\nNode-copyfrom-path: t\n\n";
 
-const FOLDERS_AND_MERGES: [(Side, &str, &str, &[Finding]); 10] = [
+const DIRECTORIES_AND_MERGEINFO: [(Side, &str, &str, &[Finding]); 10] = [
     (Side::Include, "o/s", DELETED, TAKES),
     (Side::Include, "o", DELETED, NO),
     (Side::Include, "os/s", DELETED, NO),
     (Side::Exclude, "o/s", DELETED, NO),
-    (Side::Include, "o/s", COPIED, &[Finding::FolderBrings]),
+    (Side::Include, "o/s", COPIED, &[Finding::IncludedMissing]),
     (
         Side::Include,
         "o/s",
         REPLACED,
-        &[Finding::FolderTakes, Finding::FolderBrings],
+        &[Finding::IncludedStays, Finding::IncludedMissing],
     ),
     (Side::Include, "trunk", MERGED_FROM_TRUNK, NO),
     (
@@ -192,7 +197,7 @@ const FOLDERS_AND_MERGES: [(Side, &str, &str, &[Finding]); 10] = [
 
 #[test]
 fn parents_and_omitted_mergeinfo_are_found(rt: HostRuntime) -> Result<(), Fail> {
-    for (side, prefix, node, wanted) in &FOLDERS_AND_MERGES {
+    for (side, prefix, node, wanted) in &DIRECTORIES_AND_MERGEINFO {
         assert_found_alone(&rt, rt.alloc(), *side, prefix, node, wanted)?;
     }
     Ok(())

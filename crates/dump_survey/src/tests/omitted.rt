@@ -61,7 +61,7 @@ const MERGED: &[u8] =
 Node-path: a/b\nProp-content-length: 43\n\nK 13\nsvn:mergeinfo\nV 9\n/branch:1\nPROPS-END\n";
 
 /// Whether the advice for the dump `MERGED` is these lines.
-fn stand_behind(alloc: Global, options: &Options, lines: &[u8]) -> bool {
+fn has_lines_after(alloc: Global, options: &Options, lines: &[u8]) -> bool {
     let mut sink = MemorySink::new(alloc, 8, Trouble::Never);
     let written = write_advice(alloc, MERGED, options, true, &mut sink);
     written == Ok(()) && sink.taken() == lines
@@ -71,13 +71,13 @@ fn stand_behind(alloc: Global, options: &Options, lines: &[u8]) -> bool {
 fn the_number_is_before_the_directories(rt: HostRuntime) -> Result<(), Fail> {
     let options = skipping(rt.alloc(), "a/b")?;
     let lines = b"dropped from svn:mergeinfo: 1 line of an excluded path\ncreate first: /a\n";
-    assert!(rt; stand_behind(rt.alloc(), &options, lines.as_slice()));
+    assert!(rt; has_lines_after(rt.alloc(), &options, lines.as_slice()));
     Ok(())
 }
 
 #[test]
 fn without_the_option_nothing_is_omitted(rt: HostRuntime) -> Result<(), Fail> {
     let options = rules(rt.alloc(), Side::Include, "a/b")?;
-    assert!(rt; stand_behind(rt.alloc(), &options, b"create first: /a\n"));
+    assert!(rt; has_lines_after(rt.alloc(), &options, b"create first: /a\n"));
     Ok(())
 }

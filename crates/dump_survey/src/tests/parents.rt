@@ -6,14 +6,14 @@ use std::alloc::Global;
 use std::test::Fail;
 
 /// Whether a call with these prefixes needs these directories; `wanted` has a blank after each.
-fn is_made_first(alloc: Global, side: Side, words: &str, wanted: &str) -> Result<bool, Fail> {
+fn is_created_first(alloc: Global, side: Side, words: &str, wanted: &str) -> Result<bool, Fail> {
     let options = rules(alloc, side, words)?;
     let directories = parents_to_create(alloc, &options)?;
     Ok(are_words(&directories, wanted))
 }
 
 /// Each row has the side, the prefixes with a blank between two, and the directories.
-const MADE: [(Side, &str, &str); 7] = [
+const PARENTS: [(Side, &str, &str); 7] = [
     (Side::Include, "a/b/c", "a a/b "),
     (Side::Include, "//a/b/ a/c d/e/f", "a d d/e "),
     (Side::Include, "a/b/c a", ""),
@@ -25,8 +25,11 @@ const MADE: [(Side, &str, &str); 7] = [
 
 #[test]
 fn directories_above_prefixes_are_to_be_created(rt: HostRuntime) -> Result<(), Fail> {
-    for (side, words, wanted) in &MADE {
-        assert!(rt; is_made_first(rt.alloc(), *side, words, wanted)?, "{words}");
+    for (side, words, wanted) in &PARENTS {
+        assert!(rt;
+            is_created_first(rt.alloc(), *side, words, wanted)?,
+            "{words}"
+        );
     }
     Ok(())
 }

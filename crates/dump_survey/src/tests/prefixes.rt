@@ -28,13 +28,13 @@ fn are_reported(reported: &[ReportedPrefix<'_>], finding: PrefixFinding, words: 
     rest.is_empty()
 }
 
-/// Whether the survey reports, of the prefixes in `words`, exactly those in `not_short` as not canonical and those in
+/// Whether the survey reports, of the prefixes in `words`, exactly those in `not_canonical` as not canonical and those in
 /// `idle` as idle.
-fn tells(alloc: Global, words: &str, not_short: &str, idle: &str) -> Result<bool, Fail> {
+fn finds(alloc: Global, words: &str, not_canonical: &str, idle: &str) -> Result<bool, Fail> {
     let options = rules(alloc, Side::Exclude, words)?;
     let survey = survey_dump(alloc, COPIES, &options)?;
     Ok(
-        are_reported(&survey.prefixes, PrefixFinding::NotShort, not_short)
+        are_reported(&survey.prefixes, PrefixFinding::NotCanonical, not_canonical)
             && are_reported(&survey.prefixes, PrefixFinding::Idle, idle),
     )
 }
@@ -48,8 +48,8 @@ fn prefixes_are_reported_in_their_order(rt: HostRuntime) -> Result<(), Fail> {
         ("t//f . // t/.", "t//f . t/. ", ""),
         ("z .. bb/f gg t t/x z/", "", "z .. bb/f gg t/x z/ "),
     ];
-    for (words, not_short, idle) in rows {
-        assert!(rt; tells(rt.alloc(), words, not_short, idle)?, "{words}");
+    for (words, not_canonical, idle) in rows {
+        assert!(rt; finds(rt.alloc(), words, not_canonical, idle)?, "{words}");
     }
     Ok(())
 }

@@ -348,7 +348,7 @@ named_paths_leave_cut settings included named siblings path excludes cover among
 
 -- prefixes
 
--- a path in short form has names of nodes
+-- a canonical path has names of nodes
 pub short_names : ShortPathsHaveNames
 short_names text short = cases (path_of text) (no_slash_of (bare_path text)) short
   where

@@ -37,7 +37,7 @@ two_dots = refl
 
 -- what is included
 
--- those that aren't in short form count too
+-- those that aren't canonical count too
 all_count : canonical_paths (codes "./trunk" ∷ codes "a//b" ∷ codes "/c/" ∷ []) ≡ map path_of (codes "trunk" ∷ codes "a/b" ∷ codes "c" ∷ [])
 all_count = refl
 

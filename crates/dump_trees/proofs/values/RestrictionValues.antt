@@ -17,7 +17,7 @@ some_none ps p same = absurd (let bad : p ∷ ps ≡ [] = same in cc)
 none_some : (ps : List Property) (p : Property) → [] ≡ p ∷ ps → ⊥
 none_some ps p same = absurd (let bad : [] ≡ p ∷ ps = same in cc)
 
--- short forms
+-- canonical forms
 
 short : is_short (codes "/trunk/a.b") ≡ true
 short = refl

@@ -1,4 +1,4 @@
-use Rattle.dump_survey.proofs.Prelude.{refl, subst, Cut, CutStep, Ending}
+use Rattle.dump_survey.proofs.Prelude.{refl, subst, Cut, CutStep}
 use Rattle.dump_survey.proofs.VisitLemmas.{all_visited, comes_nearer, next_visit, none_visited, visited_more}
 use Rattle.dump_survey.proofs.visitor.visit_records.Goals as goal
 
@@ -24,16 +24,9 @@ pub loop-item-preserved : goal.loop-item-preserved
 loop-item-preserved g c =
     let step = subst (λ (x : Cut). CutStep c.loop-item.cutter x c.next.new.self) c.in-Item.is c.next.ensures in
     visited_more g.V.RecordVisitor.has_visited c.args.dump.now c.loop-item.cutter c.args.visitor.now c.loop-item.visitor
-    c.loop-item.invariant c.next.new.self c.in-Item.item step c.visit.new.self c.in_ok-visit-in-Item.ensures
+    c.loop-item.invariant c.next.new.self c.in-Item.item step c.visit.new.self c.in_ok-visit.ensures
 
-pub returns-in-Finished : goal.returns-in-Finished
-returns-in-Finished g c =
-    let step = subst (λ (x : Cut). CutStep c.loop-item.cutter x c.next.new.self) c.in-Finished.is c.next.ensures in
+pub returns : goal.returns
+returns g c =
     all_visited g.V.RecordVisitor.has_visited c.args.dump.now c.loop-item.cutter c.args.visitor.now c.loop-item.visitor
-    c.loop-item.invariant Ending.Whole step.0
-
-pub returns-in-Fault : goal.returns-in-Fault
-returns-in-Fault g c =
-    let step = subst (λ (x : Cut). CutStep c.loop-item.cutter x c.next.new.self) c.in-Fault.is c.next.ensures in
-    all_visited g.V.RecordVisitor.has_visited c.args.dump.now c.loop-item.cutter c.args.visitor.now c.loop-item.visitor
-    c.loop-item.invariant (Ending.Broken c.in-Fault.kind c.in-Fault.place) step.0
+    c.loop-item.invariant c.next.result c.next.new.self c.next.ensures c.in_default.not-Item

@@ -8,7 +8,7 @@ loop-left-init c =
     let node = c.args.node.now in
     let lines = λ (left : List Finding). flat_map node_line
     (reported_left (reported_of_finding node) node.found left) in
-    ap lines (sym c.as_slice-left.ensures) ∙ ap (λ (front : List ℕ). front ++ lines c.as_slice-left.result.now)
+    ap lines (sym c.every_finding-left.ensures) ∙ ap (λ (front : List ℕ). front ++ lines c.every_finding-left.result.now)
     (sym c.new-lines.ensures.items)
 
 pub returns : goal.returns

@@ -7,4 +7,4 @@ loop-left-init c =
     let node = c.args.self.now in
     ap (λ (left : List Finding). map reported_view c.args.reported.now.items
     ++ reported_left (reported_of_finding node) node.found left)
-    (sym c.as_slice-left.ensures)
+    (sym c.every_finding-left.ensures)

@@ -4,7 +4,7 @@ use Rattle.dump_survey.proofs.report.counts.Counts.with.Goals as goal
 
 pub loop-left-init : goal.loop-left-init
 loop-left-init c =
-    counting_begins c.args.self.now c.args.found.now c.as_slice-left.result.now c.as_slice-left.ensures (search rules)
+    counting_begins c.args.self.now c.args.found.now c.every_finding-left.result.now c.every_finding-left.ensures (search rules)
 
 pub loop-left-preserved-then-has : goal.loop-left-preserved-then-has
 loop-left-preserved-then-has c =

@@ -1,5 +1,5 @@
 use Rattle.dump_nodes.proofs.Prelude.{◌≡◌, List, not, list_all, has_byte, Property, IsPropertyBlock, props_bytes, HasEntriesLeft}
-use Rattle.dump_nodes.proofs.plain_texts.are_names_plain.Given as goal
+use Rattle.dump_nodes.proofs.loaded_texts.are_names_plain.Given as goal
 
 abbrev pub invariant-loop-entry : goal.invariant-loop-entry
 invariant-loop-entry l =

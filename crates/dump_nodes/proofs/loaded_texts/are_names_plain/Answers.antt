@@ -1,6 +1,6 @@
 use Rattle.dump_nodes.proofs.Prelude.{◌≡◌, [], sym, ap, ◌∙◌, inr, entry_property, entry_parts, left_of, property_block_once}
 use Rattle.dump_nodes.proofs.PlainLemmas.{are_plain, plain_stops, plain_goes}
-use Rattle.dump_nodes.proofs.plain_texts.are_names_plain.Goals as goal
+use Rattle.dump_nodes.proofs.loaded_texts.are_names_plain.Goals as goal
 
 pub returns-then-has_zero : goal.returns-then-has_zero
 returns-then-has_zero c = λ ps is.

@@ -7,7 +7,7 @@ ghost use Rattle.dump_text.specs.steps.PropertyViews.{props_bytes};
 ghost use Rattle.dump_records.specs.steps.RecordViews.{record_item};
 ghost use Rattle.dump_digest.specs.RecordParts.{is_node};
 ghost use Rattle.dump_digest.specs.steps.ContentViews.{ArePropertiesOf};
-ghost use Rattle.dump_history.specs.RecordChanges.{has_plain_texts, is_plain_line};
+ghost use Rattle.dump_history.specs.RecordChanges.{loads_as_written, is_plain_line};
 ghost use Rattle.dump_history.specs.Findings.{IsReadBlock};
 
 use crate::canonical_path::is_canonical;
@@ -57,11 +57,11 @@ fn are_properties_plain(item: &Record<'_>, props: &Option<Props<'_>>) -> bool
 
 /// Whether `svnadmin load` reads the texts of the node unchanged; `props` are the node's properties. A load cuts a
 /// value at a zero byte, rejects a name with one, and makes paths canonical.
-pub fn has_plain_texts(item: &Record<'_>, props: &Option<Props<'_>>) -> bool
+pub fn loads_as_written(item: &Record<'_>, props: &Option<Props<'_>>) -> bool
     requires node { IsTrue (is_node (record_item item.now)) }
     requires props { ArePropertiesOf (record_item item.now) props.now }
     ensures { (ps : Option (List Property)) → IsReadBlock (record_item item.now) ps
-        → result ≡ has_plain_texts (record_item item.now) (unwrap_or ps []) }
+        → result ≡ loads_as_written (record_item item.now) (unwrap_or ps []) }
 {
     let are_names = are_properties_plain(item, props);
     are_lines_plain(item)
