@@ -107,7 +107,7 @@ fn size_below(
             continue;
         }
         match index.kind_at(alloc, &there, count)? {
-            Some(NodeKind::Folder) => {
+            Some(NodeKind::Directory) => {
                 size = size.with_directory();
                 for name in &index.children(alloc, &there, count)? {
                     left.push(joined(alloc, &below, name)?)?;

@@ -8,7 +8,7 @@ use Rattle.dump_text.specs.PropertyList.{Property}
 use Rattle.dump_records.specs.RecordText.{DumpRecord}
 use Rattle.dump_filter.specs.FilterLaws.{keep_all}
 use Rattle.dump_trees.specs.Branches.{Branch, tree_of}
-use Rattle.dump_trees.specs.Changes.{Change, History, Made, TextChange, deleted, edited_with, is_copied, is_folder_at, made_in, props_set, step, steps, text_set}
+use Rattle.dump_trees.specs.Changes.{Change, History, Made, TextChange, deleted, edited_with, is_copied, is_directory_at, made_in, props_set, step, steps, text_set}
 use Rattle.dump_trees.specs.ComingBack.{properties_of}
 use Rattle.dump_trees.specs.ExpansionCases.{deletion_of}
 use Rattle.dump_trees.specs.Expansions.{AllExpand, AllRevisionsExpand, Expands}
@@ -16,14 +16,14 @@ use Rattle.dump_trees.specs.LoadCheck.{Kinds, delta_applies, is_directory, kind_
 use Rattle.dump_trees.specs.Looking.{Placed, end_of, look, placed_from}
 use Rattle.dump_trees.specs.Paths.{NodePath, names_of, parent_of}
 use Rattle.dump_trees.specs.Revisions.{loaded, loaded_over}
-use Rattle.dump_trees.specs.Trees.{HasFolders, Node, Tree, empty_tree, grafted, root_alone}
-use Rattle.dump_trees.specs.WritingOut.{file_of, folder_of}
+use Rattle.dump_trees.specs.Trees.{HasDirectories, Node, Tree, empty_tree, grafted, root_alone}
+use Rattle.dump_trees.specs.WritingOut.{file_of, directory_of}
 use Rattle.dump_trees.proofs.cuts.CheckedLoads.{AreFrom, Pushed, all_from, from_append, from_more, of_one, one_from, placed_append, placed_cut, pushed, steps_then}
 use Rattle.dump_trees.proofs.cuts.CheckedSteps.{parent_directory, step_is_allowed}
 use Rattle.dump_trees.proofs.expansions.BranchLemmas.{graft_outside}
 use Rattle.dump_trees.proofs.expansions.DeletionLemmas.{deletion_step}
 use Rattle.dump_trees.proofs.expansions.FiniteLemmas.{HasEntries}
-use Rattle.dump_trees.proofs.expansions.FiniteSteps.{AllFinite, IsFinite, finite_folders, finite_stands, finite_step, finite_steps}
+use Rattle.dump_trees.proofs.expansions.FiniteSteps.{AllFinite, IsFinite, finite_directories, finite_stands, finite_step, finite_steps}
 use Rattle.dump_trees.proofs.expansions.EveryLemmas.{copy_parts, finite_more}
 use Rattle.dump_trees.proofs.expansions.LeadLemmas.{leads_then}
 use Rattle.dump_trees.proofs.expansions.LookLemmas.{look_finds, look_finds_each}
@@ -68,8 +68,8 @@ own_again tree finite path node at = cases (s.branch) (s.whole.entries) (sym (s.
 
     cases : (branch : Branch) → HasEntries branch → tree_of branch [] ≡ Some node
         → edited_with (properties_of node) [] ≡ properties_of node
-    cases (Branch.Folder props inside) (made, more) is =
-        let same : Node.Folder props ≡ node = (let both : Some (Node.Folder props) ≡ Some node = is in cc) in
+    cases (Branch.Directory props inside) (made, more) is =
+        let same : Node.Directory props ≡ node = (let both : Some (Node.Directory props) ≡ Some node = is in cc) in
         subst (λ n. edited_with (properties_of n) [] ≡ properties_of n) same (set_again made.0 props made.1)
     cases (Branch.File props text) (entries, made) is =
         let same : Node.File props text ≡ node = (let both : Some (Node.File props text) ≡ Some node = is in cc) in
@@ -103,14 +103,14 @@ module _ (history : History) (c : Change) (stays : c.deletes ≡ false) (copies 
           (and_parts (kinds_allow c kinds) (delta_applies c.text (node_set history before c))
           (sym (step_is_allowed history before c) ∙ ap is_some at)).0
 
-      above : (o : Option NodePath) → is_folder_at before o ≡ true → is_some o ≡ true
+      above : (o : Option NodePath) → is_directory_at before o ≡ true → is_some o ≡ true
       above None is = is
       above (Some parent) is = refl
 
       by_made : (made : Option Made) → is_copied made ≡ true
           → making_allowed made (kind_left c.deletes kinds.here) kinds ≡ true → is_some (parent_of c.path) ≡ true
       by_made None copied is = absurd (let bad : false ≡ true = copied in cc)
-      by_made (Some Made.NewFolder) copied is = absurd (let bad : false ≡ true = copied in cc)
+      by_made (Some Made.NewDirectory) copied is = absurd (let bad : false ≡ true = copied in cc)
       by_made (Some Made.NewFile) copied is = absurd (let bad : false ≡ true = copied in cc)
       by_made (Some (Made.Copied number source)) copied is =
           above (parent_of c.path)
@@ -167,7 +167,7 @@ module _ (blocks : List (List ℕ)) (texts : List ToldText) (listed : List Liste
     pub is : IsListed l (record { revision = number; change = c })
     pub stead : IsSteadAt place l s
     pub kinds : (p : NodePath) → is_some (kind_look listed place p) ≡ is_some (before p)
-    pub folders : HasFolders before
+    pub directories : HasDirectories before
     pub expands : Expands keep_all history before c (changes_for s c)
 
   -- the same for the changes of a revision, and for those of each revision
@@ -397,8 +397,8 @@ module _ (patched : Patching) (records : List DumpRecord) (changes : List NodeCh
               a.number a.source makes a.is_root.own form first
           root_by Copy made = absurd made
           root_by Directory (keeps, made) = (
-            folder_of c.path a.is_root.own,
-            made ∙ replaced (λ p. folder_of p a.is_root.own),
+            directory_of c.path a.is_root.own,
+            made ∙ replaced (λ p. directory_of p a.is_root.own),
             (no_text_of c.text (subst (λ s. HasText s c.text) keeps is.text), refl),
           )
           root_by File (its, stored, said, made) = (
@@ -460,7 +460,7 @@ module _ (patched : Patching) (records : List DumpRecord) (changes : List NodeCh
         is = is;
         stead = subst (λ n. SteadAt n l s) place_is own;
         kinds = kind_before ds before finite done c (of_one (1 + length rs) cs ++ behind) with_c late_too;
-        folders = finite_folders before finite;
+        directories = finite_directories before finite;
         expands =
             stead_expands ds before finite done c (of_one (1 + length rs) cs ++ behind) with_c late_too (1 + length rs) l is s
             (subst (λ n. SteadAt n l s) place_is own);

@@ -12,11 +12,11 @@ use Rattle.dump_trees.specs.Looking.{end_of, placed_from}
 use Rattle.dump_trees.specs.Paths.{NodePath}
 use Rattle.dump_trees.specs.Revisions.{loaded_over}
 use Rattle.dump_trees.specs.Trees.{Node, Tree, root_alone}
-use Rattle.dump_trees.specs.WritingOut.{file_of, folder_of}
+use Rattle.dump_trees.specs.WritingOut.{file_of, directory_of}
 use Rattle.dump_trees.proofs.expansions.EveryLemmas.{copies_something}
 use Rattle.dump_trees.proofs.expansions.CaseLemmas.{copy_makes}
 use Rattle.dump_trees.proofs.expansions.FiniteLemmas.{Stands}
-use Rattle.dump_trees.proofs.expansions.FiniteSteps.{AllFinite, IsFinite, finite_folders, finite_stands}
+use Rattle.dump_trees.proofs.expansions.FiniteSteps.{AllFinite, IsFinite, finite_directories, finite_stands}
 use Rattle.dump_trees.proofs.expansions.StandingLemmas.{copy_has_tree}
 use Rattle.dump_trees.proofs.histories.KeptNumbers.{get_before}
 use Rattle.dump_history.specs.WrittenNodes.{replacing}
@@ -44,24 +44,24 @@ file_stays : (change : Option PropertyChange) (props : List Property) (text : Li
 file_stays None props text = (props, refl)
 file_stays (Some change) props text = (new_props change props, refl)
 
-no_folder : (change : Option TextChange) (branch : Branch) (others : List Property) (inside : Branches) {text : List ℕ}
+no_directory : (change : Option TextChange) (branch : Branch) (others : List Property) (inside : Branches) {text : List ℕ}
     → (new : List Property) × (branch ≡ Branch.File new text)
-    → branch_with_text change branch ≡ Some (Branch.Folder others inside) → ⊥
-no_folder change branch others inside {text} (new, same) is =
+    → branch_with_text change branch ≡ Some (Branch.Directory others inside) → ⊥
+no_directory change branch others inside {text} (new, same) is =
     cases change (sym (ap (branch_with_text change) same) ∙ is)
   where
     cases : (change : Option TextChange)
-        → branch_with_text change (Branch.File new text) ≡ Some (Branch.Folder others inside) → ⊥
+        → branch_with_text change (Branch.File new text) ≡ Some (Branch.Directory others inside) → ⊥
     cases None is =
-        let bad : Branch.File new text ≡ Branch.Folder others inside =
-        (let both : Some (Branch.File new text) ≡ Some (Branch.Folder others inside) = is in cc) in cc
+        let bad : Branch.File new text ≡ Branch.Directory others inside =
+        (let both : Some (Branch.File new text) ≡ Some (Branch.Directory others inside) = is in cc) in cc
     cases (Some change) is = by (new_text change text) is
       where
-        by : (o : Option (List ℕ)) → option_map (λ t. Branch.File new t) o ≡ Some (Branch.Folder others inside) → ⊥
-        by None is = let bad : None ≡ Some (Branch.Folder others inside) = is in cc
+        by : (o : Option (List ℕ)) → option_map (λ t. Branch.File new t) o ≡ Some (Branch.Directory others inside) → ⊥
+        by None is = let bad : None ≡ Some (Branch.Directory others inside) = is in cc
         by (Some t) is =
-            let bad : Branch.File new t ≡ Branch.Folder others inside =
-            (let both : Some (Branch.File new t) ≡ Some (Branch.Folder others inside) = is in cc) in cc
+            let bad : Branch.File new t ≡ Branch.Directory others inside =
+            (let both : Some (Branch.File new t) ≡ Some (Branch.Directory others inside) = is in cc) in cc
 
 module _ (changes : List NodeChange) (revisions : List (List Change)) (trees : List Tree)
     (ordered : are_in_order 0 changes ≡ true) (are_listed : AreListed changes (placed_from 1 revisions))
@@ -99,7 +99,7 @@ module _ (changes : List NodeChange) (revisions : List (List Change)) (trees : L
     -- the change writes what the copy leaves at its path: a directory with these properties, or a file with its text too
     abbrev pub WritesRoot : List Property → Form → Change → Type 0
     WritesRoot own Copy root = ⊥
-    WritesRoot own Directory root = (c.text ≡ None) × (root ≡ folder_of c.path own)
+    WritesRoot own Directory root = (c.text ≡ None) × (root ≡ directory_of c.path own)
     WritesRoot own File root = (text : List ℕ) × (root ≡ file_of c.path own text)
         × ((props : List Property) (its : List ℕ) → after c.path ≡ Some (Node.File props its) → its ≡ text)
 
@@ -113,17 +113,17 @@ module _ (changes : List NodeChange) (revisions : List (List Change)) (trees : L
       own_made : c.text ≡ None → (w : IsDirectoryWritten (slice_get older) early.0 c.path source own inner)
           → edited_with own [] ≡ props_made c.props w.props
       own_made none w =
-          own_is (Node.Folder (props_made c.props w.props))
-          (root_made (slice_get older) before after early.0 c number source (Branch.Folder w.props w.inside)
-          (Branch.Folder (props_made c.props w.props) w.inside) makes early.1 at w.exists (made_of c none w.props w.inside))
+          own_is (Node.Directory (props_made c.props w.props))
+          (root_made (slice_get older) before after early.0 c number source (Branch.Directory w.props w.inside)
+          (Branch.Directory (props_made c.props w.props) w.inside) makes early.1 at w.exists (made_of c none w.props w.inside))
 
       of_directory : ArePartsOf listed excluded number c.path source [] (record { form = Directory; rest = [] } ∷ parts)
-          → c.text ≡ None → Expanded (folder_of c.path own)
+          → c.text ≡ None → Expanded (directory_of c.path own)
       of_directory are none =
           let w = top_written listed excluded number c.path source (slice_get older) early.0 early.1
           (all number early.0 early.1) (kinds_at number early.0 in_trees) (names_at number early.0 in_trees) parts own inner are
           (ap is_some exists.1) writes in
-          directory_expands (slice_get older) before early.0 c number source own inner (finite_folders before finite) makes early.1
+          directory_expands (slice_get older) before early.0 c number source own inner (finite_directories before finite) makes early.1
           none w (own_made none w)
 
       -- a file has nothing below it
@@ -150,17 +150,17 @@ module _ (changes : List NodeChange) (revisions : List (List Change)) (trees : L
           cases : (branch : Branch) → HasBranch early.0 source branch → is_distinct branch ≡ true
               → option_map node_kind (early.0 source) ≡ Some kinds.File → (made : Branch) → branch_made c branch ≡ Some made
               → inner ≡ [] → Expanded (file_of c.path own text)
-          cases (Branch.Folder props inside) has apart kind made is none =
-              absurd (let bad : Some kinds.Folder ≡ Some kinds.File =
+          cases (Branch.Directory props inside) has apart kind made is none =
+              absurd (let bad : Some kinds.Directory ≡ Some kinds.File =
               sym (ap (option_map node_kind) (ap early.0 (sym (append-nil source)) ∙ has [])) ∙ kind in cc)
-          cases (Branch.File props old) has apart kind (Branch.Folder others inside) is none =
-              absurd (no_folder c.text (branch_with_props c.props (Branch.File props old)) others inside
+          cases (Branch.File props old) has apart kind (Branch.Directory others inside) is none =
+              absurd (no_directory c.text (branch_with_props c.props (Branch.File props old)) others inside
               (file_stays c.props props old) is)
           cases (Branch.File props old) has apart kind (Branch.File new its) is none =
               let left = root_made (slice_get older) before after early.0 c number source (Branch.File props old)
               (Branch.File new its) makes early.1 at has is in
               written_expands (slice_get older) before early.0 c number source (Branch.File props old) (Branch.File new its)
-              (file_of c.path own text) inner (finite_folders before finite) makes early.1 has apart is
+              (file_of c.path own text) inner (finite_directories before finite) makes early.1 has apart is
               (inr (
                 own,
                 ap₂ (λ t cs. file_of c.path own t ∷ cs) (sym (text_is new its left)) none,

@@ -14,7 +14,7 @@ use Rattle.dump_trees.specs.ExpansionCases.{deletion_of}
 use Rattle.dump_trees.specs.LoadCheck.{Kind, Kinds, delta_applies, is_directory, is_file, kind_left, kind_made, kinds_allow, kinds_before, making_allowed, node_set, sets_props}
 use Rattle.dump_trees.specs.Paths.{NodePath, below, names_of}
 use Rattle.dump_trees.specs.Revisions.{loaded}
-use Rattle.dump_trees.specs.Trees.{HasFolders, Tree}
+use Rattle.dump_trees.specs.Trees.{HasDirectories, Tree}
 use Rattle.dump_trees.proofs.changes.TreeLemmas.{below_found, below_rest}
 use Rattle.dump_trees.proofs.cuts.CheckedSteps.{change_leaves, kind_of_left, kind_of_made, kind_some, left_of, made_over, step_is_allowed}
 use Rattle.dump_trees.proofs.cuts.EverSiblings.{file_some}
@@ -86,7 +86,7 @@ allowed_exists c kinds changed was allowed is =
             | inr sets ↦ file_some kinds.here (held (is_some c.text) (is_file kinds.here) sets text)
           ]
         ]
-    cases (Some Made.NewFolder) deletes makes props text is = refl
+    cases (Some Made.NewDirectory) deletes makes props text is = refl
     cases (Some Made.NewFile) deletes makes props text is = refl
     cases (Some (Made.Copied number source)) deletes makes props text is =
         (and_parts (is_some kinds.source) (is_directory kinds.parent) makes).0
@@ -318,11 +318,11 @@ module _ (top path : NodePath) where
   copies_none (Some (name ∷ rest)) c plain = refl
 
   -- after a root that is no copy, and replaces what exists
-  none_in_addition : (before : Tree) → HasFolders before → (changed : Bool)
+  none_in_addition : (before : Tree) → HasDirectories before → (changed : Bool)
       → (changed ≡ true → is_some (before path) ≡ true) → (root : Change) → root.path ≡ top
       → root.deletes ≡ is_some (before top) → is_copied root.made ≡ false → (parts : List PartMeant) (xs : List Change)
       → NoneAt [] parts → AllApart parts → AreAtParts top parts xs → copies_over_changed path changed (root ∷ xs) ≡ false
-  none_in_addition before folders changed was root root_path deletes plain parts xs below_root apart are =
+  none_in_addition before directories changed was root root_path deletes plain parts xs below_root apart are =
       subst (λ p. ((changed && copies_to (below p path) root)
       || copies_over_changed path (is_changed_after (below p path) root changed) xs) ≡ false) (sym root_path)
       (or_from _ _ (and_right changed _ (copies_none (below top path) root plain)) (cases (below top path) refl))
@@ -333,7 +333,7 @@ module _ (top path : NodePath) where
       replaced name rest at true same =
           not_from_true (root.deletes || is_some root.made)
           (or_left root.deletes (is_some root.made)
-          (deletes ∙ exists_above before folders top (name ∷ rest)
+          (deletes ∙ exists_above before directories top (name ∷ rest)
           (ap (λ p. is_some (before p)) (sym (below_rest top path (name ∷ rest) at)) ∙ was same)))
 
       cases : (o : Option NodePath) → below top path ≡ o
@@ -430,7 +430,7 @@ module _ (blocks : List (List ℕ)) (texts : List ToldText) (listed : List Liste
         (record { form = a.form; rest = [] } ∷ a.parts) a.are_parts in
         subst (λ ws. copies_over_changed path changed (map written_change ws) ≡ false)
         (sym (ap (λ (x : GivenStead). x.nodes) a.given))
-        (none_in_addition (names_of k.l.path) path before k.folders changed was (written_change a.root) root.at
+        (none_in_addition (names_of k.l.path) path before k.directories changed was (written_change a.root) root.at
         (root.deletes ∙ k.kinds (names_of k.l.path)) root.plain a.parts (map written_change a.nodes) apart.0 apart.1
         (at_parts a.number (names_of k.l.path) a.source a.parts a.nodes a.are_nodes))
 

@@ -65,7 +65,7 @@ module _ (text top rest : List ℕ) (is : text ≡ joined_text top rest) (top_na
 pub says_kind : (here : Option NodeKind) (other : NodeKind) (number : ℕ) (source path : List ℕ)
     → SaysKind here (WrittenNode.Copy (written_kind (unwrap_or here other)) number source path)
 says_kind None other number source path = tt
-says_kind (Some kinds.Folder) other number source path = refl
+says_kind (Some kinds.Directory) other number source path = refl
 says_kind (Some kinds.File) other number source path = refl
 
 -- parts one after the other
@@ -141,8 +141,8 @@ module _ (blocks : List (List ℕ)) (texts : List ToldText) (listed : List Liste
         (first_form listed excluded number (names_of l.path) source [] (record { form = form; rest = [] } ∷ inside) inside
         (record { form = form; rest = [] }) are refl).1
 
-    folder_there : form ≡ Directory → kind_in listed number source ≡ Some kinds.Folder
-    folder_there is =
+    directory_there : form ≡ Directory → kind_in listed number source ≡ Some kinds.Directory
+    directory_there is =
         ap (kind_in listed number) (sym (append-nil source))
         ∙ (subst (λ f. IsFormAt listed excluded number (names_of l.path) source [] (Some f)) is its_form).1
 
@@ -150,7 +150,7 @@ module _ (blocks : List (List ℕ)) (texts : List ToldText) (listed : List Liste
     pub root_refused : (reason : Reason) → IsRootOr blocks texts listed excluded place l form (Err reason)
         → CannotBeAdded blocks texts listed excluded place l reason
     root_refused (Delta at) (is, stored) = refused (Delta at) (form, inside, refl, inl (is, stored))
-    root_refused NoLoad (is, text) = refused NoLoad (inr (folder_there is, text))
+    root_refused NoLoad (is, text) = refused NoLoad (inr (directory_there is, text))
     root_refused NotWritable is = absurd is
 
     -- nor can a file below it

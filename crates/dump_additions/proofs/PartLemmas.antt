@@ -147,7 +147,7 @@ module _ (listed : List Listed) (excluded : List NodePath) (number : ℕ) (path 
       formed : (k : Option NodeKind) → kind_in listed number (source ++ rest) ≡ k
           → IsFormAt listed excluded number path source rest (form_of k)
       formed None is = (back, is)
-      formed (Some kinds.Folder) is = (back, is)
+      formed (Some kinds.Directory) is = (back, is)
       formed (Some kinds.File) is = (back, is)
 
 -- whether a list is empty

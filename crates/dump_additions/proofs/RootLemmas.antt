@@ -13,7 +13,7 @@ use Rattle.dump_trees.proofs.expansions.StandingLemmas.{origin_in, step_has}
 props_root : (props : Option PropertyChange) (branch : Branch)
     → node_with_props props (tree_of branch []) ≡ tree_of (branch_with_props props branch) []
 props_root None branch = refl
-props_root (Some change) (Branch.Folder props inside) = refl
+props_root (Some change) (Branch.Directory props inside) = refl
 props_root (Some change) (Branch.File props text) = refl
 
 -- the root of a branch with the text that a change sets
@@ -21,7 +21,7 @@ text_root : (text : Option TextChange) (branch made : Branch) → branch_with_te
     → node_with_text text (tree_of branch []) ≡ tree_of made []
 text_root None branch made is =
     let same : branch ≡ made = (let both : Some branch ≡ Some made = is in cc) in ap (λ b. tree_of b []) same
-text_root (Some change) (Branch.Folder props inside) made is = absurd (let bad : None ≡ Some made = is in cc)
+text_root (Some change) (Branch.Directory props inside) made is = absurd (let bad : None ≡ Some made = is in cc)
 text_root (Some change) (Branch.File props old) made is = cases (new_text change old) is
   where
     cases : (o : Option (List ℕ)) → option_map (λ text. Branch.File props text) o ≡ Some made

@@ -25,7 +25,7 @@ use Rattle.dump_additions.specs.declared.not_added.Reason.{Reason}
 pub no_copy : (blocks : List (List ℕ)) (texts : List ToldText) (listed : List Listed) (excluded : List NodePath)
     (path : NodePath) (made : Option Made) → is_copied made ≡ false → BringsNone blocks texts listed excluded path made
 no_copy blocks texts listed excluded path None isnt = tt
-no_copy blocks texts listed excluded path (Some Made.NewFolder) isnt = tt
+no_copy blocks texts listed excluded path (Some Made.NewDirectory) isnt = tt
 no_copy blocks texts listed excluded path (Some Made.NewFile) isnt = tt
 no_copy blocks texts listed excluded path (Some (Made.Copied number source)) isnt = absurd (let bad : true ≡ false = isnt in cc)
 

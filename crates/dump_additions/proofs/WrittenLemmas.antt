@@ -14,11 +14,11 @@ use Rattle.dump_trees.specs.Branches.{Branch, Branches, HasBranch, are_distinct,
 use Rattle.dump_trees.specs.Changes.{Change, History}
 use Rattle.dump_trees.specs.Looking.{end_of}
 use Rattle.dump_trees.specs.Paths.{NodePath}
-use Rattle.dump_trees.specs.Trees.{HasFolders, Node, Tree}
-use Rattle.dump_trees.specs.WritingOut.{IsCopied, WritesInside, WritesOut, copy_of, file_of, folder_of}
+use Rattle.dump_trees.specs.Trees.{HasDirectories, Node, Tree}
+use Rattle.dump_trees.specs.WritingOut.{IsCopied, WritesInside, WritesOut, copy_of, file_of, directory_of}
 use Rattle.dump_trees.proofs.expansions.BranchLemmas.{not_found}
 use Rattle.dump_trees.proofs.expansions.FiniteLemmas.{Stands}
-use Rattle.dump_trees.proofs.expansions.FiniteSteps.{IsFinite, finite_folders, finite_stands}
+use Rattle.dump_trees.proofs.expansions.FiniteSteps.{IsFinite, finite_directories, finite_stands}
 use Rattle.dump_history.proofs.cuts.TrimmedLaw.{each_branch_is_cut_alike}
 use Rattle.dump_index.specs.Children.{AreChildren, is_child_named}
 use Rattle.dump_index.specs.Kinds.{kind_look, node_kind}
@@ -51,24 +51,24 @@ found_at tree top (Branches.Named first branch others) (here, more) name rest so
     either further false apart some = further some
 
 -- if something doesn't exist, nothing exists below it
-none_below : (tree : Tree) → HasFolders tree → (top : NodePath) (name : List ℕ) (rest : NodePath)
+none_below : (tree : Tree) → HasDirectories tree → (top : NodePath) (name : List ℕ) (rest : NodePath)
     → tree (top ++ name ∷ []) ≡ None → tree (top ++ name ∷ rest) ≡ None
-none_below tree folders top name [] none = none
-none_below tree folders top name (next ∷ rest) none = cases (tree (top ++ name ∷ next ∷ rest)) refl
+none_below tree directories top name [] none = none
+none_below tree directories top name (next ∷ rest) none = cases (tree (top ++ name ∷ next ∷ rest)) refl
   where
     cases : (o : Option Node) → tree (top ++ name ∷ next ∷ rest) ≡ o → o ≡ None
     cases None at = refl
     cases (Some node) at =
-        absurd (let bad : false ≡ true = sym (ap Rattle.dump_trees.specs.Trees.is_folder none)
-        ∙ folders (top ++ name ∷ []) next rest node (ap tree (append_assoc top (name ∷ []) (next ∷ rest)) ∙ at) in cc)
+        absurd (let bad : false ≡ true = sym (ap Rattle.dump_trees.specs.Trees.is_directory_node none)
+        ∙ directories (top ++ name ∷ []) next rest node (ap tree (append_assoc top (name ∷ []) (next ∷ rest)) ∙ at) in cc)
 
 -- so a directory is a branch with all that exists in it
-directory_at : (tree : Tree) → HasFolders tree → (top : NodePath) (props : List Property) (inside : Branches)
-    → tree top ≡ Some (Node.Folder props) → AreAt tree top inside
+directory_at : (tree : Tree) → HasDirectories tree → (top : NodePath) (props : List Property) (inside : Branches)
+    → tree top ≡ Some (Node.Directory props) → AreAt tree top inside
     → ((name : List ℕ) → is_some (tree (top ++ name ∷ [])) ≡ has_name name inside)
-    → HasBranch tree top (Branch.Folder props inside)
-directory_at tree folders top props inside at are all [] = ap tree (append-nil top) ∙ at
-directory_at tree folders top props inside at are all (name ∷ rest) = by_name (has_name name inside) refl
+    → HasBranch tree top (Branch.Directory props inside)
+directory_at tree directories top props inside at are all [] = ap tree (append-nil top) ∙ at
+directory_at tree directories top props inside at are all (name ∷ rest) = by_name (has_name name inside) refl
   where
     missing : (o : Option Node) → is_some o ≡ false → o ≡ None
     missing None none = refl
@@ -77,7 +77,7 @@ directory_at tree folders top props inside at are all (name ∷ rest) = by_name 
     by_name : (b : Bool) → has_name name inside ≡ b → tree (top ++ name ∷ rest) ≡ found inside name rest None
     by_name true some = found_at tree top inside are name rest some
     by_name false none =
-        none_below tree folders top name rest (missing _ (all name ∙ none)) ∙ sym (not_found inside name rest None none)
+        none_below tree directories top name rest (missing _ (all name ∙ none)) ∙ sym (not_found inside name rest None none)
 
 -- a name occurs once
 once : (name : List ℕ) (names : List (List ℕ)) → AllByRecursion (λ other. slice_cmp nat_cmp name other ≡ Less) names
@@ -181,7 +181,7 @@ module _ (listed : List Listed) (excluded : List NodePath) (number : ℕ) (path 
 
       out : (branch : Branch) → HasBranch old (source ++ rest) branch
           → WritesOut keep_all history (path ++ rest) branch (copy_of number (source ++ rest) (path ++ rest) ∷ [])
-      out (Branch.Folder props inside) has = inl (copied (Branch.Folder props inside) has)
+      out (Branch.Directory props inside) has = inl (copied (Branch.Directory props inside) has)
       out (Branch.File props text) has = inl (copied (Branch.File props text) has)
 
   root_is : (rest : NodePath) (branch : Branch) → HasBranch old (source ++ rest) branch
@@ -199,9 +199,9 @@ module _ (listed : List Listed) (excluded : List NodePath) (number : ℕ) (path 
     where
       cases : (branch : Branch) → HasBranch old (source ++ rest) branch
           → Writes rest (file_of (path ++ rest) entries text ∷ [])
-      cases (Branch.Folder props inside) has =
-          absurd (let bad : Some kinds.Folder ≡ Some kinds.File =
-          sym (kinds_are (source ++ rest) ∙ ap (option_map node_kind) (root_is rest (Branch.Folder props inside) has)) ∙ kind in cc)
+      cases (Branch.Directory props inside) has =
+          absurd (let bad : Some kinds.Directory ≡ Some kinds.File =
+          sym (kinds_are (source ++ rest) ∙ ap (option_map node_kind) (root_is rest (Branch.Directory props inside) has)) ∙ kind in cc)
       cases (Branch.File props its) has =
           let at = root_is rest (Branch.File props its) has in
           record {
@@ -252,7 +252,7 @@ module _ (listed : List Listed) (excluded : List NodePath) (number : ℕ) (path 
   -- a directory, whose own entries may differ
   directory_written : (rest : NodePath) (names : List (List ℕ)) (own : List Property) (changes : List Change)
       → Stands old (source ++ rest)
-      → kind_look listed (end_of (all_placed listed) number) (source ++ rest) ≡ Some kinds.Folder
+      → kind_look listed (end_of (all_placed listed) number) (source ++ rest) ≡ Some kinds.Directory
       → AreChildren listed (end_of (all_placed listed) number) (source ++ rest) names → Inside rest names changes
       → IsDirectoryWritten history old (path ++ rest) (source ++ rest) own changes
   directory_written rest names own changes s kind are i = cases s.branch s.has
@@ -260,13 +260,13 @@ module _ (listed : List Listed) (excluded : List NodePath) (number : ℕ) (path 
       cases : (branch : Branch) → HasBranch old (source ++ rest) branch
           → IsDirectoryWritten history old (path ++ rest) (source ++ rest) own changes
       cases (Branch.File props text) has =
-          absurd (let bad : Some kinds.File ≡ Some kinds.Folder =
+          absurd (let bad : Some kinds.File ≡ Some kinds.Directory =
           sym (kinds_are (source ++ rest) ∙ ap (option_map node_kind) (root_is rest (Branch.File props text) has)) ∙ kind in cc)
-      cases (Branch.Folder props inside) has = record {
+      cases (Branch.Directory props inside) has = record {
         props = props;
         inside = i.inside;
-        exists = directory_at old (finite_folders old finite) (source ++ rest) props i.inside
-            (root_is rest (Branch.Folder props inside) has) i.at
+        exists = directory_at old (finite_directories old finite) (source ++ rest) props i.inside
+            (root_is rest (Branch.Directory props inside) has) i.at
             (λ name. sym (names_are (source ++ rest) names are name) ∙ sym (i.named name));
         distinct = i.distinct;
         out = λ new made. inr (own, changes, refl, made, i.out);
@@ -276,12 +276,12 @@ module _ (listed : List Listed) (excluded : List NodePath) (number : ℕ) (path 
   as_it_is : (rest : NodePath) (own : List Property) (changes : List Change)
       → AreEntriesAt old number path source rest own
       → IsDirectoryWritten history old (path ++ rest) (source ++ rest) own changes
-      → Writes rest (folder_of (path ++ rest) own ∷ changes)
+      → Writes rest (directory_of (path ++ rest) own ∷ changes)
   as_it_is rest own changes made w = record {
-    branch = Branch.Folder w.props w.inside;
+    branch = Branch.Directory w.props w.inside;
     exists = w.exists;
     distinct = w.distinct;
-    out = w.out w.props (made (Node.Folder w.props) (root_is rest (Branch.Folder w.props w.inside) w.exists));
+    out = w.out w.props (made (Node.Directory w.props) (root_is rest (Branch.Directory w.props w.inside) w.exists));
   }
 
   mutual

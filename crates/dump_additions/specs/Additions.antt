@@ -6,7 +6,7 @@ use Rattle.dump_trees.specs.Changes.{Made, is_copied}
 use Rattle.dump_trees.specs.ExpansionCases.{deletion_of}
 use Rattle.dump_trees.specs.Looking.{end_of}
 use Rattle.dump_trees.specs.Paths.{NodePath, names_of}
-use Rattle.dump_trees.specs.WritingOut.{copy_of, file_of, folder_of}
+use Rattle.dump_trees.specs.WritingOut.{copy_of, file_of, directory_of}
 use Rattle.dump_history.specs.WrittenNodes.{WrittenNode, replacing, written_change}
 use Rattle.dump_history.specs.WrittenNodes as format
 use Rattle.dump_index.specs.Kinds.{kind_look}
@@ -25,20 +25,20 @@ use Rattle.dump_additions.specs.Parts.{ArePartsOf, PartMeant, TakesWhole, kind_i
 abbrev pub kind_said : WrittenNode → Option format.NodeKind
 kind_said (WrittenNode.Deletion path) = None
 kind_said (WrittenNode.Copy kind number source path) = Some kind
-kind_said (WrittenNode.Folder replaces path entries) = None
+kind_said (WrittenNode.Directory replaces path entries) = None
 kind_said (WrittenNode.File replaces path entries text md5 sha1) = None
 
 -- the text that a file says that it has, with its digests
 abbrev pub text_said : WrittenNode → Option ToldText
 text_said (WrittenNode.Deletion path) = None
 text_said (WrittenNode.Copy kind number source path) = None
-text_said (WrittenNode.Folder replaces path entries) = None
+text_said (WrittenNode.Directory replaces path entries) = None
 text_said (WrittenNode.File replaces path entries text md5 sha1) = Some record { text = text; md5 = md5; sha1 = sha1 }
 
 -- the node says that it copies a node of this kind, if there is one
 abbrev pub SaysKind : Option NodeKind → WrittenNode → Type 0
 SaysKind None w = ⊤
-SaysKind (Some kinds.Folder) w = kind_said w ≡ Some format.NodeKind.Dir
+SaysKind (Some kinds.Directory) w = kind_said w ≡ Some format.NodeKind.Dir
 SaysKind (Some kinds.File) w = kind_said w ≡ Some format.NodeKind.File
 
 -- whether the change at this place copies over something that exists before it, and doesn't delete it first
@@ -58,7 +58,7 @@ module _ (blocks : List (List ℕ)) (texts : List ToldText) (listed : List Liste
   IsNodeOfForm Copy rest w = (written_change w ≡ copy_of number (source ++ rest) (path ++ rest))
       × SaysKind (kind_in listed number (source ++ rest)) w
   IsNodeOfForm Directory rest w = (text : List ℕ) × (entries : List Property) × (names_of text ≡ source ++ rest)
-      × (written_change w ≡ folder_of (path ++ rest) entries)
+      × (written_change w ≡ directory_of (path ++ rest) entries)
       × ArePropertiesAt blocks listed text (end_of (all_placed listed) number) entries
   IsNodeOfForm File rest w = (text : List ℕ) × (entries : List Property) × (its : ToldText)
       × (names_of text ≡ source ++ rest)
@@ -81,7 +81,7 @@ module _ (blocks : List (List ℕ)) (texts : List ToldText) (listed : List Liste
   MakesRoot place l own Copy w = ⊥
   MakesRoot place l own Directory w = (l.text ≡ Keeps)
       × (written_change w
-      ≡ replacing (is_some (kind_look listed place (names_of l.path))) (folder_of (names_of l.path) own))
+      ≡ replacing (is_some (kind_look listed place (names_of l.path))) (directory_of (names_of l.path) own))
   MakesRoot place l own File w = (its : ToldText)
       × IsStoredAt texts listed l.path (suc place) (TextStored.Whole its)
       × (text_said w ≡ Some its)
@@ -112,7 +112,7 @@ module _ (blocks : List (List ℕ)) (texts : List ToldText) (listed : List Liste
   -- nothing comes back with what is made at the path
   abbrev pub BringsNone : NodePath → Option Made → Type 0
   BringsNone path None = ⊤
-  BringsNone path (Some Made.NewFolder) = ⊤
+  BringsNone path (Some Made.NewDirectory) = ⊤
   BringsNone path (Some Made.NewFile) = ⊤
   BringsNone path (Some (Made.Copied number source)) = TakesWhole listed excluded number path source []
 

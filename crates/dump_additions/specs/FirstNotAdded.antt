@@ -39,7 +39,7 @@ module _ (blocks : List (List ℕ)) (texts : List ToldText) (listed : List Liste
       ⊎ HasDelta blocks texts listed excluded number (names_of l.path) source inside at)
   -- nothing exists at the source, or a directory does, and is given a text
   IsReason place l number source parts NoLoad =
-      (kind_in listed number source ≡ None) ⊎ ((kind_in listed number source ≡ Some kinds.Folder) × (l.text ≢ Keeps))
+      (kind_in listed number source ≡ None) ⊎ ((kind_in listed number source ≡ Some kinds.Directory) × (l.text ≢ Keeps))
   -- one of the nodes that would be in its place isn't read as it is meant
   IsReason place l number source parts NotWritable =
       (g : GivenStead) × IsAddition blocks texts listed excluded place l g × (list_all can_be_written g.nodes ≡ false)
@@ -56,7 +56,7 @@ module _ (blocks : List (List ℕ)) (texts : List ToldText) (listed : List Liste
   -- something comes back with what is made at the path
   abbrev pub BringsSome : NodePath → Option Made → Type 0
   BringsSome path None = ⊥
-  BringsSome path (Some Made.NewFolder) = ⊥
+  BringsSome path (Some Made.NewDirectory) = ⊥
   BringsSome path (Some Made.NewFile) = ⊥
   BringsSome path (Some (Made.Copied number source)) = TakesSomeBack listed excluded number path source []
 

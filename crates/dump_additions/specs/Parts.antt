@@ -37,7 +37,7 @@ kind_in listed number path = kind_look listed (end_of (all_placed listed) number
 abbrev pub IsFormAt : List Listed → List NodePath → ℕ → NodePath → NodePath → NodePath → Option Form → Type 0
 IsFormAt listed excluded number path source rest (Some Copy) = TakesWhole listed excluded number path source rest
 IsFormAt listed excluded number path source rest (Some Directory) =
-    TakesSomeBack listed excluded number path source rest × (kind_in listed number (source ++ rest) ≡ Some kinds.Folder)
+    TakesSomeBack listed excluded number path source rest × (kind_in listed number (source ++ rest) ≡ Some kinds.Directory)
 IsFormAt listed excluded number path source rest (Some File) =
     TakesSomeBack listed excluded number path source rest × (kind_in listed number (source ++ rest) ≡ Some kinds.File)
 IsFormAt listed excluded number path source rest None =

@@ -46,7 +46,7 @@ fn copy_node<'a>(
     let there = joined(alloc, source.path, rest)?;
     let kind = index.kind_at(alloc, &there, index.end_of(source.revision))?;
     Ok(NewNode::Copy {
-        kind: kind.unwrap_or(NodeKind::Folder),
+        kind: kind.unwrap_or(NodeKind::Directory),
         revision: source.revision,
         source: there,
         path: joined(alloc, path, rest)?,
@@ -70,7 +70,7 @@ fn directory_node<'a>(
 {
     let there = joined(alloc, source.path, rest)?;
     let entries = properties_at(alloc, table, index, &there, index.end_of(source.revision))?;
-    Ok(NewNode::Folder {
+    Ok(NewNode::Directory {
         replaces: false,
         path: joined(alloc, path, rest)?,
         entries,
@@ -224,7 +224,7 @@ fn root_node<'a>(
             md5: own.md5,
             sha1: own.sha1,
         })),
-        None => Ok(Ok(NewNode::Folder {
+        None => Ok(Ok(NewNode::Directory {
             replaces,
             path,
             entries,

@@ -64,7 +64,7 @@ fn form_of(kind: Option<NodeKind>) -> Option<Form>
     ensures { result ≡ form_of kind }
 {
     match kind {
-        Some(NodeKind::Folder) => Some(Form::Directory),
+        Some(NodeKind::Directory) => Some(Form::Directory),
         Some(NodeKind::File) => Some(Form::File),
         None => None,
     }

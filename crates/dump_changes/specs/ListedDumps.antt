@@ -71,7 +71,7 @@ is_listed_copy l = is_copied l.made
   where
     is_copied : Option Made → Bool
     is_copied None = false
-    is_copied (Some Made.NewFolder) = false
+    is_copied (Some Made.NewDirectory) = false
     is_copied (Some Made.NewFile) = false
     is_copied (Some (Made.Copied number source)) = true
 
@@ -80,6 +80,6 @@ abbrev pub without_number : Listed → Listed
 without_number l = record l { made = option_map unnumbered l.made }
   where
     unnumbered : Made → Made
-    unnumbered Made.NewFolder = Made.NewFolder
+    unnumbered Made.NewDirectory = Made.NewDirectory
     unnumbered Made.NewFile = Made.NewFile
     unnumbered (Made.Copied number source) = Made.Copied 0 source

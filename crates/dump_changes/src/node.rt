@@ -52,7 +52,7 @@ fn made_by_kind<'a>(item: &Record<'_>) -> Option<NodeMade<'a>>
 {
     let kind = kind_of(item);
     if kind == DIRECTORY {
-        Some(NodeMade::Folder)
+        Some(NodeMade::Directory)
     } else if kind == FILE {
         Some(NodeMade::File)
     } else {

@@ -44,7 +44,7 @@ fn branched() -> [NodeChange<'static>; 4] {
         path: b"trunk",
     };
     [
-        change(b"trunk", Some(NodeMade::Folder), 1, 3),
+        change(b"trunk", Some(NodeMade::Directory), 1, 3),
         NodeChange {
             text: Setting::Replaces,
             ..change(b"trunk/f", Some(NodeMade::File), 1, 4)
@@ -84,7 +84,7 @@ fn assert_indexed(
     let names = index.children(alloc, b"b", 4)?;
     assert!(rt; names.is_empty());
     let kind = index.kind_at(alloc, b"b", 4)?;
-    assert!(rt; kind == Some(NodeKind::Folder));
+    assert!(rt; kind == Some(NodeKind::Directory));
     Ok(())
 }
 

@@ -23,7 +23,7 @@ use Rattle.dump_trees.specs.Siblings.{ExcludesPaths, has_node_names}
 use Rattle.dump_trees.specs.Trees.{Tree, root_alone}
 use Rattle.dump_trees.proofs.cuts.CoveredPaths.{all_has, contains_cases, contains_first, contains_later, contains_none, covered_by, covered_more, exists_above, filter_has}
 use Rattle.dump_trees.proofs.cuts.EverSiblings.{changed_paths_exist, copied_paths_exist}
-use Rattle.dump_trees.proofs.histories.StandingNames.{loaded_folders}
+use Rattle.dump_trees.proofs.histories.StandingNames.{loaded_directories}
 use Rattle.dump_trees.proofs.paths.CanonicalLemmas.{short_are_canonical}
 use Rattle.dump_trees.proofs.paths.PathNames.{keeps_text}
 use Rattle.dump_trees.proofs.paths.SiblingLemmas.{excluded_match, short_names}
@@ -96,7 +96,7 @@ once_above revisions path rest once = record {
   last = once.last;
   exists =
       exists_above once.tree
-      (loaded_folders (once.front ++ once.changes ∷ []) once.trees _ once.tree once.loads once.last) path rest once.exists;
+      (loaded_directories (once.front ++ once.changes ∷ []) once.trees _ once.tree once.loads once.last) path rest once.exists;
 }
 
 -- the others cover what exists once and these paths cover, if these paths exclude no path alone

@@ -338,7 +338,7 @@ pub nothing_made : (way : Way) (tops : List NodePath) (told : ToldKinds) (placed
     (made : Option Made) → list_all (is_covered tops) (paths_made way tops told placed path made) ≡ true
     → rests_made way tops told placed path made ≡ []
 nothing_made way tops told placed path None covered = refl
-nothing_made way tops told placed path (Some Made.NewFolder) covered = refl
+nothing_made way tops told placed path (Some Made.NewDirectory) covered = refl
 nothing_made way tops told placed path (Some Made.NewFile) covered = refl
 nothing_made way tops told placed path (Some (Made.Copied number source)) covered =
     none (followed_told way tops told placed number path source) (λ rest there. there) covered

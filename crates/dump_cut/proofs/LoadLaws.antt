@@ -52,7 +52,7 @@ copy_is false (Some kind) parent none = parent_is parent
 making_is : (made : Option Made) (root : Bool) (left : Option Kind) (kinds : Kinds) → (root ≡ true → kinds.parent ≡ None)
     → is_none (making_refused made root left kinds) ≡ making_allowed made left kinds
 making_is None root left kinds none = refl
-making_is (Some Made.NewFolder) root left kinds none = new_is root left kinds.parent none
+making_is (Some Made.NewDirectory) root left kinds none = new_is root left kinds.parent none
 making_is (Some Made.NewFile) root left kinds none = new_is root left kinds.parent none
 making_is (Some (Made.Copied number source)) root left kinds none = copy_is root kinds.source kinds.parent none
 

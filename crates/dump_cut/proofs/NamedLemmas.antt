@@ -28,7 +28,7 @@ module _ (patched : Patching) where
   made_named r short = cases (makes r) (is_copy r)
     where
       by_kind : (dir file : Bool)
-          → has_named_source (cond dir (Some Made.NewFolder) (cond file (Some Made.NewFile) None)) ≡ true
+          → has_named_source (cond dir (Some Made.NewDirectory) (cond file (Some Made.NewFile) None)) ≡ true
       by_kind true file = refl
       by_kind false true = refl
       by_kind false false = refl
@@ -103,7 +103,7 @@ number_unnamed l = ap (λ b. has_node_names (names_of l.path) && b) (cases l.mad
   where
     cases : (made : Option Made) → has_named_source ((without_number (record l { made = made })).made) ≡ has_named_source made
     cases None = refl
-    cases (Some Made.NewFolder) = refl
+    cases (Some Made.NewDirectory) = refl
     cases (Some Made.NewFile) = refl
     cases (Some (Made.Copied number source)) = refl
 

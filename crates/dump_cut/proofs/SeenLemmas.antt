@@ -52,7 +52,7 @@ module _ (listed : List Listed) (placed : List Placed) (all : AllZip IsListed li
   source_meant : (revision : ℕ) (made : Option Made)
       → option_map kind_meant (source_look listed revision made) ≡ source_told (kinds_told_by listed) placed revision made
   source_meant revision None = refl
-  source_meant revision (Some Made.NewFolder) = refl
+  source_meant revision (Some Made.NewDirectory) = refl
   source_meant revision (Some Made.NewFile) = refl
   source_meant revision (Some (Made.Copied number source)) =
       meant_cond (nat_lt number revision) (kind_look listed (end_of (all_placed listed) number) source)

@@ -6,7 +6,7 @@ use Rattle.std.proofs.lemmas.Bool.{and_parts, and_from, eqb-true, not_from_false
 use Rattle.std.proofs.lemmas.Option.{slice_get_within}
 use Rattle.dump_rules.specs.Settings.{Settings}
 use Rattle.dump_trees.specs.Paths.{NodePath, keeps}
-use Rattle.dump_trees.specs.Trees.{Tree, HasFolders, root_alone}
+use Rattle.dump_trees.specs.Trees.{Tree, HasDirectories, root_alone}
 use Rattle.dump_trees.specs.Changes.{Made, Change, step}
 use Rattle.dump_trees.specs.Separation.{Separates}
 use Rattle.dump_trees.specs.Revisions.{loaded, loaded_over, AllSeparate, AllRevisionsSeparate}
@@ -32,9 +32,9 @@ both_ways false is isnt = let bad : false ≡ true = isnt in cc
 
 -- if a copy isn't followed anywhere, the paths cover what it would be followed to
 reached : (way : Way) (tops : List NodePath) (old : Tree) (path source rest : NodePath)
-    → followed way tops old path source ≡ [] → HasFolders old → is_some (old (source ++ rest)) ≡ true
+    → followed way tops old path source ≡ [] → HasDirectories old → is_some (old (source ++ rest)) ≡ true
     → is_covered tops (from_of way path source ++ rest) ≡ true → is_covered tops (to_of way path source ++ rest) ≡ true
-reached way tops old path source rest none folders exists covered =
+reached way tops old path source rest none directories exists covered =
     cases (is_covered tops (to_of way path source ++ rest)) refl
   where
     cases : (b : Bool) → is_covered tops (to_of way path source ++ rest) ≡ b
@@ -47,7 +47,7 @@ reached way tops old path source rest none folders exists covered =
         (filter_has (λ r. is_some (old (source ++ r)) && not (is_covered tops (to_of way path source ++ r)))
         (rests_covered (from_of way path source) tops) first there
         (and_from _ _
-        (exists_above old folders (source ++ first) more
+        (exists_above old directories (source ++ first) more
         (subst (λ p. is_some (old p) ≡ true) (ap (λ r. source ++ r) same ∙ sym (append_assoc source first more)) exists))
         (not_from_false _ (uncovered_above tops (to_of way path source ++ first) more
         (subst (λ p. is_covered tops p ≡ false)
@@ -138,9 +138,9 @@ module _ (settings : Settings) (excluded : List NodePath) (told : ToldKinds) (re
         cases true true one two = one ∙ sym two
         cases false false one two = one ∙ sym two
         cases true false one two =
-            absurd (both_ways _ two (reached Way.ToSources excluded old c.path source rest none.1 over.folders exists one))
+            absurd (both_ways _ two (reached Way.ToSources excluded old c.path source rest none.1 over.directories exists one))
         cases false true one two =
-            absurd (both_ways _ one (reached Way.ToCopies excluded old c.path source rest none.0 over.folders exists two))
+            absurd (both_ways _ one (reached Way.ToCopies excluded old c.path source rest none.0 over.directories exists two))
 
     kept_separates : Separates settings (slice_get older) before c after
     kept_separates = record {

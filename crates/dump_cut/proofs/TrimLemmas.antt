@@ -136,7 +136,7 @@ module _ (settings : Settings) (excluded : List NodePath) (told : ToldKinds) (re
         names = named;
         copies = makes;
         there = early.1;
-        folders = over.folders;
+        directories = over.directories;
         named = over.named;
         path = over.path;
       }
@@ -180,10 +180,10 @@ module _ (settings : Settings) (excluded : List NodePath) (told : ToldKinds) (re
           ap (rests_made Way.ToSources excluded told here c.path) makes,
           apart_alone (λ number source bad. let same : None ≡ Some (Made.Copied number source) = sym makes ∙ bad in cc),
         )
-        cases (Some Made.NewFolder) makes = inl (
+        cases (Some Made.NewDirectory) makes = inl (
           ap (rests_made Way.ToSources excluded told here c.path) makes,
           apart_alone (λ number source bad.
-              let same : Some Made.NewFolder ≡ Some (Made.Copied number source) = sym makes ∙ bad in cc),
+              let same : Some Made.NewDirectory ≡ Some (Made.Copied number source) = sym makes ∙ bad in cc),
         )
         cases (Some Made.NewFile) makes = inl (
           ap (rests_made Way.ToSources excluded told here c.path) makes,

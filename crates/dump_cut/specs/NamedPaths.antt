@@ -8,7 +8,7 @@ use Rattle.dump_index.specs.Listed.{Listed}
 -- whether a copy's source has names of nodes
 abbrev pub has_named_source : Option Made → Bool
 has_named_source None = true
-has_named_source (Some Made.NewFolder) = true
+has_named_source (Some Made.NewDirectory) = true
 has_named_source (Some Made.NewFile) = true
 has_named_source (Some (Made.Copied number source)) = has_node_names source
 

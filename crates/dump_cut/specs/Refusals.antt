@@ -41,7 +41,7 @@ copying_refused false (Some kind) parent = parent_refused parent
 -- why a load rejects what a change makes, if this is left at its path after the deletion
 abbrev pub making_refused : Option Made → Bool → Option Kind → Kinds → Option Refusal
 making_refused None at_root left kinds = None
-making_refused (Some Made.NewFolder) at_root left kinds = new_refused at_root left kinds.parent
+making_refused (Some Made.NewDirectory) at_root left kinds = new_refused at_root left kinds.parent
 making_refused (Some Made.NewFile) at_root left kinds = new_refused at_root left kinds.parent
 making_refused (Some (Made.Copied number source)) at_root left kinds = copying_refused at_root kinds.source kinds.parent
 

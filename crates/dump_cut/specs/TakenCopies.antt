@@ -40,7 +40,7 @@ is_copy_taken excluded told placed number path source =
 -- whether what a change makes is taken; what is new is always taken
 abbrev pub is_made_taken : List NodePath → ToldKinds → List Placed → NodePath → Option Made → Bool
 is_made_taken excluded told placed path None = true
-is_made_taken excluded told placed path (Some Made.NewFolder) = true
+is_made_taken excluded told placed path (Some Made.NewDirectory) = true
 is_made_taken excluded told placed path (Some Made.NewFile) = true
 is_made_taken excluded told placed path (Some (Made.Copied number source)) =
     is_copy_taken excluded told placed number path source

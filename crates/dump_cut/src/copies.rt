@@ -13,7 +13,7 @@ pub fn source_of<'a>(change: &NodeChange<'a>) -> Option<Source<'a>>
 {
     match change.made {
         None => None,
-        Some(NodeMade::Folder) => None,
+        Some(NodeMade::Directory) => None,
         Some(NodeMade::File) => None,
         Some(NodeMade::CopyOf(source)) => Some(source),
     }

@@ -59,7 +59,7 @@ fn parent_refused(parent: Option<NodeKind>) -> Option<Refusal>
     ensures { result ≡ parent_refused (option_map kind_meant parent) }
 {
     match parent {
-        Some(NodeKind::Folder) => None,
+        Some(NodeKind::Directory) => None,
         _ => Some(Refusal::NoParent),
     }
 }
@@ -101,7 +101,7 @@ fn making_refused(change: &NodeChange<'_>, left: Option<NodeKind>, kinds: &Kinds
 {
     match change.made {
         None => None,
-        Some(NodeMade::Folder) => new_refused(is_root(change.path), left, kinds.parent),
+        Some(NodeMade::Directory) => new_refused(is_root(change.path), left, kinds.parent),
         Some(NodeMade::File) => new_refused(is_root(change.path), left, kinds.parent),
         Some(NodeMade::CopyOf(_)) => copying_refused(
             is_root(change.path),
@@ -123,7 +123,7 @@ fn made_by(
 {
     match change.made {
         None => left,
-        Some(NodeMade::Folder) => Some(NodeKind::Folder),
+        Some(NodeMade::Directory) => Some(NodeKind::Directory),
         Some(NodeMade::File) => Some(NodeKind::File),
         Some(NodeMade::CopyOf(_)) => source,
     }
@@ -158,7 +158,7 @@ fn text_refused(sets: bool, made: Option<NodeKind>) -> Option<Refusal>
     }
     match made {
         None => Some(Refusal::NoPath),
-        Some(NodeKind::Folder) => Some(Refusal::TextOnDirectory),
+        Some(NodeKind::Directory) => Some(Refusal::TextOnDirectory),
         Some(NodeKind::File) => None,
     }
 }

@@ -136,7 +136,7 @@ module _ (path source : Vec ℕ Global) (entries : Vec NodeProperty Global) (p :
       ≡ format.WrittenNode.Copy format.NodeKind.File 7 source.items path.items
   file_copied = refl
 
-  directory_copied : written_of (nodes.Copy kinds.Folder 7 source path)
+  directory_copied : written_of (nodes.Copy kinds.Directory 7 source path)
       ≡ format.WrittenNode.Copy format.NodeKind.Dir 7 source.items path.items
   directory_copied = refl
 

@@ -17,7 +17,7 @@ const TAIL: &str = "Revision-number: 3\n\n";
 
 const DELETION: &str = "Node-path: b\nNode-action: delete\n\n\n";
 
-const FOLDER_AND_COPY: &str = "Node-path: b\nNode-kind: dir\nNode-action: add\n\
+const DIRECTORY_AND_COPY: &str = "Node-path: b\nNode-kind: dir\nNode-action: add\n\
 Prop-content-length: 33\nContent-length: 33\n\n\
 K 10\nsvn:ignore\nV 2\nx\n\nPROPS-END\n\n\n\
 Node-path: b/f\nNode-kind: file\nNode-action: add\n\
@@ -53,7 +53,7 @@ fn deletion(alloc: Global, path: &[u8]) -> Result<NewNode<'static>, Memory> {
 }
 
 /// The directory `b`, with a property of this name.
-fn folder(alloc: Global, name: &'static [u8]) -> Result<NewNode<'static>, Memory> {
+fn directory(alloc: Global, name: &'static [u8]) -> Result<NewNode<'static>, Memory> {
     let path = Vec::from_slice(alloc, b"b")?;
     let entries = Vec::from_slice(
         alloc,
@@ -62,7 +62,7 @@ fn folder(alloc: Global, name: &'static [u8]) -> Result<NewNode<'static>, Memory
             value: b"x\n",
         }],
     )?;
-    Ok(NewNode::Folder {
+    Ok(NewNode::Directory {
         replaces: false,
         path,
         entries,
@@ -124,11 +124,11 @@ fn replaces(alloc: Global, nodes: Vec<NewNode<'static>>, wanted: &str) -> Result
 }
 
 /// Whether the copy is replaced by a directory and a copy of its content.
-fn replaces_by_folder(alloc: Global) -> Result<bool, Memory> {
+fn replaces_by_directory(alloc: Global) -> Result<bool, Memory> {
     let mut nodes = Vec::new(alloc);
-    nodes.push(folder(alloc, b"svn:ignore")?)?;
+    nodes.push(directory(alloc, b"svn:ignore")?)?;
     nodes.push(copy(alloc, 1)?)?;
-    replaces(alloc, nodes, FOLDER_AND_COPY)
+    replaces(alloc, nodes, DIRECTORY_AND_COPY)
 }
 
 /// Whether the copy is replaced by a file with digests, and that by one without.
@@ -141,13 +141,13 @@ fn replaces_by_files(alloc: Global) -> Result<bool, Memory> {
 
 #[test]
 fn a_copy_is_replaced(rt: HostRuntime) -> Result<(), Fail> {
-    assert!(rt; replaces_by_folder(rt.alloc())?);
+    assert!(rt; replaces_by_directory(rt.alloc())?);
     Ok(())
 }
 
 #[test]
 fn replaced_or_no_memory(rt: HostRuntime) {
-    let answer = replaces_by_folder(rt.alloc());
+    let answer = replaces_by_directory(rt.alloc());
     assert!(rt; matches!(answer, Ok(true) | Err(Memory)));
 }
 
@@ -199,7 +199,7 @@ fn nodes_that_cannot_be_written(rt: HostRuntime) -> Result<(), Fail> {
     assert!(rt; can_delete(alloc, b"a/b")? && !can_delete(alloc, b"a/./b")?);
     assert!(rt; !can_delete(alloc, b"a\nb")? && !can_delete(alloc, b"a\0b")?);
     assert!(rt; !copy(alloc, 1_000_000_000_000_000_000)?.can_be_written());
-    assert!(rt; !folder(alloc, b"a\0")?.can_be_written());
+    assert!(rt; !directory(alloc, b"a\0")?.can_be_written());
     assert!(rt; file(alloc, false, Some(MD5), None)?.can_be_written());
     assert!(rt; !file(alloc, false, Some(b"a\nb"), None)?.can_be_written());
     assert!(rt; !file(alloc, false, None, Some(b"a\0"))?.can_be_written());

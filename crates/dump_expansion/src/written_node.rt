@@ -36,7 +36,7 @@ pub enum NewNode<'t> {
         path: Vec<u8>,
     },
     /// Makes a directory with these properties, where nothing is or in place of what is there.
-    Folder {
+    Directory {
         replaces: bool,
         path: Vec<u8>,
         entries: Vec<NodeProperty<'t>>,
@@ -154,7 +154,7 @@ fn kind_word(kind: NodeKind) -> &'static [u8]
     ensures { result.now ≡ kind_word (written_kind kind) }
 {
     match kind {
-        NodeKind::Folder => b"dir",
+        NodeKind::Directory => b"dir",
         NodeKind::File => b"file",
     }
 }
@@ -198,9 +198,14 @@ fn making_word(replaces: bool) -> &'static [u8]
 }
 
 /// Appends a node that makes a directory with the properties of this block.
-fn push_folder(out: &mut Vec<u8>, replaces: bool, path: &[u8], block: &[u8]) -> Result<(), Memory>
+fn push_directory(
+    out: &mut Vec<u8>,
+    replaces: bool,
+    path: &[u8],
+    block: &[u8],
+) -> Result<(), Memory>
     ensures { (entries : List Property) → block.now ≡ property_block_text entries
-        → OnOk result (out.new.items ≡ out.old.items ++ node_bytes (WrittenNode.Folder replaces path.now entries)) }
+        → OnOk result (out.new.items ≡ out.old.items ++ node_bytes (WrittenNode.Directory replaces path.now entries)) }
 {
     push_line(out, HeaderName::NodePath, path)?;
     push_line(out, HeaderName::NodeKind, b"dir")?;
@@ -286,7 +291,7 @@ impl<'t> NewNode<'t> {
                 path,
                 ..
             } => is_plain_path(path) && is_plain_path(source) && *revision < TOO_LONG,
-            NewNode::Folder { path, entries, .. } => {
+            NewNode::Directory { path, entries, .. } => {
                 is_plain_path(path) && are_entries_plain(entries)
             }
             NewNode::File {
@@ -317,13 +322,13 @@ impl<'t> NewNode<'t> {
                 source,
                 path,
             } => push_copy(out, *kind, *revision, source, path),
-            NewNode::Folder {
+            NewNode::Directory {
                 replaces,
                 path,
                 entries,
             } => {
                 let block = block_of(alloc, entries)?;
-                push_folder(out, *replaces, path, &block)
+                push_directory(out, *replaces, path, &block)
             }
             NewNode::File {
                 replaces,
@@ -345,7 +350,7 @@ impl<'t> NewNode<'t> {
     {
         match self {
             NewNode::Deletion { .. } | NewNode::Copy { .. } => b"\n",
-            NewNode::Folder { .. } | NewNode::File { .. } => b"\n\n",
+            NewNode::Directory { .. } | NewNode::File { .. } => b"\n\n",
         }
     }
 }

@@ -3,7 +3,7 @@ pub mod LoadsOnce
 pub mod FrontSize
 pub mod FilteredLaw
 pub mod RaisedLemmas
-pub mod FolderLaw
+pub mod DirectoryLaw
 pub mod PartNumbers
 pub mod PartChanges
 pub mod PartLaw

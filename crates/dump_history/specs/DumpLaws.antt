@@ -172,8 +172,8 @@ LoadBehindGiven settings older moved others =
 -- what is written makes these changes, and is loaded after revision 1, which has the parent directories. If the load
 -- raises each copy's number, and mergeinfo, by one, there is a tree for each kept revision, and the trees are these
 -- trees, restricted. They begin with that of revision 1, so each is at the image of its number, raised by one
-abbrev pub WrittenLoadsBehindFolders : Settings → List DumpRecord → List Tree → List (List Change) → Type 0
-WrittenLoadsBehindFolders settings records trees written =
+abbrev pub WrittenLoadsAfterDirectories : Settings → List DumpRecord → List Tree → List (List Change) → Type 0
+WrittenLoadsAfterDirectories settings records trees written =
     (moved : List (List Change)) → AreRevisionsBehind (IsRaised 1) 1 written moved
     → (others : List Tree)
     × LoadBehindGiven settings (root_alone ∷ []) moved others
@@ -188,32 +188,32 @@ LaterRevisionsKeepProperties settings records again =
 
 -- an administrator has created the parent directories in revision 1 of a new repository, and loads the text after it:
 -- the text is a dump that makes changes, which load and have the restricted trees
-abbrev pub LoadsBehindFolders : Patching → Settings → List DumpRecord → List Tree → List ℕ → Type 0
-LoadsBehindFolders patched settings records trees text =
+abbrev pub LoadsAfterDirectories : Patching → Settings → List DumpRecord → List Tree → List ℕ → Type 0
+LoadsAfterDirectories patched settings records trees text =
     (again : List DumpRecord) × (written : List (List Change))
     × HasRecords text again Ending.Whole
     × MakeRevisionsWithGaps patched again written
     × HasNoGapIfKept settings records 0 again
-    × WrittenLoadsBehindFolders settings records trees written
+    × WrittenLoadsAfterDirectories settings records trees written
     × LaterRevisionsKeepProperties settings records again
 
 -- what the filter writes of a dump that loads, and whose changes are separated, loads so
-abbrev pub FilteredDumpRestrictsBehindFolders : Type 0
-FilteredDumpRestrictsBehindFolders = (patched : Patching) (settings : Settings) (dump text : List ℕ)
+abbrev pub FilteredDumpRestrictsAfterDirectories : Type 0
+FilteredDumpRestrictsAfterDirectories = (patched : Patching) (settings : Settings) (dump text : List ℕ)
     (records : List DumpRecord) (revisions : List (List Change)) (trees : List Tree) →
     IsCleanText settings dump records text → LengthsFit settings records
     → KeepsNamedNumbers settings records
     → LoadsAs patched root_alone records revisions trees
     → AllRevisionsSeparate settings (root_alone ∷ []) root_alone revisions
-    → LoadsBehindFolders patched settings records trees text
+    → LoadsAfterDirectories patched settings records trees text
 
 -- the same of a dump whose changes are quiet, and which makes no copy that loses its source over an existing node
-abbrev pub QuietDumpRestrictsBehindFolders : Type 0
-QuietDumpRestrictsBehindFolders = (patched : Patching) (settings : Settings) (dump text : List ℕ)
+abbrev pub QuietDumpRestrictsAfterDirectories : Type 0
+QuietDumpRestrictsAfterDirectories = (patched : Patching) (settings : Settings) (dump text : List ℕ)
     (records : List DumpRecord) (revisions : List (List Change)) (trees : List Tree) →
     IsCleanText settings dump records text → LengthsFit settings records
     → KeepsNamedNumbers settings records
     → LoadsAs patched root_alone records revisions trees
     → IsTrue (are_quiet settings revisions)
     → IsTrue (nowhere_is_over settings (root_alone ∷ []) root_alone revisions)
-    → LoadsBehindFolders patched settings records trees text
+    → LoadsAfterDirectories patched settings records trees text

@@ -23,7 +23,7 @@ use Rattle.dump_trees.specs.EveryHistory.{loses_none}
 use Rattle.dump_history.specs.RecordChanges.{Patching, has_action, makes}
 use Rattle.dump_history.specs.DumpChanges.{MakeChanges, MakeRevisions, HaveRevisionProperties, LoadsAs}
 use Rattle.dump_history.specs.NumberGaps.{KeepsNamedNumbers}
-use Rattle.dump_history.specs.DumpLaws.{LoadsRestricted, LoadsBehindFolders}
+use Rattle.dump_history.specs.DumpLaws.{LoadsRestricted, LoadsAfterDirectories}
 use Rattle.dump_history.specs.WrittenNodes.{WrittenNode, node_record, can_be_written}
 
 -- what is left of a record of the dump
@@ -141,8 +141,8 @@ FilteredExpansionRestricts = (patched : Patching) (settings : Settings) (dump ex
     → LoadsRestricted patched settings again trees text
 
 -- the same if it is loaded after the parent directories
-abbrev pub FilteredExpansionRestrictsBehindFolders : Type 0
-FilteredExpansionRestrictsBehindFolders = (patched : Patching) (settings : Settings) (dump expansion text : List ℕ)
+abbrev pub FilteredExpansionRestrictsAfterDirectories : Type 0
+FilteredExpansionRestrictsAfterDirectories = (patched : Patching) (settings : Settings) (dump expansion text : List ℕ)
     (records : List DumpRecord) (steads : List Stead) (again : List DumpRecord)
     (revisions expanded : List (List Change)) (trees : List Tree) →
     HasRecords dump records Ending.Whole
@@ -150,7 +150,7 @@ FilteredExpansionRestrictsBehindFolders = (patched : Patching) (settings : Setti
     → IsExpandedDump patched settings records steads again revisions expanded
     → IsCleanText settings expansion again text → LengthsFit settings again
     → KeepsNamedNumbers settings again
-    → LoadsBehindFolders patched settings again trees text
+    → LoadsAfterDirectories patched settings again trees text
 
 -- whether the kept node has lines that state a copy source that isn't kept, and makes nothing; no load reads these
 -- lines, but the filter rejects it

@@ -17,7 +17,7 @@ use Rattle.dump_trees.specs.EveryHistory.{loses_none}
 use Rattle.dump_history.specs.RecordChanges.{Patching}
 use Rattle.dump_history.specs.DumpChanges.{MakeRevisions, LoadsAs}
 use Rattle.dump_history.specs.NumberGaps.{KeepsNamedNumbers}
-use Rattle.dump_history.specs.DumpLaws.{LoadsRestricted, LoadsBehindFolders}
+use Rattle.dump_history.specs.DumpLaws.{LoadsRestricted, LoadsAfterDirectories}
 use Rattle.dump_history.specs.WrittenNodes.{written_change, replacing}
 use Rattle.dump_history.specs.ExpandedDumps.{OwnForm, Stead, may_stand, expanded_records, IsExpandedDump, takes_idle_source}
 
@@ -104,7 +104,7 @@ FilteredTextsRestrict = (patched : Patching) (settings : Settings) (dump text fi
     → AllRevisionsExpand settings (root_alone ∷ []) root_alone revisions (made_in_stead records steads revisions)
     → IsCleanText settings text again filtered → LengthsFit settings again
     → KeepsNamedNumbers settings again
-    → LoadsRestricted patched settings again trees filtered × LoadsBehindFolders patched settings again trees filtered
+    → LoadsRestricted patched settings again trees filtered × LoadsAfterDirectories patched settings again trees filtered
 
 -- and if it loses no source, the filter misses none in it
 abbrev pub NoSourceIsMissedInText : Type 0

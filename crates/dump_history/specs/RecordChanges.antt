@@ -40,7 +40,7 @@ makes r = has_action (codes "add") r || has_action (codes "replace") r
 -- what is made of the node's kind; without one, or of an unknown one, nothing is made
 abbrev pub made_by_kind : DumpRecord → Option Made
 made_by_kind r =
-    if says node_kind_name (codes "dir") r then Some Made.NewFolder
+    if says node_kind_name (codes "dir") r then Some Made.NewDirectory
     else if says node_kind_name (codes "file") r then Some Made.NewFile
     else None
 

@@ -2,7 +2,7 @@
 use Rattle.std.specs.Prelude.{◌≡◌, ℕ, Bool, List, ◌∷◌, Some, is_some, IsTrue}
 use Rattle.dump_rules.specs.Settings.{Settings}
 use Rattle.dump_trees.specs.Paths.{NodePath, keeps}
-use Rattle.dump_trees.specs.Trees.{Tree, HasFolders}
+use Rattle.dump_trees.specs.Trees.{Tree, HasDirectories}
 use Rattle.dump_trees.specs.Changes.{Made, Change, History}
 use Rattle.dump_trees.specs.Branches.{Branch, is_distinct, HasBranch}
 use Rattle.dump_trees.specs.WritingOut.{WritesOut}
@@ -15,7 +15,7 @@ use Rattle.dump_history.specs.WrittenNodes.{replacing}
 abbrev pub KeptCopyReplaces : Type 0
 KeptCopyReplaces = (settings : Settings) (history : History) (before old : Tree) (c : Change) (number : ℕ)
     (source : NodePath) (branch made : Branch) (first : Change) (changes : List Change) →
-    HasFolders before → IsTrue (is_some (before c.path)) → IsTrue (keeps settings c.path)
+    HasDirectories before → IsTrue (is_some (before c.path)) → IsTrue (keeps settings c.path)
     → c.made ≡ Some (Made.Copied number source) → history number ≡ Some old → HasBranch old source branch
     → IsTrue (is_distinct branch) → branch_made c branch ≡ Some made
     → WritesOut settings history c.path made (first ∷ changes)

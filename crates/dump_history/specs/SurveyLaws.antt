@@ -13,7 +13,7 @@ use Rattle.dump_trees.specs.Quiet.{is_quiet, nowhere_is_over}
 use Rattle.dump_trees.specs.Revisions.{loaded_over}
 use Rattle.dump_history.specs.RecordChanges.{Patching, MakesChange}
 use Rattle.dump_history.specs.DumpChanges.{MakeRevisions}
-use Rattle.dump_history.specs.DumpLaws.{LoadsRestricted, LoadsBehindFolders, FrontLoadsRestricted}
+use Rattle.dump_history.specs.DumpLaws.{LoadsRestricted, LoadsAfterDirectories, FrontLoadsRestricted}
 use Rattle.dump_history.specs.PartLaws.{MakePartRevisions, PartLoadsRestricted}
 use Rattle.dump_history.specs.Findings.{begins_at, NodeFaults, findings_of, IsReadBlock, AreFindingsOf, is_obstacle, is_alarm, AreDumpFindingsOf}
 use Rattle.dump_history.specs.declared.findings.DumpFinding.{DumpFinding}
@@ -84,7 +84,7 @@ RestrictsFrom patched settings records text zero =
     (revisions : List (List Change)) × MakeRevisions patched records revisions
     × ((trees : List Tree) → loaded_over root_alone revisions ≡ Some trees
     → IsTrue (nowhere_is_over settings (root_alone ∷ []) root_alone revisions)
-    → LoadsRestricted patched settings records trees text × LoadsBehindFolders patched settings records trees text)
+    → LoadsRestricted patched settings records trees text × LoadsAfterDirectories patched settings records trees text)
 RestrictsFrom patched settings records text (suc before) =
     (revisions : List (List Change)) × MakePartRevisions patched before records revisions
     × ((trees : List Tree) → loaded_over root_alone revisions ≡ Some trees

@@ -10,7 +10,7 @@ use Rattle.dump_text.specs.HeaderBlock.{block_text}
 use Rattle.dump_records.specs.RecordText.{DumpRecord, BeginsWithRecord}
 use Rattle.dump_trees.specs.Paths.{path_of, is_short}
 use Rattle.dump_trees.specs.Changes.{Change}
-use Rattle.dump_trees.specs.WritingOut.{copy_of, folder_of, file_of}
+use Rattle.dump_trees.specs.WritingOut.{copy_of, directory_of, file_of}
 use Rattle.dump_trees.specs.ExpansionCases.{deletion_of}
 use Rattle.dump_history.specs.RecordChanges.{Patching, MakesChange}
 
@@ -26,7 +26,7 @@ pub data WrittenNode : Type 0 where
   -- the source, as it is in the revision of this number, is copied to the path
   Copy : (kind : NodeKind) → (number : ℕ) → (source : List ℕ) → (path : List ℕ) → WrittenNode
   -- a directory with the properties of these entries; it replaces what is at the path, or nothing is there
-  Folder : (replaces : Bool) → (path : List ℕ) → (entries : List Property) → WrittenNode
+  Directory : (replaces : Bool) → (path : List ℕ) → (entries : List Property) → WrittenNode
   -- so a file with this text too, perhaps with digests of it
   File : (replaces : Bool) → (path : List ℕ) → (entries : List Property) → (text : List ℕ)
       → (md5 : Option (List ℕ)) → (sha1 : Option (List ℕ)) → WrittenNode
@@ -67,7 +67,7 @@ node_lines (WrittenNode.Copy kind number source path) =
     ∷ line action_name (codes "add")
     ∷ number_line copy_revision_name number
     ∷ line copy_path_name source ∷ []
-node_lines (WrittenNode.Folder replaces path entries) =
+node_lines (WrittenNode.Directory replaces path entries) =
     line path_name path
     ∷ line node_kind_name (codes "dir")
     ∷ line action_name (making_word replaces)
@@ -89,14 +89,14 @@ node_lines (WrittenNode.File replaces path entries text md5 sha1) =
 abbrev pub node_props : WrittenNode → List ℕ
 node_props (WrittenNode.Deletion path) = []
 node_props (WrittenNode.Copy kind number source path) = []
-node_props (WrittenNode.Folder replaces path entries) = property_block_text entries
+node_props (WrittenNode.Directory replaces path entries) = property_block_text entries
 node_props (WrittenNode.File replaces path entries text md5 sha1) = property_block_text entries
 
 -- the node's text
 abbrev pub node_text : WrittenNode → List ℕ
 node_text (WrittenNode.Deletion path) = []
 node_text (WrittenNode.Copy kind number source path) = []
-node_text (WrittenNode.Folder replaces path entries) = []
+node_text (WrittenNode.Directory replaces path entries) = []
 node_text (WrittenNode.File replaces path entries text md5 sha1) = text
 
 -- the node as the record at this place of a dump, where this version is in force
@@ -129,7 +129,7 @@ replacing replaces c = record {
 abbrev pub written_change : WrittenNode → Change
 written_change (WrittenNode.Deletion path) = deletion_of (path_of path)
 written_change (WrittenNode.Copy kind number source path) = copy_of number (path_of source) (path_of path)
-written_change (WrittenNode.Folder replaces path entries) = replacing replaces (folder_of (path_of path) entries)
+written_change (WrittenNode.Directory replaces path entries) = replacing replaces (directory_of (path_of path) entries)
 written_change (WrittenNode.File replaces path entries text md5 sha1) =
     replacing replaces (file_of (path_of path) entries text)
 
@@ -162,7 +162,7 @@ abbrev pub can_be_written : WrittenNode → Bool
 can_be_written (WrittenNode.Deletion path) = is_plain_path path
 can_be_written (WrittenNode.Copy kind number source path) =
     is_plain_path path && is_plain_path source && is_readable number
-can_be_written (WrittenNode.Folder replaces path entries) =
+can_be_written (WrittenNode.Directory replaces path entries) =
     is_plain_path path && are_plain_entries entries && is_readable (length (property_block_text entries))
 can_be_written (WrittenNode.File replaces path entries text md5 sha1) =
     is_plain_path path && are_plain_entries entries

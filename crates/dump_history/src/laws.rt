@@ -1,7 +1,7 @@
 //! Laws of dumps and of the repositories that they make; each is the contract of a function that does nothing.
 ghost use Rattle.dump_history.specs.CutDumps.{ExcludedDumpLoads, ExcludedDumpLoadsNumbered, FilteredDumpsTellKeptPaths, NumbersAreKept};
-ghost use Rattle.dump_history.specs.DumpLaws.{DumpLoadsOnce, DumpLoadsTheSameBehindOthers, FilteredDumpRestricts, FilteredDumpRestrictsBehindFolders, NoGapIsNeeded, PlainRevisionsStay, FilteredDumpFrontRestricts, QuietDumpRestricts, QuietDumpRestrictsBehindFolders, QuietDumpFrontRestricts};
-ghost use Rattle.dump_history.specs.ExpandedDumps.{ExpandedDumpLoads, FilteredExpansionRestricts, FilteredExpansionRestrictsBehindFolders, NoSourceIsMissed};
+ghost use Rattle.dump_history.specs.DumpLaws.{DumpLoadsOnce, DumpLoadsTheSameBehindOthers, FilteredDumpRestricts, FilteredDumpRestrictsAfterDirectories, NoGapIsNeeded, PlainRevisionsStay, FilteredDumpFrontRestricts, QuietDumpRestricts, QuietDumpRestrictsAfterDirectories, QuietDumpFrontRestricts};
+ghost use Rattle.dump_history.specs.ExpandedDumps.{ExpandedDumpLoads, FilteredExpansionRestricts, FilteredExpansionRestrictsAfterDirectories, NoSourceIsMissed};
 ghost use Rattle.dump_history.specs.ExpandedText.{ExpansionsAreDumps, FilteredTextsRestrict, NoSourceIsMissedInText};
 ghost use Rattle.dump_history.specs.KeptChanges.{FilteredChangesAreKept, RenumberedChangesAreKept, TrimmedChangesAreKept};
 ghost use Rattle.dump_history.specs.PartLaws.{FilteredPartRestricts, NoGapIsNeededInPart, QuietPartRestricts};
@@ -29,9 +29,9 @@ pub fn each_filtered_front_restricts()
 
 /// An administrator may make the parent directories in a revision of their own. Loaded after it, what the filter
 /// writes has the restricted trees, each one revision later, and the numbers in mergeinfo are higher by one.
-pub fn each_dump_restricts_behind_folders()
-    ensures separated { FilteredDumpRestrictsBehindFolders }
-    ensures quiet { QuietDumpRestrictsBehindFolders }
+pub fn each_dump_restricts_after_directories()
+    ensures separated { FilteredDumpRestrictsAfterDirectories }
+    ensures quiet { QuietDumpRestrictsAfterDirectories }
 {}
 
 /// The law is true of a partial dump, which begins above revision 0, too: loaded over the parent directories, or after
@@ -91,7 +91,7 @@ pub fn each_expansion_is_a_dump()
 pub fn each_expanded_dump_restricts()
     ensures loads { ExpandedDumpLoads }
     ensures filtered { FilteredExpansionRestricts }
-    ensures behind { FilteredExpansionRestrictsBehindFolders }
+    ensures behind { FilteredExpansionRestrictsAfterDirectories }
     ensures sources { NoSourceIsMissed }
 {}
 

@@ -11,7 +11,7 @@ use Rattle.dump_trees.proofs.expansions.BackLemmas.{LooksBack, look_back}
 use Rattle.dump_index.specs.Listed.{Listed, placed_of, all_placed, plain_props, plain_text}
 use Rattle.dump_index.specs.Kinds.{node_kind, kind_look}
 use Rattle.dump_index.specs.declared.change.NodeKind.{NodeKind}
-use Rattle.dump_index.specs.declared.change.NodeKind.TheVariants.{Folder, File}
+use Rattle.dump_index.specs.declared.change.NodeKind.TheVariants.{Directory, File}
 use Rattle.dump_index.specs.declared.change.Setting.{Setting}
 use Rattle.dump_index.specs.declared.change.Setting.TheVariants.{Keeps, Replaces, Edits, EditsNothing}
 use Rattle.dump_index.specs.declared.order.Effect.TheVariants.{Shaping, Moving, Texts}
@@ -29,26 +29,26 @@ kind_props : (s : Setting) (node : Option Node)
     → option_map node_kind (node_with_props (plain_props s) node) ≡ option_map node_kind node
 kind_props Keeps old = refl
 kind_props Replaces None = refl
-kind_props Replaces (Some (Node.Folder props)) = refl
+kind_props Replaces (Some (Node.Directory props)) = refl
 kind_props Replaces (Some (Node.File props text)) = refl
 kind_props Edits None = refl
-kind_props Edits (Some (Node.Folder props)) = refl
+kind_props Edits (Some (Node.Directory props)) = refl
 kind_props Edits (Some (Node.File props text)) = refl
 kind_props EditsNothing None = refl
-kind_props EditsNothing (Some (Node.Folder props)) = refl
+kind_props EditsNothing (Some (Node.Directory props)) = refl
 kind_props EditsNothing (Some (Node.File props text)) = refl
 
 kind_text : (s : Setting) (node : Option Node)
     → option_map node_kind (node_with_text (plain_text s) node) ≡ kind_with_text (sets s) (option_map node_kind node)
 kind_text Keeps old = refl
 kind_text Replaces None = refl
-kind_text Replaces (Some (Node.Folder props)) = refl
+kind_text Replaces (Some (Node.Directory props)) = refl
 kind_text Replaces (Some (Node.File props text)) = refl
 kind_text Edits None = refl
-kind_text Edits (Some (Node.Folder props)) = refl
+kind_text Edits (Some (Node.Directory props)) = refl
 kind_text Edits (Some (Node.File props text)) = refl
 kind_text EditsNothing None = refl
-kind_text EditsNothing (Some (Node.Folder props)) = refl
+kind_text EditsNothing (Some (Node.Directory props)) = refl
 kind_text EditsNothing (Some (Node.File props text)) = refl
 
 pub set_kind : (l : Listed) (node : Option Node)
@@ -60,7 +60,7 @@ pub with_both : (a b : Bool) (kind : Option NodeKind) → kind_with_text a (kind
 with_both false b kind = refl
 with_both true false kind = refl
 with_both true true None = refl
-with_both true true (Some Folder) = refl
+with_both true true (Some Directory) = refl
 with_both true true (Some File) = refl
 
 or_true : (b : Bool) → (b || true) ≡ true
@@ -192,7 +192,7 @@ module _ (listed : List Listed) (back : LooksBack (all_placed listed)) (path : L
             (kind_left n l (Some [])) (kind_look listed n (names_of path)))
             (((deletes || is_some made) && true) || ((deletes || is_copied made) && over)) (t && true)
         cases true made is_deletes is_made p t is_p is_t = fresh t is_t
-        cases false (Some Made.NewFolder) is_deletes is_made p t is_p is_t = fresh t is_t
+        cases false (Some Made.NewDirectory) is_deletes is_made p t is_p is_t = fresh t is_t
         cases false (Some Made.NewFile) is_deletes is_made p t is_p is_t = fresh t is_t
         cases false (Some (Made.Copied number source)) is_deletes is_made p t is_p is_t = fresh t is_t
         cases false None is_deletes is_made true t is_p is_t =

@@ -17,7 +17,7 @@ use Rattle.dump_index.specs.declared.change.NodeChange.{NodeChange}
 use Rattle.dump_index.specs.Kinds.{node_kind, kind_look}
 use Rattle.dump_index.specs.declared.change.NodeKind.{NodeKind}
 use Rattle.dump_index.specs.declared.change.NodeMade.{NodeMade}
-use Rattle.dump_index.specs.declared.change.NodeMade.TheVariants.{Folder, File, CopyOf}
+use Rattle.dump_index.specs.declared.change.NodeMade.TheVariants.{Directory, File, CopyOf}
 use Rattle.dump_index.specs.declared.change.Setting.{Setting}
 use Rattle.dump_index.specs.declared.change.Setting.TheVariants.{Keeps, Replaces, Edits, EditsNothing}
 use Rattle.dump_index.specs.declared.order.Effect.TheVariants.{Shaping, Moving, Texts}
@@ -119,14 +119,14 @@ looks_known listed back path before one other last kind is_one is_other is_last 
 -- what exists at a copy's source
 abbrev pub copied_kind : List Listed → Option Made → Option NodeKind
 copied_kind listed None = None
-copied_kind listed (Some Made.NewFolder) = None
+copied_kind listed (Some Made.NewDirectory) = None
 copied_kind listed (Some Made.NewFile) = None
 copied_kind listed (Some (Made.Copied number source)) = kind_look listed (end_of (all_placed listed) number) source
 
 pub source_copied : (listed : List Listed) (revision : ℕ) (made : Option NodeMade) → is_from_before revision made ≡ true
     → source_look listed revision (option_map listed_made made) ≡ copied_kind listed (option_map listed_made made)
 source_copied listed revision None is = refl
-source_copied listed revision (Some Folder) is = refl
+source_copied listed revision (Some Directory) is = refl
 source_copied listed revision (Some File) is = refl
 source_copied listed revision (Some (CopyOf source)) is =
     ap (λ b. cond b (kind_look listed (end_of (all_placed listed) source.revision) (names_of source.path.now)) None)
@@ -145,7 +145,7 @@ module _ (listed : List Listed) (back : LooksBack (all_placed listed)) (n : ℕ)
       (origin_of deletes made [])) ≡ made_kind made (left_kind deletes here) (copied_kind listed made)
   from_there true None = refl
   from_there false None = refl
-  from_there deletes (Some Made.NewFolder) = refl
+  from_there deletes (Some Made.NewDirectory) = refl
   from_there deletes (Some Made.NewFile) = refl
   from_there deletes (Some (Made.Copied number source)) =
       ap (kind_look listed (end_of (all_placed listed) number)) (append-nil source)

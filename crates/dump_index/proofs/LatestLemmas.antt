@@ -31,7 +31,7 @@ own_touch : (deletes : Bool) (made : Option Made) (p t over : Bool)
     → (((deletes || is_some made) || p) || t)
     ≡ ((((deletes || is_some made) && true) || ((p && true) || (t && true))) || ((deletes || is_copied made) && over))
 own_touch true made p t over = refl
-own_touch false (Some Made.NewFolder) p t over = refl
+own_touch false (Some Made.NewDirectory) p t over = refl
 own_touch false (Some Made.NewFile) p t over = refl
 own_touch false (Some (Made.Copied number source)) p t over = refl
 own_touch false None true t over = refl

@@ -13,7 +13,7 @@ use Rattle.dump_trees.proofs.expansions.LookLemmas.{origin_source}
 use Rattle.dump_index.specs.Listed.{Listed, listed_of, placed_of, all_placed, plain_props, plain_text}
 use Rattle.dump_index.specs.Kinds.{node_kind, kind_look}
 use Rattle.dump_index.specs.IndexLaws.{HasProps, HasText, IsListed, KindsAreFound}
-use Rattle.dump_index.specs.declared.change.NodeKind.TheVariants.{Folder as AFolder, File as AFile}
+use Rattle.dump_index.specs.declared.change.NodeKind.TheVariants.{Directory as ADirectory, File as AFile}
 use Rattle.dump_index.specs.declared.change.Setting.{Setting}
 use Rattle.dump_index.specs.declared.change.Setting.TheVariants.{Keeps, Replaces, Edits, EditsNothing}
 use Rattle.dump_index.proofs.KeyLemmas.{get-map}
@@ -118,7 +118,7 @@ kind_props_kept : (o : Option PropertyChange) (node : Option Node)
     → option_map node_kind (node_with_props o node) ≡ option_map node_kind node
 kind_props_kept None some = refl
 kind_props_kept (Some change) None = refl
-kind_props_kept (Some change) (Some (Node.Folder props)) = refl
+kind_props_kept (Some change) (Some (Node.Directory props)) = refl
 kind_props_kept (Some change) (Some (Node.File props text)) = refl
 
 -- if a text is set, it is set on a file, which remains a file
@@ -136,10 +136,10 @@ file_stays : (change : TextChange) (one two : Option Node) (node : Node) → nod
     → (option_map node_kind one ≡ option_map node_kind two)
     → option_map node_kind (node_with_text (Some (TextChange.Replaced [])) two) ≡ Some (node_kind node)
 file_stays change None two node is same = absurd (let bad : None ≡ Some node = is in cc)
-file_stays change (Some (Node.Folder props)) two node is same = absurd (let bad : None ≡ Some node = is in cc)
+file_stays change (Some (Node.Directory props)) two node is same = absurd (let bad : None ≡ Some node = is in cc)
 file_stays change (Some (Node.File props text)) None node is same = absurd (let bad : Some AFile ≡ None = same in cc)
-file_stays change (Some (Node.File props text)) (Some (Node.Folder others)) node is same =
-    absurd (let bad : Some AFile ≡ Some AFolder = same in cc)
+file_stays change (Some (Node.File props text)) (Some (Node.Directory others)) node is same =
+    absurd (let bad : Some AFile ≡ Some ADirectory = same in cc)
 file_stays change (Some (Node.File props text)) (Some (Node.File others old)) node is same =
     sym (ap (λ k. Some k) (file_left change props text node is))
 

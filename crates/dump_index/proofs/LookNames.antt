@@ -11,9 +11,9 @@ use Rattle.dump_index.specs.InOrder.{ends_in_slash, are_in_order}
 use Rattle.dump_index.specs.Children.{is_child_named}
 use Rattle.dump_index.specs.declared.change.NodeChange.{NodeChange}
 use Rattle.dump_index.specs.declared.change.NodeMade.{NodeMade}
-use Rattle.dump_index.specs.declared.change.NodeMade.TheVariants.{Folder, File, CopyOf}
+use Rattle.dump_index.specs.declared.change.NodeMade.TheVariants.{Directory, File, CopyOf}
 use Rattle.dump_index.specs.declared.change.NodeKind.{NodeKind}
-use Rattle.dump_index.specs.declared.change.NodeKind.TheVariants.{Folder as AFolder, File as AFile}
+use Rattle.dump_index.specs.declared.change.NodeKind.TheVariants.{Directory as ADirectory, File as AFile}
 use Rattle.dump_index.specs.declared.origin.Origin.{Origin}
 use Rattle.dump_index.specs.declared.origin.Origin.TheVariants.{Nowhere, New, Copied}
 use Rattle.dump_index.specs.declared.order.Effect.TheVariants.{Shaping, Moving}
@@ -183,14 +183,14 @@ module _ (listed : List Listed) (place : ℕ) (path : NodePath) where
       → decides deletes made rest ≡ true → [] ≡ from (origin_of deletes (option_map listed_made made) (names_of rest))
   names_none deletes None [] none is = sym (ap from (left_deleted deletes is))
   names_none deletes None (b ∷ rest) none is = gone deletes None b rest (λ name names. refl) is
-  names_none deletes (Some Folder) [] none is = let bad : false ≡ true = none in absurd (cc)
-  names_none deletes (Some Folder) (b ∷ rest) none is = gone deletes (Some Folder) b rest (λ name names. refl) is
+  names_none deletes (Some Directory) [] none is = let bad : false ≡ true = none in absurd (cc)
+  names_none deletes (Some Directory) (b ∷ rest) none is = gone deletes (Some Directory) b rest (λ name names. refl) is
   names_none deletes (Some File) [] none is = let bad : false ≡ true = none in absurd (cc)
   names_none deletes (Some File) (b ∷ rest) none is = gone deletes (Some File) b rest (λ name names. refl) is
   names_none deletes (Some (CopyOf source)) rest none is = let bad : false ≡ true = none in absurd (cc)
 
   names_new : (deletes : Bool) (kind : NodeKind) → [] ≡ from (origin_of deletes (option_map listed_made (Some (made_as kind))) [])
-  names_new deletes AFolder = refl
+  names_new deletes ADirectory = refl
   names_new deletes AFile = refl
 
   tie_names : (deletes : Bool) (made : Option NodeMade) (rest : List ℕ) (o : Origin) → IsMade made rest o

@@ -12,7 +12,7 @@ use Rattle.dump_index.specs.Listed.{Listed, listed_of, listed_made, placed_of, a
 use Rattle.dump_index.specs.InOrder.{comes_in_order, is_from_before, are_in_order, ends_in_slash}
 use Rattle.dump_index.specs.declared.change.NodeChange.{NodeChange}
 use Rattle.dump_index.specs.declared.change.NodeMade.{NodeMade}
-use Rattle.dump_index.specs.declared.change.NodeMade.TheVariants.{Folder, File, CopyOf}
+use Rattle.dump_index.specs.declared.change.NodeMade.TheVariants.{Directory, File, CopyOf}
 
 abbrev pub placed : List NodeChange → List Placed
 placed changes = all_placed (map listed_of changes)
@@ -58,7 +58,7 @@ all_rise least (c ∷ changes) is =
 of_before : (revision : ℕ) (made : Option NodeMade) → is_from_before revision made ≡ true
     → is_of_before revision (option_map listed_made made) ≡ true
 of_before revision None is = refl
-of_before revision (Some Folder) is = refl
+of_before revision (Some Directory) is = refl
 of_before revision (Some File) is = refl
 of_before revision (Some (CopyOf source)) is =
     (and_parts (nat_lt source.revision revision) (not (ends_in_slash source.path.now)) is).0

@@ -13,10 +13,10 @@ use Rattle.dump_index.specs.InOrder.{ends_in_slash, is_from_before, are_in_order
 use Rattle.dump_index.specs.Kinds.{node_kind, kind_look}
 use Rattle.dump_index.specs.declared.change.NodeChange.{NodeChange}
 use Rattle.dump_index.specs.declared.change.NodeKind.{NodeKind}
-use Rattle.dump_index.specs.declared.change.NodeKind.TheVariants.{Folder as AFolder, File as AFile}
+use Rattle.dump_index.specs.declared.change.NodeKind.TheVariants.{Directory as ADirectory, File as AFile}
 use Rattle.dump_index.specs.declared.change.Source.{Source}
 use Rattle.dump_index.specs.declared.change.NodeMade.{NodeMade}
-use Rattle.dump_index.specs.declared.change.NodeMade.TheVariants.{Folder, File, CopyOf}
+use Rattle.dump_index.specs.declared.change.NodeMade.TheVariants.{Directory, File, CopyOf}
 use Rattle.dump_index.specs.declared.order.Effect.TheVariants.{Shaping, Moving, Texts}
 use Rattle.dump_index.specs.declared.origin.Origin.{Origin}
 use Rattle.dump_index.specs.declared.origin.Origin.TheVariants.{Nowhere, New, Copied}
@@ -57,7 +57,7 @@ module _ (listed : List Listed) (place : ℕ) (path : NodePath) where
   none_below : (deletes : Bool) (made : Option NodeMade) (rest name : List ℕ) (names : NodePath) → deletes ≡ true
       → is_copied (option_map listed_made made) ≡ false → None ≡ found deletes made (name ∷ names)
   none_below true None rest name names is other = refl
-  none_below true (Some Folder) rest name names is other = refl
+  none_below true (Some Directory) rest name names is other = refl
   none_below true (Some File) rest name names is other = refl
   none_below true (Some (CopyOf source)) rest name names is other = let bad : true ≡ false = other in absurd (cc)
   none_below false made rest name names is other = let bad : false ≡ true = is in absurd (cc)
@@ -69,11 +69,11 @@ module _ (listed : List Listed) (place : ℕ) (path : NodePath) where
       let some = split_some (b ∷ rest) in
       none_below deletes None (b ∷ rest) some.0 some.1 (or_false deletes is) refl
       ∙ sym (ap (λ (ns : NodePath). found deletes None ns) some.2)
-  tie_none deletes (Some Folder) [] none is = let bad : false ≡ true = none in absurd (cc)
-  tie_none deletes (Some Folder) (b ∷ rest) none is =
+  tie_none deletes (Some Directory) [] none is = let bad : false ≡ true = none in absurd (cc)
+  tie_none deletes (Some Directory) (b ∷ rest) none is =
       let some = split_some (b ∷ rest) in
-      none_below deletes (Some Folder) (b ∷ rest) some.0 some.1 (or_false deletes is) refl
-      ∙ sym (ap (λ (ns : NodePath). found deletes (Some Folder) ns) some.2)
+      none_below deletes (Some Directory) (b ∷ rest) some.0 some.1 (or_false deletes is) refl
+      ∙ sym (ap (λ (ns : NodePath). found deletes (Some Directory) ns) some.2)
   tie_none deletes (Some File) [] none is = let bad : false ≡ true = none in absurd (cc)
   tie_none deletes (Some File) (b ∷ rest) none is =
       let some = split_some (b ∷ rest) in
@@ -82,7 +82,7 @@ module _ (listed : List Listed) (place : ℕ) (path : NodePath) where
   tie_none deletes (Some (CopyOf source)) rest none is = let bad : false ≡ true = none in absurd (cc)
 
   tie_new : (deletes : Bool) (kind : NodeKind) → Some kind ≡ found deletes (Some (made_as kind)) []
-  tie_new deletes AFolder = refl
+  tie_new deletes ADirectory = refl
   tie_new deletes AFile = refl
 
   tie : (deletes : Bool) (made : Option NodeMade) (rest : List ℕ) (o : Origin) → IsMade made rest o
@@ -138,7 +138,7 @@ module _ (changes : List NodeChange) (ordered : are_in_order 0 changes ≡ true)
           → (deletes || is_some (option_map listed_made made)) ≡ true
       own true made over is = refl
       own false None over is = is
-      own false (Some Folder) over is = refl
+      own false (Some Directory) over is = refl
       own false (Some File) over is = refl
       own false (Some (CopyOf source)) over is = refl
 

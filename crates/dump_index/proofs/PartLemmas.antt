@@ -114,7 +114,7 @@ same_some listed n l k one two = let both : Some l ≡ Some k = sym one ∙ two 
 -- ---- a part
 
 module _ (V : Type 0) (part : Part) (val : Node → V) (none : V) (by : Change → V → Option V)
-    (new_folder : val (Node.Folder []) ≡ none) (new_file : val (Node.File [] []) ≡ none)
+    (new_directory : val (Node.Directory []) ≡ none) (new_file : val (Node.File [] []) ≡ none)
     (set_val : (c : Change) (o : Option Node) (node : Node) → set_by c [] o ≡ Some node
     → (other : Node) × (o ≡ Some other) × (by c (val other) ≡ Some (val node)))
     (keeps : (l : Listed) (p : Placed) → IsListed l p → sets (setting_of part l) ≡ false → (v : V) → by p.change v ≡ Some v)
@@ -222,8 +222,8 @@ module _ (V : Type 0) (part : Part) (val : Node → V) (none : V) (by : Change �
     fresh : (n : ℕ) (path rest : NodePath) (deletes : Bool) (made : Option Made) (node : Node) → is_copied made ≡ false
         → (deletes || is_some made) ≡ true
         → looked_up (look root_alone placed) placed n path (origin_of deletes made []) ≡ Some node → val node ≡ none
-    fresh n path rest deletes (Some Made.NewFolder) node other is found =
-        sym (ap val (let both : Some (Node.Folder []) ≡ Some node = found in let its : Node.Folder [] ≡ node = cc in its)) ∙ new_folder
+    fresh n path rest deletes (Some Made.NewDirectory) node other is found =
+        sym (ap val (let both : Some (Node.Directory []) ≡ Some node = found in let its : Node.Directory [] ≡ node = cc in its)) ∙ new_directory
     fresh n path rest deletes (Some Made.NewFile) node other is found =
         sym (ap val (let both : Some (Node.File [] []) ≡ Some node = found in let its : Node.File [] [] ≡ node = cc in its)) ∙ new_file
     fresh n path rest deletes (Some (Made.Copied number source)) node other is found =
@@ -233,7 +233,7 @@ module _ (V : Type 0) (part : Part) (val : Node → V) (none : V) (by : Change �
 
     root_val : (path : NodePath) (node : Node) → root_alone path ≡ Some node → val node ≡ none
     root_val [] node is =
-        sym (ap val (let both : Some (Node.Folder []) ≡ Some node = is in let its : Node.Folder [] ≡ node = cc in its)) ∙ new_folder
+        sym (ap val (let both : Some (Node.Directory []) ≡ Some node = is in let its : Node.Directory [] ≡ node = cc in its)) ∙ new_directory
     root_val (name ∷ path) node is = absurd (let bad : None ≡ Some node = is in cc)
 
     touched : (k : Listed) (path : List ℕ) (place : ℕ) → slice_get listed place ≡ Some k
@@ -277,7 +277,7 @@ module _ (V : Type 0) (part : Part) (val : Node → V) (none : V) (by : Change �
         → is_copied made ≡ false → (deletes || is_copied made) ≡ true
         → looked_up (look root_alone placed) placed place path (origin_of deletes made (name ∷ names)) ≡ Some node → ⊥
     gone path place true None name names node other is found = let bad : None ≡ Some node = found in absurd (cc)
-    gone path place true (Some Made.NewFolder) name names node other is found =
+    gone path place true (Some Made.NewDirectory) name names node other is found =
         let bad : None ≡ Some node = found in absurd (cc)
     gone path place true (Some Made.NewFile) name names node other is found =
         let bad : None ≡ Some node = found in absurd (cc)
@@ -431,7 +431,7 @@ module _ (V : Type 0) (part : Part) (val : Node → V) (none : V) (by : Change �
 text_keeps_props : (t : Option TextChange) (one node : Node) → node_with_text t (Some one) ≡ Some node
     → properties_of one ≡ properties_of node
 text_keeps_props None one node is = let both : Some one ≡ Some node = is in let same : one ≡ node = cc in ap properties_of same
-text_keeps_props (Some change) (Node.Folder props) node is = absurd (let bad : None ≡ Some node = is in cc)
+text_keeps_props (Some change) (Node.Directory props) node is = absurd (let bad : None ≡ Some node = is in cc)
 text_keeps_props (Some change) (Node.File props old) node is = cases (new_text change old) is
   where
     cases : (o : Option (List ℕ)) → option_map (λ new. Node.File props new) o ≡ Some node → props ≡ properties_of node
@@ -449,8 +449,8 @@ set_props c (Some other) node is = (other, refl, cases c.props other is)
     cases : (o : Option PropertyChange) (other : Node) → node_with_text c.text (node_with_props o (Some other)) ≡ Some node
         → props_by o (properties_of other) ≡ Some (properties_of node)
     cases None other is = ap (λ ps. Some ps) (text_keeps_props c.text other node is)
-    cases (Some change) (Node.Folder props) is =
-        ap (λ ps. Some ps) (text_keeps_props c.text (Node.Folder (new_props change props)) node is)
+    cases (Some change) (Node.Directory props) is =
+        ap (λ ps. Some ps) (text_keeps_props c.text (Node.Directory (new_props change props)) node is)
     cases (Some change) (Node.File props text) is =
         ap (λ ps. Some ps) (text_keeps_props c.text (Node.File (new_props change props) text) node is)
 
@@ -503,13 +503,13 @@ set_text c (Some other) node is = (other, refl, before c.props other is)
     after : (t : Option TextChange) (one : Node) → node_with_text t (Some one) ≡ Some node
         → text_by t (listed_text one) ≡ Some (listed_text node)
     after None one is = let both : Some one ≡ Some node = is in let same : one ≡ node = cc in ap (λ n. Some (listed_text n)) same
-    after (Some change) (Node.Folder props) is = absurd (let bad : None ≡ Some node = is in cc)
+    after (Some change) (Node.Directory props) is = absurd (let bad : None ≡ Some node = is in cc)
     after (Some change) (Node.File props old) is = left change props old is
 
     before : (o : Option PropertyChange) (other : Node) → node_with_text c.text (node_with_props o (Some other)) ≡ Some node
         → text_by c.text (listed_text other) ≡ Some (listed_text node)
     before None other is = after c.text other is
-    before (Some change) (Node.Folder props) is = after c.text (Node.Folder (new_props change props)) is
+    before (Some change) (Node.Directory props) is = after c.text (Node.Directory (new_props change props)) is
     before (Some change) (Node.File props text) is = after c.text (Node.File (new_props change props) text) is
 
 keeps_text : (s : Setting) (o : Option TextChange) → HasText s o → sets s ≡ false → (v : List ℕ) → text_by o v ≡ Some v

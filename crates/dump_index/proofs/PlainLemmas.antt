@@ -6,8 +6,8 @@ use Rattle.std.proofs.lemmas.List.{map-append}
 use Rattle.std.proofs.lemmas.Slice.Eq.{bytes_eq-Decides}
 use Rattle.dump_text.specs.PropertyList.{Property}
 use Rattle.dump_trees.specs.Paths.{NodePath, below, parent_of}
-use Rattle.dump_trees.specs.Trees.{Node, Tree, is_folder, at_or_below, grafted, at_top, put, empty_tree, root_alone}
-use Rattle.dump_trees.specs.Changes.{Made, Change, PropertyChange, TextChange, History, is_folder_at, has_folder, deleted, node_put, copied, made_in, with_props, new_text, with_text, props_put, props_set, text_set, step, steps}
+use Rattle.dump_trees.specs.Trees.{Node, Tree, is_directory_node, at_or_below, grafted, at_top, put, empty_tree, root_alone}
+use Rattle.dump_trees.specs.Changes.{Made, Change, PropertyChange, TextChange, History, is_directory_at, has_directory, deleted, node_put, copied, made_in, with_props, new_text, with_text, props_put, props_set, text_set, step, steps}
 use Rattle.dump_trees.specs.Revisions.{loaded, loaded_over}
 use Rattle.dump_trees.specs.Looking.{Placed, placed_from, end_of, look}
 use Rattle.dump_trees.specs.Listing.{names_look}
@@ -20,7 +20,7 @@ use Rattle.dump_index.specs.Children.{is_child_named}
 use Rattle.dump_index.specs.declared.change.NodeChange.{NodeChange}
 use Rattle.dump_index.specs.IndexLaws.{HasProps, HasText, IsListed, AreListed, KindsAreOfTrees, ChildrenAreOfTrees}
 use Rattle.dump_index.specs.declared.change.NodeKind.{NodeKind}
-use Rattle.dump_index.specs.declared.change.NodeKind.TheVariants.{Folder as AFolder, File as AFile}
+use Rattle.dump_index.specs.declared.change.NodeKind.TheVariants.{Directory as ADirectory, File as AFile}
 use Rattle.dump_index.specs.declared.change.Setting.{Setting}
 use Rattle.dump_index.specs.declared.change.Setting.TheVariants.{Keeps, Replaces, Edits, EditsNothing}
 use Rattle.dump_index.proofs.LawLemmas.{end_same}
@@ -59,15 +59,15 @@ AreSame one two = (path : NodePath) → kind_at one path ≡ kind_at two path
 abbrev SameAfter : Option Tree → Tree → Type 0
 SameAfter after tree = (two : Tree) × (after ≡ Some two) × AreSame tree two
 
-abbrev folder_kind : Option NodeKind → Bool
-folder_kind None = false
-folder_kind (Some AFolder) = true
-folder_kind (Some AFile) = false
+abbrev directory_kind : Option NodeKind → Bool
+directory_kind None = false
+directory_kind (Some ADirectory) = true
+directory_kind (Some AFile) = false
 
-folder_is : (o : Option Node) → is_folder o ≡ folder_kind (option_map node_kind o)
-folder_is None = refl
-folder_is (Some (Node.Folder props)) = refl
-folder_is (Some (Node.File props text)) = refl
+directory_is : (o : Option Node) → is_directory_node o ≡ directory_kind (option_map node_kind o)
+directory_is None = refl
+directory_is (Some (Node.Directory props)) = refl
+directory_is (Some (Node.File props text)) = refl
 
 some_is : (o : Option Node) → is_some o ≡ is_some (option_map node_kind o)
 some_is None = refl
@@ -83,12 +83,12 @@ same_some one two same path = some_is (one path) ∙ ap (λ k. is_some k) (same 
 same_none : (one two : Tree) → AreSame one two → (path : NodePath) → is_none (one path) ≡ is_none (two path)
 same_none one two same path = none_is (one path) ∙ ap (λ k. is_none k) (same path) ∙ sym (none_is (two path))
 
-same_folder : (one two : Tree) → AreSame one two → (path : NodePath) → has_folder one path ≡ has_folder two path
-same_folder one two same path = cases (parent_of path)
+same_directory : (one two : Tree) → AreSame one two → (path : NodePath) → has_directory one path ≡ has_directory two path
+same_directory one two same path = cases (parent_of path)
   where
-    cases : (o : Option NodePath) → is_folder_at one o ≡ is_folder_at two o
+    cases : (o : Option NodePath) → is_directory_at one o ≡ is_directory_at two o
     cases None = refl
-    cases (Some parent) = folder_is (one parent) ∙ ap folder_kind (same parent) ∙ sym (folder_is (two parent))
+    cases (Some parent) = directory_is (one parent) ∙ ap directory_kind (same parent) ∙ sym (directory_is (two parent))
 
 cond_parts : (b : Bool) (one two : Tree) → cond b (Some one) None ≡ Some two → (b ≡ true) × (one ≡ two)
 cond_parts true one two is = (refl, ap (λ o. Rattle.std.proofs.Common.unwrap_or o one) is)
@@ -150,10 +150,10 @@ deleted_same true top one two after same is =
 put_same : (node : Node) (top : NodePath) (one two after : Tree) → AreSame one two → node_put node top one ≡ Some after
     → SameAfter (node_put node top two) after
 put_same node top one two after same is =
-    let parts = cond_parts (is_none (one top) && has_folder one top) (put top node one) after is in (
+    let parts = cond_parts (is_none (one top) && has_directory one top) (put top node one) after is in (
       put top node two,
       ap (λ b. cond b (Some (put top node two)) None)
-          (ap₂ (λ a b. a && b) (sym (same_none one two same top)) (sym (same_folder one two same top)) ∙ parts.0),
+          (ap₂ (λ a b. a && b) (sym (same_none one two same top)) (sym (same_directory one two same top)) ∙ parts.0),
       subst (λ (t : Tree). AreSame t (put top node two)) parts.1 (same_put top one two node same),
     )
 
@@ -163,10 +163,10 @@ SameHistory one two = (number : ℕ) (tree : Tree) → one number ≡ Some tree 
 copied_same : (source top : NodePath) (one two old other after : Tree) → AreSame one two → AreSame old other
     → copied source top one old ≡ Some after → SameAfter (copied source top two other) after
 copied_same source top one two old other after same olds is =
-    let parts = cond_parts (is_some (old source) && has_folder one top) (grafted top (λ rest. old (source ++ rest)) one) after is in (
+    let parts = cond_parts (is_some (old source) && has_directory one top) (grafted top (λ rest. old (source ++ rest)) one) after is in (
       grafted top (λ rest. other (source ++ rest)) two,
       ap (λ b. cond b (Some (grafted top (λ rest. other (source ++ rest)) two)) None)
-          (ap₂ (λ a b. a && b) (sym (same_some old other olds source)) (sym (same_folder one two same top)) ∙ parts.0),
+          (ap₂ (λ a b. a && b) (sym (same_some old other olds source)) (sym (same_directory one two same top)) ∙ parts.0),
       subst (λ (t : Tree). AreSame t (grafted top (λ rest. other (source ++ rest)) two)) parts.1
           (same_graft top one two (λ rest. old (source ++ rest)) (λ rest. other (source ++ rest)) same
           (λ rest. olds (source ++ rest))),
@@ -177,8 +177,8 @@ made_same : (history others : History) → SameHistory history others → (made 
     → SameAfter (made_in others made top two) after
 made_same history others histories None top one two after same is =
     (two, refl, subst (λ (t : Tree). AreSame t two) (ap (λ o. Rattle.std.proofs.Common.unwrap_or o one) is) same)
-made_same history others histories (Some Made.NewFolder) top one two after same is =
-    put_same (Node.Folder []) top one two after same is
+made_same history others histories (Some Made.NewDirectory) top one two after same is =
+    put_same (Node.Directory []) top one two after same is
 made_same history others histories (Some Made.NewFile) top one two after same is =
     put_same (Node.File [] []) top one two after same is
 made_same history others histories (Some (Made.Copied number source)) top one two after same is =
@@ -193,7 +193,7 @@ made_same history others histories (Some (Made.Copied number source)) top one tw
         (left.0, ap (option_and_then (λ t. copied source top two t)) other.1 ∙ left.1, left.2)
 
 kind_with : (change : PropertyChange) (node : Node) → node_kind (with_props change node) ≡ node_kind node
-kind_with change (Node.Folder props) = refl
+kind_with change (Node.Directory props) = refl
 kind_with change (Node.File props text) = refl
 
 -- properties that are set in one tree, and in another one or not
@@ -256,7 +256,7 @@ text_one change top one after is = cases (one top) refl is
         → option_map (λ node. put top node one) (option_and_then (λ node. with_text change node) o) ≡ Some after
         → AreSame after one × (option_map node_kind o ≡ Some AFile)
     cases None at is = absurd (let bad : None ≡ Some after = is in cc)
-    cases (Some (Node.Folder props)) at is = absurd (let bad : None ≡ Some after = is in cc)
+    cases (Some (Node.Directory props)) at is = absurd (let bad : None ≡ Some after = is in cc)
     cases (Some (Node.File props old)) at is = (set props old at (new_text change old) is, refl)
 
 text_two : (top : NodePath) (two : Tree) → kind_at two top ≡ Some AFile
@@ -268,7 +268,7 @@ text_two top two kind = cases (two top) refl kind
         × (option_map (λ node. put top node two) (option_and_then (λ node. with_text (TextChange.Replaced []) node) o) ≡ Some after)
         × AreSame after two
     cases None at kind = absurd (let bad : None ≡ Some AFile = kind in cc)
-    cases (Some (Node.Folder props)) at kind = absurd (let bad : Some AFolder ≡ Some AFile = kind in cc)
+    cases (Some (Node.Directory props)) at kind = absurd (let bad : Some ADirectory ≡ Some AFile = kind in cc)
     cases (Some (Node.File props old)) at kind =
         (put top (Node.File props []) two, refl, put_kept top two (Node.File props []) (sym (ap (option_map node_kind) at)))
 

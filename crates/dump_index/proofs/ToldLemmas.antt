@@ -59,7 +59,7 @@ all_same (l ∷ listed) (p ∷ placed) zip = (same_one l p zip.0, all_same liste
 
 meant : (o : Option Node) → option_map kind_meant (option_map node_kind o) ≡ option_map kind_of_node o
 meant None = refl
-meant (Some (Node.Folder props)) = refl
+meant (Some (Node.Directory props)) = refl
 meant (Some (Node.File props text)) = refl
 
 pub index_tells_kinds : IndexTellsKinds

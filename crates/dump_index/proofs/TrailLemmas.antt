@@ -11,9 +11,9 @@ use Rattle.dump_index.specs.InOrder.{ends_in_slash, are_in_order}
 use Rattle.dump_index.specs.Settings.{is_replacing, setting_of, sets_there, sets_at, latest_for, own_place, IsTrail, Whole, Edited, NewMade, Copied}
 use Rattle.dump_index.specs.declared.change.NodeChange.{NodeChange}
 use Rattle.dump_index.specs.declared.change.NodeKind.{NodeKind}
-use Rattle.dump_index.specs.declared.change.NodeKind.TheVariants.{Folder as AFolder, File as AFile}
+use Rattle.dump_index.specs.declared.change.NodeKind.TheVariants.{Directory as ADirectory, File as AFile}
 use Rattle.dump_index.specs.declared.change.NodeMade.{NodeMade}
-use Rattle.dump_index.specs.declared.change.NodeMade.TheVariants.{Folder, File, CopyOf}
+use Rattle.dump_index.specs.declared.change.NodeMade.TheVariants.{Directory, File, CopyOf}
 use Rattle.dump_index.specs.declared.change.Source.{Source}
 use Rattle.dump_index.specs.declared.order.Effect.TheVariants.{Props as PropsEffect, Texts as TextsEffect}
 use Rattle.dump_index.specs.declared.origin.Origin.{Origin}
@@ -63,12 +63,12 @@ sets_in_range changes part path place is =
 none_copied : (made : Option NodeMade) (rest : List ℕ) → makes_none made rest ≡ true
     → is_copied (option_map listed_made made) ≡ false
 none_copied None rest is = refl
-none_copied (Some Folder) rest is = refl
+none_copied (Some Directory) rest is = refl
 none_copied (Some File) rest is = refl
 none_copied (Some (CopyOf source)) rest is = let bad : false ≡ true = is in absurd (cc)
 
 new_copied : (kind : NodeKind) → is_copied (option_map listed_made (Some (made_as kind))) ≡ false
-new_copied AFolder = refl
+new_copied ADirectory = refl
 new_copied AFile = refl
 
 module _ (changes : List NodeChange) (ordered : are_in_order 0 changes ≡ true) (path : List ℕ)

@@ -3,7 +3,7 @@
 use Rattle.std.specs.Prelude.{ℕ, Bool, true, false, not, ◌&&◌, ◌==◌, List, [], ◌∷◌, Option, Some, None, nat_lt, nat_le}
 use Rattle.dump_index.specs.declared.change.NodeChange.{NodeChange}
 use Rattle.dump_index.specs.declared.change.NodeMade.{NodeMade}
-use Rattle.dump_index.specs.declared.change.NodeMade.TheVariants.{Folder, File, CopyOf}
+use Rattle.dump_index.specs.declared.change.NodeMade.TheVariants.{Directory, File, CopyOf}
 
 -- whether the last byte is a slash
 abbrev pub ends_in_slash : List ℕ → Bool
@@ -14,7 +14,7 @@ ends_in_slash (b ∷ c ∷ text) = ends_in_slash (c ∷ text)
 -- whether a change is no copy, or a copy of an earlier revision and of a path that doesn't end in a slash
 abbrev pub is_from_before : ℕ → Option NodeMade → Bool
 is_from_before revision None = true
-is_from_before revision (Some Folder) = true
+is_from_before revision (Some Directory) = true
 is_from_before revision (Some File) = true
 is_from_before revision (Some (CopyOf source)) = nat_lt source.revision revision && not (ends_in_slash source.path.now)
 

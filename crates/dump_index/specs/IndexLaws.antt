@@ -71,7 +71,7 @@ KindsAreFound = (changes : List NodeChange) (placed : List Placed) (count : ℕ)
 
 -- the text of a node; a directory has none
 abbrev pub listed_text : Node → List ℕ
-listed_text (Node.Folder props) = []
+listed_text (Node.Directory props) = []
 listed_text (Node.File props text) = text
 
 -- what a change makes of properties and of a text; a change that doesn't set them leaves them as they are

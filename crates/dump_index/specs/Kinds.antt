@@ -5,11 +5,11 @@ use Rattle.dump_trees.specs.Trees.{Node, root_alone}
 use Rattle.dump_trees.specs.Looking.{look}
 use Rattle.dump_index.specs.Listed.{Listed, all_placed}
 use Rattle.dump_index.specs.declared.change.NodeKind.{NodeKind}
-use Rattle.dump_index.specs.declared.change.NodeKind.TheVariants.{Folder, File}
+use Rattle.dump_index.specs.declared.change.NodeKind.TheVariants.{Directory, File}
 
 -- the kind of a node
 abbrev pub node_kind : Node → NodeKind
-node_kind (Node.Folder props) = Folder
+node_kind (Node.Directory props) = Directory
 node_kind (Node.File props text) = File
 
 -- the kind that is found at the path after this number of changes in a new repository

@@ -5,7 +5,7 @@ use Rattle.dump_trees.specs.Changes.{Made, PropertyChange, TextChange}
 use Rattle.dump_trees.specs.Looking.{Placed}
 use Rattle.dump_index.specs.declared.change.NodeChange.{NodeChange}
 use Rattle.dump_index.specs.declared.change.NodeMade.{NodeMade}
-use Rattle.dump_index.specs.declared.change.NodeMade.TheVariants.{Folder, File, CopyOf}
+use Rattle.dump_index.specs.declared.change.NodeMade.TheVariants.{Directory, File, CopyOf}
 use Rattle.dump_index.specs.declared.change.Setting.{Setting}
 use Rattle.dump_index.specs.declared.change.Setting.TheVariants.{Keeps, Replaces, Edits, EditsNothing}
 
@@ -21,7 +21,7 @@ pub record Listed : Type 0 where
 
 -- what a change makes
 abbrev pub listed_made : NodeMade → Made
-listed_made Folder = Made.NewFolder
+listed_made Directory = Made.NewDirectory
 listed_made File = Made.NewFile
 listed_made (CopyOf source) = Made.Copied source.revision (names_of source.path.now)
 

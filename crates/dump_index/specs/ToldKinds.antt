@@ -8,11 +8,11 @@ use Rattle.dump_index.specs.Kinds.{kind_look}
 use Rattle.dump_index.specs.IndexLaws.{AreListed}
 use Rattle.dump_index.specs.declared.change.NodeChange.{NodeChange}
 use Rattle.dump_index.specs.declared.change.NodeKind.{NodeKind}
-use Rattle.dump_index.specs.declared.change.NodeKind.TheVariants.{Folder, File}
+use Rattle.dump_index.specs.declared.change.NodeKind.TheVariants.{Directory, File}
 
 -- the same kind, with the name that the laws use
 abbrev pub kind_meant : NodeKind → Kind
-kind_meant Folder = Kind.Directory
+kind_meant Directory = Kind.Directory
 kind_meant File = Kind.File
 
 -- the kind that an index finds at a path, after this number of changes

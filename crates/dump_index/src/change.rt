@@ -11,14 +11,14 @@ pub struct Source<'a> {
 /// What a node is.
 #[derive(Clone, Copy, Debug, PartialEq, Eq)]
 pub enum NodeKind {
-    Folder,
+    Directory,
     File,
 }
 
 /// What a change makes at its path: a new node, or a copy.
 #[derive(Clone, Copy, Debug, PartialEq, Eq)]
 pub enum NodeMade<'a> {
-    Folder,
+    Directory,
     File,
     CopyOf(Source<'a>),
 }

@@ -209,7 +209,7 @@ impl<'a> ChangeIndex<'a> {
     {
         match shaped {
             Some(place) => made_origin(&self.changes[place], path),
-            None if path.is_empty() => Origin::New(NodeKind::Folder),
+            None if path.is_empty() => Origin::New(NodeKind::Directory),
             None => Origin::Nowhere,
         }
     }
@@ -245,9 +245,9 @@ impl<'a> ChangeIndex<'a> {
             Origin::Nowhere => Look::Found(None),
             // A text that is set on a file leaves a file, so there is no need to look for one.
             Origin::New(NodeKind::File) => Look::Found(Some(NodeKind::File)),
-            Origin::New(NodeKind::Folder) => {
+            Origin::New(NodeKind::Directory) => {
                 let set = self.texts.latest_at(&self.changes, path, before);
-                Look::Found(with_text(Some(NodeKind::Folder), is_since(shaped, set)))
+                Look::Found(with_text(Some(NodeKind::Directory), is_since(shaped, set)))
             }
             Origin::Copied(source, rest) => {
                 let set = self.texts.latest_at(&self.changes, path, before);

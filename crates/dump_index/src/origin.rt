@@ -25,7 +25,7 @@ pub(crate) fn made_origin<'p, 'a>(change: &NodeChange<'a>, path: &'p [u8]) -> Or
     let rest = rest_behind(change.path, path);
     match change.made {
         Some(NodeMade::CopyOf(source)) => Origin::Copied(source, rest),
-        Some(NodeMade::Folder) if rest.is_empty() => Origin::New(NodeKind::Folder),
+        Some(NodeMade::Directory) if rest.is_empty() => Origin::New(NodeKind::Directory),
         Some(NodeMade::File) if rest.is_empty() => Origin::New(NodeKind::File),
         _ => Origin::Nowhere,
     }
@@ -37,7 +37,7 @@ pub(crate) fn with_text(kind: Option<NodeKind>, has_text: bool) -> Option<NodeKi
     ensures { result ≡ kind_with_text has_text kind }
 {
     match kind {
-        Some(NodeKind::Folder) if has_text => None,
+        Some(NodeKind::Directory) if has_text => None,
         _ => kind,
     }
 }
@@ -54,7 +54,7 @@ pub(crate) fn kind_made(
     match change.made {
         None if change.deletes => None,
         None => here,
-        Some(NodeMade::Folder) => Some(NodeKind::Folder),
+        Some(NodeMade::Directory) => Some(NodeKind::Directory),
         Some(NodeMade::File) => Some(NodeKind::File),
         Some(NodeMade::CopyOf(_)) => source,
     }

@@ -7,7 +7,7 @@ use std::alloc::Global;
 use std::process::Abort;
 use std::test::Fail;
 
-const FOLDER: Option<NodeMade<'static>> = Some(NodeMade::Folder);
+const DIRECTORY: Option<NodeMade<'static>> = Some(NodeMade::Directory);
 
 const FILE: Option<NodeMade<'static>> = Some(NodeMade::File);
 
@@ -47,7 +47,7 @@ fn history(alloc: Global) -> Result<Vec<NodeChange<'static>>, Memory> {
         path: b"trunk",
     };
     let mut changes = Vec::new(alloc);
-    changes.push(change(1, b"trunk", FOLDER))?;
+    changes.push(change(1, b"trunk", DIRECTORY))?;
     changes.push(with_text(change(1, b"trunk/a", FILE), Setting::Replaces))?;
     changes.push(copy(2, b"b", trunk))?;
     changes.push(with_text(change(3, b"trunk/a", None), Setting::Edits))?;
@@ -125,11 +125,11 @@ fn exists_is(alloc: Global, index: &ChangeIndex<'_>, path: &[u8], expected: bool
 }
 
 fn assert_found(rt: &impl Abort, alloc: Global, index: &ChangeIndex<'_>) {
-    assert!(rt; kind_is(alloc, index, b"", 0, Some(NodeKind::Folder)));
+    assert!(rt; kind_is(alloc, index, b"", 0, Some(NodeKind::Directory)));
     assert!(rt; kind_is(alloc, index, b"trunk", 0, None));
     assert!(rt; kind_is(alloc, index, b"trunk/a", 5, Some(NodeKind::File)));
     assert!(rt; kind_is(alloc, index, b"trunk/a", 6, None));
-    assert!(rt; kind_is(alloc, index, b"b", 6, Some(NodeKind::Folder)));
+    assert!(rt; kind_is(alloc, index, b"b", 6, Some(NodeKind::Directory)));
     assert!(rt; kind_is(alloc, index, b"b/a", 6, Some(NodeKind::File)));
     assert!(rt; kind_is(alloc, index, b"b/a/c", 6, None));
     assert!(rt; texts_are(alloc, index, b"trunk/a", 4, &[1, 3]));
@@ -161,8 +161,8 @@ fn nested(alloc: Global) -> Result<Vec<NodeChange<'static>>, Memory> {
         path: b"d",
     };
     let mut changes = Vec::new(alloc);
-    changes.push(change(1, b"d", FOLDER))?;
-    changes.push(change(1, b"d/s", FOLDER))?;
+    changes.push(change(1, b"d", DIRECTORY))?;
+    changes.push(change(1, b"d/s", DIRECTORY))?;
     changes.push(change(1, b"d/s/x", FILE))?;
     changes.push(change(1, b"d/s/y", FILE))?;
     changes.push(change(1, b"d/s.txt", FILE))?;
@@ -237,7 +237,7 @@ fn what_is_known_is_found(rt: HostRuntime) -> Result<(), Fail> {
     changes.push(change(1, b"b/a", FILE))?;
     if first_out_of_order(&changes).is_none() {
         let index = ChangeIndex::new(alloc, changes)?;
-        let leaves = first_leaves(alloc, &index, NodeKind::Folder)?;
+        let leaves = first_leaves(alloc, &index, NodeKind::Directory)?;
         assert!(rt; leaves);
         return Ok(());
     }
@@ -253,7 +253,7 @@ fn copied_and_deleted(alloc: Global) -> Result<Vec<NodeChange<'static>>, Memory>
         path: b"d",
     };
     let mut changes = Vec::new(alloc);
-    changes.push(change(1, b"d", FOLDER))?;
+    changes.push(change(1, b"d", DIRECTORY))?;
     changes.push(change(1, b"d/x", FILE))?;
     changes.push(change(1, b"d/y", FILE))?;
     changes.push(copy(2, b"e", source))?;
@@ -357,6 +357,6 @@ fn copies_of_later_revisions_are_out_of_order(rt: HostRuntime) {
     assert!(rt; first_out_of_order(&[copy(2, b"b", own)]) == Some(0));
     assert!(rt; first_out_of_order(&[copy(2, b"b", slash)]) == Some(0));
     assert!(rt; first_out_of_order(&[deleted(2, b"b"), deleted(1, b"b")]) == Some(1));
-    assert!(rt; first_out_of_order(&[change(2, b"b/", FOLDER)]) == Some(0));
+    assert!(rt; first_out_of_order(&[change(2, b"b/", DIRECTORY)]) == Some(0));
     assert!(rt; first_out_of_order(&[deleted(2, b"b"), copy(3, b"b", own)]).is_none());
 }

@@ -5,6 +5,6 @@ pub mod StageLemmas
 pub mod PlainLemmas
 pub mod StepLemmas
 pub mod FilteredChange
-pub mod FolderLemmas
+pub mod DirectoryLemmas
 pub mod RevisionLemmas
 pub mod CutLemmas

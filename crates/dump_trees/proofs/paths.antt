@@ -2,7 +2,7 @@
 pub mod PathNames
 pub mod KeptPaths
 pub mod PrefixRests
-pub mod GivenFolders
+pub mod GivenDirectories
 pub mod PrefixPaths
 pub mod SiblingLemmas
 pub mod NamedLines

@@ -7,7 +7,7 @@ use Rattle.dump_trees.specs.Trees.{Node, Tree}
 mutual
   -- a branch: a directory with its properties and what is in it, or a file with its properties and its text
   pub data Branch : Type 0 where
-    Folder : (props : List Property) → (inside : Branches) → Branch
+    Directory : (props : List Property) → (inside : Branches) → Branch
     File : (props : List Property) → (text : List ℕ) → Branch
 
   -- the branches in a directory, each with its name
@@ -18,8 +18,8 @@ mutual
 abbrev mutual
   -- the tree whose root is this branch
   pub tree_of : Branch → NodePath → Option Node
-  tree_of (Branch.Folder props inside) [] = Some (Node.Folder props)
-  tree_of (Branch.Folder props inside) (name ∷ rest) = found inside name rest None
+  tree_of (Branch.Directory props inside) [] = Some (Node.Directory props)
+  tree_of (Branch.Directory props inside) (name ∷ rest) = found inside name rest None
   tree_of (Branch.File props text) [] = Some (Node.File props text)
   tree_of (Branch.File props text) (name ∷ rest) = None
 
@@ -38,7 +38,7 @@ has_name name (Branches.Named first branch others) = bytes_eq first name || has_
 abbrev mutual
   -- whether the names in each directory of the branch differ
   pub is_distinct : Branch → Bool
-  is_distinct (Branch.Folder props inside) = are_distinct inside
+  is_distinct (Branch.Directory props inside) = are_distinct inside
   is_distinct (Branch.File props text) = true
 
   -- whether the names of these branches differ, and those in each directory of them

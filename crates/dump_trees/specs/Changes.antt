@@ -2,18 +2,18 @@
 use Rattle.std.specs.Prelude.{ℕ, Bool, true, false, not, ◌&&◌, List, [], ◌∷◌, ◌++◌, Option, Some, None, option_map, option_and_then, is_some, is_none, filter, bytes_eq, if◌then◌else◌}
 use Rattle.dump_text.specs.PropertyList.{Property}
 use Rattle.dump_trees.specs.Paths.{NodePath, parent_of}
-use Rattle.dump_trees.specs.Trees.{Node, Tree, is_folder, grafted, put, empty_tree}
+use Rattle.dump_trees.specs.Trees.{Node, Tree, is_directory_node, grafted, put, empty_tree}
 
 -- what a change makes at its path: a new directory or file, or a copy of a path in an earlier revision
 pub data Made : Type 0 where
-  NewFolder : Made
+  NewDirectory : Made
   NewFile : Made
   Copied : (number : ℕ) → (source : NodePath) → Made
 
 -- whether something is copied
 abbrev pub is_copied : Option Made → Bool
 is_copied None = false
-is_copied (Some Made.NewFolder) = false
+is_copied (Some Made.NewDirectory) = false
 is_copied (Some Made.NewFile) = false
 is_copied (Some (Made.Copied number source)) = true
 
@@ -43,13 +43,13 @@ abbrev pub History : Type 0
 History = ℕ → Option Tree
 
 -- whether there is a parent, and a directory exists there
-abbrev pub is_folder_at : Tree → Option NodePath → Bool
-is_folder_at tree None = false
-is_folder_at tree (Some parent) = is_folder (tree parent)
+abbrev pub is_directory_at : Tree → Option NodePath → Bool
+is_directory_at tree None = false
+is_directory_at tree (Some parent) = is_directory_node (tree parent)
 
 -- whether something may be made at the path: its parent is a directory
-abbrev pub has_folder : Tree → NodePath → Bool
-has_folder tree path = is_folder_at tree (parent_of path)
+abbrev pub has_directory : Tree → NodePath → Bool
+has_directory tree path = is_directory_at tree (parent_of path)
 
 -- the tree without what exists at the path and below it, if the change deletes. A deletion is rejected at the root, and
 -- if nothing exists at the path
@@ -60,19 +60,19 @@ deleted true top tree =
 
 -- the tree with a new node; rejected if something exists at the path, and if its parent isn't a directory
 abbrev pub node_put : Node → NodePath → Tree → Option Tree
-node_put node top tree = if is_none (tree top) && has_folder tree top then Some (put top node tree) else None
+node_put node top tree = if is_none (tree top) && has_directory tree top then Some (put top node tree) else None
 
 -- the tree with a copy in place of what exists at the path; rejected if the source doesn't exist, and if the path's
 -- parent isn't a directory. When the revision ends, the load also rejects a copy over something at a path that the same
 -- revision changed before or deletes afterwards. That is accepted here, so more loads here than there
 abbrev pub copied : NodePath → NodePath → Tree → Tree → Option Tree
 copied source top tree old =
-    if is_some (old source) && has_folder tree top then Some (grafted top (λ rest. old (source ++ rest)) tree) else None
+    if is_some (old source) && has_directory tree top then Some (grafted top (λ rest. old (source ++ rest)) tree) else None
 
 -- the tree with what a change makes; a copy is rejected if its revision doesn't exist
 abbrev pub made_in : History → Option Made → NodePath → Tree → Option Tree
 made_in history None top tree = Some tree
-made_in history (Some Made.NewFolder) top tree = node_put (Node.Folder []) top tree
+made_in history (Some Made.NewDirectory) top tree = node_put (Node.Directory []) top tree
 made_in history (Some Made.NewFile) top tree = node_put (Node.File [] []) top tree
 made_in history (Some (Made.Copied number source)) top tree =
     option_and_then (λ old. copied source top tree old) (history number)
@@ -96,7 +96,7 @@ new_props (PropertyChange.Edited entries) old = edited_with entries old
 
 -- the node with its new properties
 abbrev pub with_props : PropertyChange → Node → Node
-with_props change (Node.Folder old) = Node.Folder (new_props change old)
+with_props change (Node.Directory old) = Node.Directory (new_props change old)
 with_props change (Node.File old text) = Node.File (new_props change old) text
 
 -- the new text of a file that has this old one; none if the load rejects the delta
@@ -106,7 +106,7 @@ new_text (TextChange.Patched patch) old = patch old
 
 -- the file with its new text; rejected for a directory, and if the load rejects the delta
 abbrev pub with_text : TextChange → Node → Option Node
-with_text change (Node.Folder props) = None
+with_text change (Node.Directory props) = None
 with_text change (Node.File props old) = option_map (λ text. Node.File props text) (new_text change old)
 
 -- the tree with the new properties of what exists at the path; rejected if nothing exists there

@@ -43,7 +43,7 @@ alone_if false = []
 abbrev mutual
   -- the rests at which something of this branch comes back if it is copied from this source to this path
   pub coming_back : Settings → NodePath → NodePath → Branch → List NodePath
-  coming_back settings path source (Branch.Folder props inside) =
+  coming_back settings path source (Branch.Directory props inside) =
       alone_if (keeps settings path && not (keeps settings source)) ++ inside_coming_back settings path source inside
   coming_back settings path source (Branch.File props text) =
       alone_if (keeps settings path && not (keeps settings source))
@@ -81,7 +81,7 @@ KeptChangesTellAll = (settings : Settings) (revisions others : List (List Change
 
 -- the properties of a node
 abbrev pub properties_of : Node → List Property
-properties_of (Node.Folder props) = props
+properties_of (Node.Directory props) = props
 properties_of (Node.File props text) = props
 
 -- the entries of a change of properties

@@ -5,7 +5,7 @@ use Rattle.std.specs.List.{list_all}
 use Rattle.dump_rules.specs.declared.options.Side.TheVariants.{Exclude}
 use Rattle.dump_rules.specs.Settings.{Settings}
 use Rattle.dump_trees.specs.Paths.{NodePath, keeps, below}
-use Rattle.dump_trees.specs.Trees.{Tree, HasFolders}
+use Rattle.dump_trees.specs.Trees.{Tree, HasDirectories}
 use Rattle.dump_trees.specs.Changes.{Made, PropertyChange, TextChange, Change, History, new_props, new_text, step}
 use Rattle.dump_trees.specs.Separation.{Separates}
 use Rattle.dump_trees.specs.Branches.{Branch, is_distinct, HasBranch}
@@ -15,13 +15,13 @@ use Rattle.dump_trees.specs.Expansions.{Expands}
 -- the branch, with the properties at its root that a change sets
 abbrev pub branch_with_props : Option PropertyChange → Branch → Branch
 branch_with_props None branch = branch
-branch_with_props (Some change) (Branch.Folder old inside) = Branch.Folder (new_props change old) inside
+branch_with_props (Some change) (Branch.Directory old inside) = Branch.Directory (new_props change old) inside
 branch_with_props (Some change) (Branch.File old text) = Branch.File (new_props change old) text
 
 -- the branch, with the text at its root that a change sets; rejected for a directory, and if the load rejects the delta
 abbrev pub branch_with_text : Option TextChange → Branch → Option Branch
 branch_with_text None branch = Some branch
-branch_with_text (Some change) (Branch.Folder props inside) = None
+branch_with_text (Some change) (Branch.Directory props inside) = None
 branch_with_text (Some change) (Branch.File props old) =
     option_map (λ text. Branch.File props text) (new_text change old)
 
@@ -57,7 +57,7 @@ SeparatedExpands = (settings : Settings) (history : History) (before : Tree) (c 
 abbrev pub KeptCopyExpands : Type 0
 KeptCopyExpands = (settings : Settings) (history : History) (before old : Tree) (c : Change) (number : ℕ)
     (source : NodePath) (branch made : Branch) (changes : List Change) →
-    HasFolders before → IsTrue (keeps settings c.path)
+    HasDirectories before → IsTrue (keeps settings c.path)
     → c.made ≡ Some (Made.Copied number source) → history number ≡ Some old → HasBranch old source branch
     → IsTrue (is_distinct branch) → branch_made c branch ≡ Some made
     → WritesOut settings history c.path made changes

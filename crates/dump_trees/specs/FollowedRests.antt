@@ -21,7 +21,7 @@ pub record PlacedRest : Type 0 where
 -- the rests of what a change makes at its path; only a copy has any
 abbrev pub rests_made : Way → List NodePath → ToldKinds → List Placed → NodePath → Option Made → List NodePath
 rests_made way tops told placed path None = []
-rests_made way tops told placed path (Some Made.NewFolder) = []
+rests_made way tops told placed path (Some Made.NewDirectory) = []
 rests_made way tops told placed path (Some Made.NewFile) = []
 rests_made way tops told placed path (Some (Made.Copied number source)) =
     followed_told way tops told placed number path source

@@ -3,10 +3,10 @@ use Rattle.std.specs.Prelude.{◌≡◌, ℕ, List, [], ◌∷◌, length, Optio
 use Rattle.dump_text.specs.PropertyList.{Property}
 use Rattle.dump_rules.specs.Settings.{Settings}
 use Rattle.dump_rules.specs.Renumbering.{image}
-use Rattle.dump_trees.specs.Trees.{Tree, HasFolders, root_alone}
+use Rattle.dump_trees.specs.Trees.{Tree, HasDirectories, root_alone}
 use Rattle.dump_trees.specs.Changes.{Change, History, steps}
 use Rattle.dump_trees.specs.Restriction.{given, NewProperty, KeepsEntries, NewNumber, IsRestricted}
-use Rattle.dump_trees.specs.StepLaws.{AllHaveFolders, AreRestricted, IsMade, IsRenumbered}
+use Rattle.dump_trees.specs.StepLaws.{AllHaveDirectories, AreRestricted, IsMade, IsRenumbered}
 use Rattle.dump_trees.specs.Revisions.{loaded_over, AreNewChanges, EmptyRule, stays_numbered, kept_of, AreFiltered, AllSeparate, AllRevisionsSeparate}
 
 -- what the filter writes for the changes of a revision leads from the restricted tree to the restricted one, if each
@@ -14,8 +14,8 @@ use Rattle.dump_trees.specs.Revisions.{loaded_over, AreNewChanges, EmptyRule, st
 abbrev pub RevisionRestricts : Settings → NewProperty → NewNumber → Type 0
 RevisionRestricts settings IsNew IsNumber = (history others : History) (before after restricted : Tree)
     (changes written : List Change) →
-    AllHaveFolders history → AreRestricted settings IsNew IsNumber history others
-    → HasFolders before → IsRestricted settings IsNew before restricted
+    AllHaveDirectories history → AreRestricted settings IsNew IsNumber history others
+    → HasDirectories before → IsRestricted settings IsNew before restricted
     → steps history before changes ≡ Some after → AllSeparate settings history before changes
     → AreNewChanges settings IsNew IsNumber changes written
     → (other : Tree) × (steps others restricted written ≡ Some other) × IsRestricted settings IsNew after other

@@ -19,7 +19,7 @@ pub data Kind : Type 0 where
 
 -- the kind of the node
 abbrev pub kind_of_node : Node → Kind
-kind_of_node (Node.Folder props) = Kind.Directory
+kind_of_node (Node.Directory props) = Kind.Directory
 kind_of_node (Node.File props text) = Kind.File
 
 -- the kind of what exists at the path
@@ -61,14 +61,14 @@ kind_left true here = None
 -- a directory, also over something
 abbrev pub making_allowed : Option Made → Option Kind → Kinds → Bool
 making_allowed None left kinds = true
-making_allowed (Some Made.NewFolder) left kinds = is_none left && is_directory kinds.parent
+making_allowed (Some Made.NewDirectory) left kinds = is_none left && is_directory kinds.parent
 making_allowed (Some Made.NewFile) left kinds = is_none left && is_directory kinds.parent
 making_allowed (Some (Made.Copied number source)) left kinds = is_some kinds.source && is_directory kinds.parent
 
 -- what exists at the path after the change makes something there, if it does
 abbrev pub kind_made : Option Made → Option Kind → Option Kind → Option Kind
 kind_made None left source = left
-kind_made (Some Made.NewFolder) left source = Some Kind.Directory
+kind_made (Some Made.NewDirectory) left source = Some Kind.Directory
 kind_made (Some Made.NewFile) left source = Some Kind.File
 kind_made (Some (Made.Copied number from)) left source = source
 
@@ -92,7 +92,7 @@ kinds_allow c kinds =
 -- what exists at the source, if something is copied
 abbrev pub source_kind : History → Option Made → Option Kind
 source_kind history None = None
-source_kind history (Some Made.NewFolder) = None
+source_kind history (Some Made.NewDirectory) = None
 source_kind history (Some Made.NewFile) = None
 source_kind history (Some (Made.Copied number source)) =
     option_and_then (λ old. kind_at old source) (history number)
@@ -122,7 +122,7 @@ abbrev pub delta_applies : Option TextChange → Option Node → Bool
 delta_applies None old = true
 delta_applies (Some (TextChange.Replaced text)) old = true
 delta_applies (Some (TextChange.Patched patch)) None = true
-delta_applies (Some (TextChange.Patched patch)) (Some (Node.Folder props)) = true
+delta_applies (Some (TextChange.Patched patch)) (Some (Node.Directory props)) = true
 delta_applies (Some (TextChange.Patched patch)) (Some (Node.File props text)) = is_some (patch text)
 
 -- a load accepts a change exactly if the kinds allow it, and its delta applies
@@ -150,7 +150,7 @@ TellsKinds told first placed = (front : List (List Change)) (behind : List Place
 -- what the function says of the source, if something is copied from a revision before this one; otherwise nothing
 abbrev pub source_told : ToldKinds → List Placed → ℕ → Option Made → Option Kind
 source_told told placed revision None = None
-source_told told placed revision (Some Made.NewFolder) = None
+source_told told placed revision (Some Made.NewDirectory) = None
 source_told told placed revision (Some Made.NewFile) = None
 source_told told placed revision (Some (Made.Copied number source)) =
     if nat_lt number revision then told (end_of placed number) source else None

@@ -60,8 +60,8 @@ left_by false = Origin.Before
 -- where what exists after the change, at this rest of the change's own path, comes from
 abbrev pub origin_of : Bool → Option Made → NodePath → Origin
 origin_of deletes None rest = left_by deletes
-origin_of deletes (Some Made.NewFolder) [] = Origin.New (Node.Folder [])
-origin_of deletes (Some Made.NewFolder) (name ∷ rest) = left_by deletes
+origin_of deletes (Some Made.NewDirectory) [] = Origin.New (Node.Directory [])
+origin_of deletes (Some Made.NewDirectory) (name ∷ rest) = left_by deletes
 origin_of deletes (Some Made.NewFile) [] = Origin.New (Node.File [] [])
 origin_of deletes (Some Made.NewFile) (name ∷ rest) = left_by deletes
 origin_of deletes (Some (Made.Copied number source)) rest = Origin.From number (source ++ rest)

@@ -5,7 +5,7 @@ use Rattle.std.specs.Prelude.{◌≡◌, ℕ, ◌+◌, List, [], ◌∷◌, ◌+
 use Rattle.std.specs.List.{AllZip}
 use Rattle.dump_text.specs.PropertyList.{Property}
 use Rattle.dump_trees.specs.Paths.{NodePath}
-use Rattle.dump_trees.specs.Trees.{Tree, HasFolders}
+use Rattle.dump_trees.specs.Trees.{Tree, HasDirectories}
 use Rattle.dump_trees.specs.Changes.{Made, Change}
 use Rattle.dump_trees.specs.Restriction.{NewProperty, KeepsEntries, IsNewNode, AreNewProps}
 use Rattle.dump_trees.specs.StepLaws.{IsMade}
@@ -14,7 +14,7 @@ use Rattle.dump_trees.specs.Revisions.{loaded, loaded_over}
 -- what is made, with the number of a copy higher by this many
 abbrev pub made_behind : ℕ → Option Made → Option Made
 made_behind count None = None
-made_behind count (Some Made.NewFolder) = Some Made.NewFolder
+made_behind count (Some Made.NewDirectory) = Some Made.NewDirectory
 made_behind count (Some Made.NewFile) = Some Made.NewFile
 made_behind count (Some (Made.Copied number source)) = Some (Made.Copied (count + number) source)
 
@@ -59,7 +59,7 @@ AllAreAlike IsNew trees others = (number : ℕ) (tree : Tree) → slice_get tree
 -- whose revision 0 has this tree, but for the new properties
 abbrev pub LoadsAlike : NewProperty → Type 0
 LoadsAlike IsNew = (older : List Tree) (first : Tree) (revisions moved : List (List Change)) (trees : List Tree) →
-    HasFolders first → AreAlike IsNew first first
+    HasDirectories first → AreAlike IsNew first first
     → AreRevisionsBehind IsNew (length older) revisions moved
     → loaded_over first revisions ≡ Some trees
     → (others : List Tree) × (loaded (older ++ first ∷ []) first moved ≡ Some (older ++ others))

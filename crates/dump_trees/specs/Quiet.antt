@@ -32,7 +32,7 @@ cuts_alike Exclude settings path other =
 -- nor at the source what is kept at the copy. If it copies a path that isn't kept, it sets properties itself
 abbrev pub is_quiet_kept : Settings → NodePath → Option PropertyChange → Option Made → Bool
 is_quiet_kept settings path props None = true
-is_quiet_kept settings path props (Some Made.NewFolder) = true
+is_quiet_kept settings path props (Some Made.NewDirectory) = true
 is_quiet_kept settings path props (Some Made.NewFile) = true
 is_quiet_kept settings path props (Some (Made.Copied number source)) =
     if keeps settings source then

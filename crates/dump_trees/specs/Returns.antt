@@ -4,7 +4,7 @@ use Rattle.std.specs.Prelude.{◌≡◌, ℕ, Bool, true, not, ◌&&◌, List, [
 use Rattle.std.specs.List.{list_all, list_any}
 use Rattle.dump_rules.specs.Settings.{Settings}
 use Rattle.dump_trees.specs.Paths.{NodePath, below}
-use Rattle.dump_trees.specs.Trees.{Tree, HasFolders}
+use Rattle.dump_trees.specs.Trees.{Tree, HasDirectories}
 use Rattle.dump_trees.specs.Changes.{Made, Change, History}
 use Rattle.dump_trees.specs.Siblings.{is_within, has_node_names, HasNames, ExcludesPaths}
 use Rattle.dump_trees.specs.ComingBack.{ComesBack}
@@ -55,7 +55,7 @@ pub record IsCopyOver (settings : Settings) (excluded : List NodePath) (history 
   pub names : IsTrue (list_all has_node_names excluded)
   pub copies : c.made ≡ Some (Made.Copied number source)
   pub there : history number ≡ Some old
-  pub folders : HasFolders old
+  pub directories : HasDirectories old
   pub named : HasNames old
   pub path : IsTrue (has_node_names c.path)
 

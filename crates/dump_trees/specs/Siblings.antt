@@ -5,7 +5,7 @@ use Rattle.std.specs.List.{list_all, list_any}
 use Rattle.dump_rules.specs.declared.options.Side.TheVariants.{Exclude}
 use Rattle.dump_rules.specs.Settings.{Settings, keeps_path}
 use Rattle.dump_trees.specs.Paths.{NodePath, path_text, path_of, is_name, is_short, keeps, below, parent_of}
-use Rattle.dump_trees.specs.Trees.{Tree, HasFolders, root_alone}
+use Rattle.dump_trees.specs.Trees.{Tree, HasDirectories, root_alone}
 use Rattle.dump_trees.specs.Changes.{Change}
 use Rattle.dump_trees.specs.Restriction.{is_root}
 use Rattle.dump_trees.specs.Revisions.{loaded_over}
@@ -79,7 +79,7 @@ abbrev pub SiblingsLeaveCut : Type 0
 SiblingsLeaveCut = (settings : Settings) (included siblings : List NodePath) (trees : List Tree) (number : ℕ)
     (tree : Tree) (path : NodePath) →
     ExcludesPaths settings siblings → AreSiblings included trees siblings
-    → slice_get trees number ≡ Some tree → HasFolders tree → HasNames tree → IsTrue (is_some (tree path))
+    → slice_get trees number ≡ Some tree → HasDirectories tree → HasNames tree → IsTrue (is_some (tree path))
     → keeps settings path ≡ is_in_cut included path
 
 -- named paths
@@ -109,9 +109,9 @@ NamedTextsLeaveCut = (settings : Settings) (included named siblings : List NodeP
 -- the trees of a repository
 
 -- in each tree that is loaded, if a node exists at a path, a directory exists at each path above it
-abbrev pub LoadedTreesHaveFolders : Type 0
-LoadedTreesHaveFolders = (revisions : List (List Change)) (trees : List Tree) (number : ℕ) (tree : Tree) →
-    loaded_over root_alone revisions ≡ Some trees → slice_get trees number ≡ Some tree → HasFolders tree
+abbrev pub LoadedTreesHaveDirectories : Type 0
+LoadedTreesHaveDirectories = (revisions : List (List Change)) (trees : List Tree) (number : ℕ) (tree : Tree) →
+    loaded_over root_alone revisions ≡ Some trees → slice_get trees number ≡ Some tree → HasDirectories tree
 
 -- in each tree that is loaded, paths at which something exists have names of nodes, if the paths of the changes have
 abbrev pub LoadedTreesHaveNames : Type 0

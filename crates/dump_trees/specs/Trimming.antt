@@ -6,14 +6,14 @@ use Rattle.dump_text.specs.PropertyList.{Property}
 use Rattle.dump_rules.specs.declared.options.Side.TheVariants.{Exclude}
 use Rattle.dump_rules.specs.Settings.{Settings}
 use Rattle.dump_trees.specs.Paths.{NodePath, keeps, below}
-use Rattle.dump_trees.specs.Trees.{Tree, HasFolders, root_alone}
+use Rattle.dump_trees.specs.Trees.{Tree, HasDirectories, root_alone}
 use Rattle.dump_trees.specs.Changes.{Made, Change, History, step, steps}
 use Rattle.dump_trees.specs.Restriction.{KeepsEntries, NewProperty, NewNumber, IsRestricted, IsNewChange}
 use Rattle.dump_trees.specs.Separation.{Separates}
 use Rattle.dump_rules.specs.Renumbering.{image}
 use Rattle.dump_trees.specs.Revisions.{loaded_over, EmptyRule, keeps_revision, kept_of, IsWrittenNumber}
 use Rattle.dump_trees.specs.HistoryLaws.{ImagesRestrict}
-use Rattle.dump_trees.specs.StepLaws.{AllHaveFolders, AreRestricted, IsMade, IsRenumbered}
+use Rattle.dump_trees.specs.StepLaws.{AllHaveDirectories, AreRestricted, IsMade, IsRenumbered}
 use Rattle.dump_trees.specs.ExpansionCases.{deletions, none_is_below}
 use Rattle.dump_trees.specs.Branches.{Branch, is_distinct, HasBranch}
 use Rattle.dump_trees.specs.ComingBack.{ComesBack, coming_back}
@@ -97,8 +97,8 @@ abbrev pub TrimmedRevisionRestricts : Settings → NewProperty → NewNumber →
 TrimmedRevisionRestricts settings IsNew IsNumber = (history others : History) (before after restricted : Tree)
     (changes written : List Change) →
     settings.side ≡ Exclude
-    → AllHaveFolders history → AreRestricted settings IsNew IsNumber history others
-    → HasFolders before → IsRestricted settings IsNew before restricted
+    → AllHaveDirectories history → AreRestricted settings IsNew IsNumber history others
+    → HasDirectories before → IsRestricted settings IsNew before restricted
     → steps history before changes ≡ Some after
     → AreTrimmedChanges settings IsNew IsNumber history before changes written
     → (other : Tree) × (steps others restricted written ≡ Some other) × IsRestricted settings IsNew after other

@@ -18,11 +18,11 @@ copy_of number source path = record {
 }
 
 -- a change that makes a directory with the properties of these entries
-abbrev pub folder_of : NodePath → List Property → Change
-folder_of path entries = record {
+abbrev pub directory_of : NodePath → List Property → Change
+directory_of path entries = record {
   path = path;
   deletes = false;
-  made = Some Made.NewFolder;
+  made = Some Made.NewDirectory;
   props = Some (PropertyChange.Replaced entries);
   text = None;
 }
@@ -65,9 +65,9 @@ abbrev mutual
   -- these changes write the branch out at the path: they copy it as a whole, or they make its root, with entries that
   -- make exactly its properties, and then write out what is in it
   pub WritesOut : Settings → History → NodePath → Branch → List Change → Type 0
-  WritesOut settings history path (Branch.Folder props inside) changes =
-      IsCopied settings history path (Branch.Folder props inside) changes
-      ⊎ ((entries : List Property) × (rest : List Change) × (changes ≡ folder_of path entries ∷ rest)
+  WritesOut settings history path (Branch.Directory props inside) changes =
+      IsCopied settings history path (Branch.Directory props inside) changes
+      ⊎ ((entries : List Property) × (rest : List Change) × (changes ≡ directory_of path entries ∷ rest)
       × (edited_with entries [] ≡ props) × WritesInside settings history path inside rest)
   WritesOut settings history path (Branch.File props text) changes =
       IsCopied settings history path (Branch.File props text) changes

@@ -18,7 +18,7 @@ ghost use Rattle.dump_trees.specs.MovedLaws.{EachLoadsAlike, LoadsBehindOthers};
 ghost use Rattle.dump_trees.specs.PathLaws.{KeepsAsTextDoes, TextsAreRead};
 ghost use Rattle.dump_trees.specs.Returns.{ReturnsTellAll};
 ghost use Rattle.dump_trees.specs.Quiet.{AllQuietSeparate, QuietSeparates};
-ghost use Rattle.dump_trees.specs.Siblings.{LoadedTreesHaveFolders, LoadedTreesHaveNames, NamedPathsLeaveCut, NamedTextsLeaveCut, ShortPathsHaveNames, SiblingsLeaveCut};
+ghost use Rattle.dump_trees.specs.Siblings.{LoadedTreesHaveDirectories, LoadedTreesHaveNames, NamedPathsLeaveCut, NamedTextsLeaveCut, ShortPathsHaveNames, SiblingsLeaveCut};
 ghost use Rattle.dump_trees.specs.StepLaws.{EachStepRestricts, FilteredIsNew};
 ghost use Rattle.dump_trees.specs.TreeLaws.{GivesNothingBelowKept, GivesRootAlone, KeepsNothingBelowLeft, KeepsOrGivesAbove};
 ghost use Rattle.dump_trees.specs.Trimming.{EachTrimmedCopyRestricts, EachTrimmedFilteredRestricts, EachTrimmedHistoryRestricts, EachTrimmedRevisionRestricts, TakenTopsCover};
@@ -187,7 +187,7 @@ pub fn siblings_are_ever_found()
 /// In each loaded tree the nodes are in directories, and have names of nodes if the paths of the changes have. A canonical
 /// path has names of nodes.
 pub fn loaded_trees_have_names()
-    ensures folders { LoadedTreesHaveFolders }
+    ensures directories { LoadedTreesHaveDirectories }
     ensures names { LoadedTreesHaveNames }
     ensures short { ShortPathsHaveNames }
 {}

@@ -5,7 +5,7 @@ use Rattle.std.specs.List.{list_all}
 use Rattle.dump_text.specs.PropertyList.{Property}
 use Rattle.dump_trees.specs.Looking.{end_of}
 use Rattle.dump_trees.specs.Paths.{NodePath, names_of}
-use Rattle.dump_trees.specs.WritingOut.{folder_of}
+use Rattle.dump_trees.specs.WritingOut.{directory_of}
 use Rattle.dump_history.specs.WrittenNodes.{WrittenNode, can_be_written, written_change}
 use Rattle.dump_index.specs.Listed.{Listed, all_placed}
 use Rattle.dump_index.specs.declared.change.Setting.TheVariants.{Keeps}
@@ -31,7 +31,7 @@ use Rattle.dump_additions.specs.declared.parts.Form.TheVariants.{Directory, File
 abbrev pub IsDirectoryNode : List (List ℕ) → List Listed → ℕ → NodePath → NodePath → NodePath → WrittenNode → Type 0
 IsDirectoryNode blocks listed number path source rest w =
     (text : List ℕ) × (entries : List Property) × (names_of text ≡ source ++ rest)
-    × (written_change w ≡ folder_of (path ++ rest) entries)
+    × (written_change w ≡ directory_of (path ++ rest) entries)
     × ArePropertiesAt blocks listed text (end_of (all_placed listed) number) entries
 
 -- the change at this place, which makes a copy in this form, leaves a file with this text at its path, or copies a

@@ -21,7 +21,7 @@ part_meant part = record { form = part.form; rest = names_of part.rest.items }
 -- the form of a node that isn't copied
 abbrev pub form_of : Option NodeKind → Option Form
 form_of None = None
-form_of (Some kinds.Folder) = Some Directory
+form_of (Some kinds.Directory) = Some Directory
 form_of (Some kinds.File) = Some File
 
 module _ (listed : List Listed) (excluded : List NodePath) (number : ℕ) (path source : NodePath) where

@@ -7,7 +7,7 @@ use Rattle.dump_trees.specs.Changes.{Change, History, PropertyChange, edited_wit
 use Rattle.dump_trees.specs.ComingBack.{properties_of}
 use Rattle.dump_trees.specs.Paths.{NodePath}
 use Rattle.dump_trees.specs.Trees.{Node, Tree}
-use Rattle.dump_trees.specs.WritingOut.{WritesOut, copy_of, file_of, folder_of}
+use Rattle.dump_trees.specs.WritingOut.{WritesOut, copy_of, file_of, directory_of}
 use Rattle.dump_filter.specs.FilterLaws.{keep_all}
 use Rattle.dump_additions.specs.declared.parts.Form.{Form}
 use Rattle.dump_additions.specs.declared.parts.Form.TheVariants.{Copy, Directory, File}
@@ -23,7 +23,7 @@ module _ (old : Tree) (number : ℕ) (path source : NodePath) where
   abbrev pub IsChangeOfForm : Form → NodePath → Change → Type 0
   IsChangeOfForm Copy rest c = c ≡ copy_of number (source ++ rest) (path ++ rest)
   IsChangeOfForm Directory rest c =
-      (entries : List Property) × (c ≡ folder_of (path ++ rest) entries) × AreEntriesAt rest entries
+      (entries : List Property) × (c ≡ directory_of (path ++ rest) entries) × AreEntriesAt rest entries
   IsChangeOfForm File rest c = (entries : List Property) × (text : List ℕ) × (c ≡ file_of (path ++ rest) entries text)
       × AreEntriesAt rest entries
       × ((props : List Property) (its : List ℕ) → old (source ++ rest) ≡ Some (Node.File props its) → its ≡ text)
@@ -52,7 +52,7 @@ pub record IsDirectoryWritten (history : History) (old : Tree) (path source : No
     (changes : List Change) : Type 0 where
   pub props : List Property
   pub inside : Branches
-  pub exists : HasBranch old source (Branch.Folder props inside)
-  pub distinct : is_distinct (Branch.Folder props inside) ≡ true
+  pub exists : HasBranch old source (Branch.Directory props inside)
+  pub distinct : is_distinct (Branch.Directory props inside) ≡ true
   pub out : (new : List Property) → edited_with own [] ≡ new
-      → WritesOut keep_all history path (Branch.Folder new inside) (folder_of path own ∷ changes)
+      → WritesOut keep_all history path (Branch.Directory new inside) (directory_of path own ∷ changes)

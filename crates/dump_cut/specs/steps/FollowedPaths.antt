@@ -70,7 +70,7 @@ ArePlaced way listed additions = (revisions : List (List Change)) (trees : List 
 -- the paths to which what a change makes is followed
 abbrev pub paths_made : Way → List NodePath → ToldKinds → List Placed → NodePath → Option Made → List NodePath
 paths_made way tops told placed path None = []
-paths_made way tops told placed path (Some Made.NewFolder) = []
+paths_made way tops told placed path (Some Made.NewDirectory) = []
 paths_made way tops told placed path (Some Made.NewFile) = []
 paths_made way tops told placed path (Some (Made.Copied number source)) =
     map (λ rest. to_of way path source ++ rest) (followed_told way tops told placed number path source)

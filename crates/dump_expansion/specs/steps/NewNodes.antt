@@ -9,7 +9,7 @@ use Rattle.dump_expansion.specs.declared.written_node.NewNode.TheVariants as nod
 
 -- the kind that a copy says it has
 abbrev pub written_kind : NodeKind → format.NodeKind
-written_kind kinds.Folder = format.NodeKind.Dir
+written_kind kinds.Directory = format.NodeKind.Dir
 written_kind kinds.File = format.NodeKind.File
 
 -- the node that the code writes, as such a value
@@ -17,8 +17,8 @@ abbrev pub written_of : NewNode → format.WrittenNode
 written_of (nodes.Deletion path) = format.WrittenNode.Deletion path.items
 written_of (nodes.Copy kind revision source path) =
     format.WrittenNode.Copy (written_kind kind) revision source.items path.items
-written_of (nodes.Folder replaces path entries) =
-    format.WrittenNode.Folder replaces path.items (map as_property entries.items)
+written_of (nodes.Directory replaces path entries) =
+    format.WrittenNode.Directory replaces path.items (map as_property entries.items)
 written_of (nodes.File replaces path entries text md5 sha1) =
     format.WrittenNode.File replaces path.items (map as_property entries.items) text.now
     (option_copied md5) (option_copied sha1)

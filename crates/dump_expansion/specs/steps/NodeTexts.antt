@@ -9,7 +9,7 @@ use Rattle.dump_history.specs.WrittenNodes.{WrittenNode, line, making_word, node
 abbrev pub lfs_after : WrittenNode → ℕ
 lfs_after (WrittenNode.Deletion path) = 1
 lfs_after (WrittenNode.Copy kind number source path) = 1
-lfs_after (WrittenNode.Folder replaces path entries) = 2
+lfs_after (WrittenNode.Directory replaces path entries) = 2
 lfs_after (WrittenNode.File replaces path entries text md5 sha1) = 2
 
 -- the nodes, with line feeds after each

@@ -17,7 +17,7 @@ module _ (patched : Patching) (settings : Settings) where
       cases true false copied = by_kind _ _ copied
         where
           by_kind : (d f : Bool)
-              → is_copied (if d then Some Made.NewFolder else if f then Some Made.NewFile else None) ≡ true
+              → is_copied (if d then Some Made.NewDirectory else if f then Some Made.NewFile else None) ≡ true
               → false ≡ true
           by_kind true f copied = copied
           by_kind false true copied = copied

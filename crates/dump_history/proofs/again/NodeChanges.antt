@@ -98,7 +98,7 @@ module _ (patched : Patching) (settings : Settings) (kept : KeptRevisions) (r s 
   same_makes = ap (λ o. tells o (codes "add") || tells o (codes "replace")) action
 
   same_by_kind : made_by_kind s ≡ made_by_kind r
-  same_by_kind = ap (λ o. if tells o (codes "dir") then Some Made.NewFolder
+  same_by_kind = ap (λ o. if tells o (codes "dir") then Some Made.NewDirectory
       else if tells o (codes "file") then Some Made.NewFile else None) kind
 
   same_delta : has_undefined_delta s ≡ has_undefined_delta r
@@ -160,7 +160,7 @@ module _ (patched : Patching) (settings : Settings) (kept : KeptRevisions) (r s 
   same_kind_made o is = by_case (tells (header_value node_kind_name r.headers) (codes "dir"))
       (tells (header_value node_kind_name r.headers) (codes "file")) is
     where
-      by_case : (d f : Bool) → (if d then Some Made.NewFolder else if f then Some Made.NewFile else None) ≡ o
+      by_case : (d f : Bool) → (if d then Some Made.NewDirectory else if f then Some Made.NewFile else None) ≡ o
           → IsMadeAgain o o
       by_case true f e = subst (λ (m : Option Made). IsMadeAgain m m) e tt
       by_case false true e = subst (λ (m : Option Made). IsMadeAgain m m) e tt

@@ -31,12 +31,12 @@ module _ (settings : Settings) (IsNew : NewProperty) (entries : KeepsEntries IsN
       → is_copied old ≡ false → is_copied new ≡ false
   still_plain whole None None is plain = refl
   still_plain whole None (Some new) is plain = absurd is
-  still_plain whole (Some Made.NewFolder) None is plain = absurd is
-  still_plain whole (Some Made.NewFolder) (Some Made.NewFolder) is plain = refl
-  still_plain whole (Some Made.NewFolder) (Some Made.NewFile) is plain = absurd is
-  still_plain whole (Some Made.NewFolder) (Some (Made.Copied number source)) is plain = absurd is
+  still_plain whole (Some Made.NewDirectory) None is plain = absurd is
+  still_plain whole (Some Made.NewDirectory) (Some Made.NewDirectory) is plain = refl
+  still_plain whole (Some Made.NewDirectory) (Some Made.NewFile) is plain = absurd is
+  still_plain whole (Some Made.NewDirectory) (Some (Made.Copied number source)) is plain = absurd is
   still_plain whole (Some Made.NewFile) None is plain = absurd is
-  still_plain whole (Some Made.NewFile) (Some Made.NewFolder) is plain = absurd is
+  still_plain whole (Some Made.NewFile) (Some Made.NewDirectory) is plain = absurd is
   still_plain whole (Some Made.NewFile) (Some Made.NewFile) is plain = refl
   still_plain whole (Some Made.NewFile) (Some (Made.Copied number source)) is plain = absurd is
   still_plain whole (Some (Made.Copied number source)) new is plain = absurd (let bad : true ≡ false = plain in cc)

@@ -49,7 +49,7 @@ both_made : (settings : Settings) (IsNumber : NewNumber) (whole : Bool) (old new
     → IsNewMade settings IsNumber whole old new → is_some new ≡ is_some old
 both_made settings IsNumber whole None None is = refl
 both_made settings IsNumber whole None (Some m) is = absurd is
-both_made settings IsNumber whole (Some Made.NewFolder) None is = absurd is
+both_made settings IsNumber whole (Some Made.NewDirectory) None is = absurd is
 both_made settings IsNumber whole (Some Made.NewFile) None is = absurd is
 both_made settings IsNumber whole (Some (Made.Copied number source)) None is = absurd is
 both_made settings IsNumber whole (Some m) (Some n) is = refl
@@ -58,10 +58,10 @@ both_made settings IsNumber whole (Some m) (Some n) is = refl
 copied_before : (settings : Settings) (IsNumber : NewNumber) (whole : Bool) (old new : Option Made)
     → IsNewMade settings IsNumber whole old new → is_copied new ≡ true → is_copied old ≡ true
 copied_before settings IsNumber whole old None is copied = absurd (let bad : false ≡ true = copied in cc)
-copied_before settings IsNumber whole old (Some Made.NewFolder) is copied = absurd (let bad : false ≡ true = copied in cc)
+copied_before settings IsNumber whole old (Some Made.NewDirectory) is copied = absurd (let bad : false ≡ true = copied in cc)
 copied_before settings IsNumber whole old (Some Made.NewFile) is copied = absurd (let bad : false ≡ true = copied in cc)
 copied_before settings IsNumber whole None (Some (Made.Copied number source)) is copied = absurd is
-copied_before settings IsNumber whole (Some Made.NewFolder) (Some (Made.Copied number source)) is copied = absurd is
+copied_before settings IsNumber whole (Some Made.NewDirectory) (Some (Made.Copied number source)) is copied = absurd is
 copied_before settings IsNumber whole (Some Made.NewFile) (Some (Made.Copied number source)) is copied = absurd is
 copied_before settings IsNumber whole (Some (Made.Copied old from)) (Some (Made.Copied number source)) is copied = refl
 

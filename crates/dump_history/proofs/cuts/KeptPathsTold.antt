@@ -11,10 +11,10 @@ module _ (settings : Settings) (IsNew : NewProperty) (IsNumber : NewNumber) wher
   source_kept : (whole : Bool) (old new : Option Made) → IsNewMade settings IsNumber whole old new
       → not (is_lost settings new) ≡ true
   source_kept whole old None is = refl
-  source_kept whole old (Some Made.NewFolder) is = refl
+  source_kept whole old (Some Made.NewDirectory) is = refl
   source_kept whole old (Some Made.NewFile) is = refl
   source_kept whole None (Some (Made.Copied number source)) is = absurd is
-  source_kept whole (Some Made.NewFolder) (Some (Made.Copied number source)) is = absurd is
+  source_kept whole (Some Made.NewDirectory) (Some (Made.Copied number source)) is = absurd is
   source_kept whole (Some Made.NewFile) (Some (Made.Copied number source)) is = absurd is
   source_kept whole (Some (Made.Copied number source)) (Some (Made.Copied written same)) is =
       ap (λ b. not (not b)) (ap (keeps settings) is.2 ∙ is.0)

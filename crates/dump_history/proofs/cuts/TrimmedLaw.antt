@@ -34,16 +34,16 @@ module _ (settings : Settings) (kept : KeptRevisions) (stays : settings.renumber
       → IsNewMade settings IsSameNumber whole old new
   own_made whole None None is = is
   own_made whole None (Some made) is = absurd is
-  own_made whole (Some Made.NewFolder) None is = absurd is
-  own_made whole (Some Made.NewFolder) (Some Made.NewFolder) is = is
-  own_made whole (Some Made.NewFolder) (Some Made.NewFile) is = absurd is
-  own_made whole (Some Made.NewFolder) (Some (Made.Copied number source)) is = absurd is
+  own_made whole (Some Made.NewDirectory) None is = absurd is
+  own_made whole (Some Made.NewDirectory) (Some Made.NewDirectory) is = is
+  own_made whole (Some Made.NewDirectory) (Some Made.NewFile) is = absurd is
+  own_made whole (Some Made.NewDirectory) (Some (Made.Copied number source)) is = absurd is
   own_made whole (Some Made.NewFile) None is = absurd is
-  own_made whole (Some Made.NewFile) (Some Made.NewFolder) is = absurd is
+  own_made whole (Some Made.NewFile) (Some Made.NewDirectory) is = absurd is
   own_made whole (Some Made.NewFile) (Some Made.NewFile) is = is
   own_made whole (Some Made.NewFile) (Some (Made.Copied number source)) is = absurd is
   own_made whole (Some (Made.Copied number source)) None is = absurd is
-  own_made whole (Some (Made.Copied number source)) (Some Made.NewFolder) is = absurd is
+  own_made whole (Some (Made.Copied number source)) (Some Made.NewDirectory) is = absurd is
   own_made whole (Some (Made.Copied number source)) (Some Made.NewFile) is = is
   own_made whole (Some (Made.Copied number source)) (Some (Made.Copied written same)) is =
       (is.0, MatchBool-at_false _ _ stays is.1, is.2)
@@ -166,12 +166,12 @@ each_change_stays history before c =
   where
     quiet : (made : Option Made) → is_quiet_kept keep_all c.path c.props made ≡ true
     quiet None = refl
-    quiet (Some Made.NewFolder) = refl
+    quiet (Some Made.NewDirectory) = refl
     quiet (Some Made.NewFile) = refl
     quiet (Some (Made.Copied number source)) = refl
 
     over : (made : Option Made) → (is_lost keep_all made && not c.deletes && is_some (before c.path)) ≡ false
     over None = refl
-    over (Some Made.NewFolder) = refl
+    over (Some Made.NewDirectory) = refl
     over (Some Made.NewFile) = refl
     over (Some (Made.Copied number source)) = refl

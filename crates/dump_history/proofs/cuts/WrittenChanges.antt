@@ -55,12 +55,12 @@ module _ (settings : Settings) (revisions : List (List Change)) (IsNew : NewProp
       → (m : ℕ) × IsNumber m number × SomeKeptDoes settings revisions (CopiesPart path m source)
   copy_written whole old None number source old_path path at made is copies =
       absurd (let bad : None ≡ Some (Made.Copied number source) = is in cc)
-  copy_written whole old (Some Made.NewFolder) number source old_path path at made is copies =
-      absurd (let bad : Some Made.NewFolder ≡ Some (Made.Copied number source) = is in cc)
+  copy_written whole old (Some Made.NewDirectory) number source old_path path at made is copies =
+      absurd (let bad : Some Made.NewDirectory ≡ Some (Made.Copied number source) = is in cc)
   copy_written whole old (Some Made.NewFile) number source old_path path at made is copies =
       absurd (let bad : Some Made.NewFile ≡ Some (Made.Copied number source) = is in cc)
   copy_written whole None (Some (Made.Copied n s)) number source old_path path at made is copies = absurd made
-  copy_written whole (Some Made.NewFolder) (Some (Made.Copied n s)) number source old_path path at made is copies =
+  copy_written whole (Some Made.NewDirectory) (Some (Made.Copied n s)) number source old_path path at made is copies =
       absurd made
   copy_written whole (Some Made.NewFile) (Some (Made.Copied n s)) number source old_path path at made is copies =
       absurd made

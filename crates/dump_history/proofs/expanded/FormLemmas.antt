@@ -40,7 +40,7 @@ written_node place version (WrittenNode.Deletion path) =
     record { node = refl; no_revision = refl; no_version = refl }
 written_node place version (WrittenNode.Copy kind number source path) =
     record { node = refl; no_revision = refl; no_version = refl }
-written_node place version (WrittenNode.Folder replaces path entries) =
+written_node place version (WrittenNode.Directory replaces path entries) =
     record { node = refl; no_revision = refl; no_version = refl }
 written_node place version (WrittenNode.File replaces path entries text None None) =
     record { node = refl; no_revision = refl; no_version = refl }
@@ -367,7 +367,7 @@ module _ (patched : Patching) (r : DumpRecord) (adds : has_action (codes "add") 
   replaced_made = (λ i. if new_makes i then if has_it copy_path_name i then
       Some (Made.Copied (unwrap_or (option_and_then number_of (new_value copy_revision_name refl i)) 0)
       (path_of (unwrap_or (new_value copy_path_name refl i) [])))
-      else if tells (new_value node_kind_name refl i) (codes "dir") then Some Made.NewFolder
+      else if tells (new_value node_kind_name refl i) (codes "dir") then Some Made.NewDirectory
       else if tells (new_value node_kind_name refl i) (codes "file") then Some Made.NewFile
       else None else None)
       ∙ ap (λ b. if b then if is_copy r then Some (copied_from r) else made_by_kind r else None) (sym old_makes)

@@ -69,10 +69,10 @@ copy_parts kind number source path is =
       read number (second_true (is_plain_path path && is_plain_path source) (is_readable number) is),
     )
 
-folder_parts : (replaces : Bool) (path : List ℕ) (entries : List Property)
-    → can_be_written (WrittenNode.Folder replaces path entries) ≡ true
+directory_parts : (replaces : Bool) (path : List ℕ) (entries : List Property)
+    → can_be_written (WrittenNode.Directory replaces path entries) ≡ true
     → IsPlainPath path × AreSettings entries × IsRead (length (property_block_text entries))
-folder_parts replaces path entries is =
+directory_parts replaces path entries is =
     let size = is_readable (length (property_block_text entries)) in
     let two = first_true (is_plain_path path && are_plain_entries entries) size is in (
       plain_path path (first_true (is_plain_path path) (are_plain_entries entries) two),
@@ -161,9 +161,9 @@ module _ (number place version : ℕ) (after : List ℕ) (above : 0 < number) wh
   making_plain true = refl
   making_plain false = refl
 
-  folder_record : (replaces : Bool) (path : List ℕ) (entries : List Property) → IsPlainPath path
-      → IsRead (length (property_block_text entries)) → IsRecord (WrittenNode.Folder replaces path entries)
-  folder_record replaces path entries p r = record {
+  directory_record : (replaces : Bool) (path : List ℕ) (entries : List Property) → IsPlainPath path
+      → IsRead (length (property_block_text entries)) → IsRecord (WrittenNode.Directory replaces path entries)
+  directory_record replaces path entries p r = record {
     block = rw (p.value.no_lf, making_plain replaces, r.value.no_lf) refl;
     lawful = rw (
       later number above,
@@ -276,9 +276,9 @@ written_nodes_are_records (WrittenNode.Deletion path) number place version after
 written_nodes_are_records (WrittenNode.Copy kind n source path) number place version after can above =
     let (p, s, r) = copy_parts kind n source path can in
     copy_record number place version after above kind n source path p s r
-written_nodes_are_records (WrittenNode.Folder replaces path entries) number place version after can above =
-    let (p, s, r) = folder_parts replaces path entries can in
-    folder_record number place version after above replaces path entries p r
+written_nodes_are_records (WrittenNode.Directory replaces path entries) number place version after can above =
+    let (p, s, r) = directory_parts replaces path entries can in
+    directory_record number place version after above replaces path entries p r
 written_nodes_are_records (WrittenNode.File replaces path entries text md5 sha1) number place version after can above =
     file_record number place version after above replaces path entries text md5 sha1
     (file_parts replaces path entries text md5 sha1 can)
@@ -326,17 +326,17 @@ module _ (patched : Patching) (place version : ℕ) where
   making_no_zero true = refl
   making_no_zero false = refl
 
-  folder_makes : (replaces : Bool) (path : List ℕ) (entries : List Property) → IsPlainPath path → AreSettings entries
-      → IsRead (length (property_block_text entries)) → Makes (WrittenNode.Folder replaces path entries)
-  folder_makes true path entries p s r = (
+  directory_makes : (replaces : Bool) (path : List ℕ) (entries : List Property) → IsPlainPath path → AreSettings entries
+      → IsRead (length (property_block_text entries)) → Makes (WrittenNode.Directory replaces path entries)
+  directory_makes true path entries p s r = (
     entries,
-    block_set (node_record place version (WrittenNode.Folder true path entries)) entries refl r.small s.set,
+    block_set (node_record place version (WrittenNode.Directory true path entries)) entries refl r.small s.set,
     rw (p.value.no_zero, r.value.no_zero, s.names, p.short) refl,
     rw (and-false (not (version == 3)), and-false (version == 3)) refl,
   )
-  folder_makes false path entries p s r = (
+  directory_makes false path entries p s r = (
     entries,
-    block_set (node_record place version (WrittenNode.Folder false path entries)) entries refl r.small s.set,
+    block_set (node_record place version (WrittenNode.Directory false path entries)) entries refl r.small s.set,
     rw (p.value.no_zero, r.value.no_zero, s.names, p.short) refl,
     rw (and-false (not (version == 3)), and-false (version == 3)) refl,
   )
@@ -425,9 +425,9 @@ written_nodes_make_changes patched (WrittenNode.Deletion path) place version can
 written_nodes_make_changes patched (WrittenNode.Copy kind n source path) place version can =
     let (p, s, r) = copy_parts kind n source path can in
     copy_makes patched place version kind n source path p s r
-written_nodes_make_changes patched (WrittenNode.Folder replaces path entries) place version can =
-    let (p, s, r) = folder_parts replaces path entries can in
-    folder_makes patched place version replaces path entries p s r
+written_nodes_make_changes patched (WrittenNode.Directory replaces path entries) place version can =
+    let (p, s, r) = directory_parts replaces path entries can in
+    directory_makes patched place version replaces path entries p s r
 written_nodes_make_changes patched (WrittenNode.File replaces path entries text md5 sha1) place version can =
     file_makes patched place version replaces path entries text md5 sha1
     (file_parts replaces path entries text md5 sha1 can)

@@ -5,7 +5,7 @@ use Rattle.dump_trees.specs.Changes.{History, copied, deleted, made_in, props_se
 use Rattle.dump_trees.specs.Separation.{Separates}
 use Rattle.dump_trees.specs.Revisions.{AllSeparate}
 use Rattle.dump_trees.specs.Branches.{Branch}
-use Rattle.dump_trees.specs.WritingOut.{copy_of, folder_of, file_of, WritesOut}
+use Rattle.dump_trees.specs.WritingOut.{copy_of, directory_of, file_of, WritesOut}
 use Rattle.dump_trees.specs.Expansions.{Expands}
 use Rattle.dump_trees.specs.ExpansionCases.{deletion_of}
 use Rattle.dump_trees.proofs.expansions.CaseLemmas.{kept_copy}
@@ -87,13 +87,13 @@ module _ (settings : Settings) (history : History) (c : Change) (adds : c.delete
 begins_there : (settings : Settings) (history : History) (path : NodePath) (branch : Branch) (first : Change)
     (changes : List Change) → WritesOut settings history path branch (first ∷ changes)
     → (first.path ≡ path) × (first.deletes ≡ false)
-begins_there settings history path (Branch.Folder props inside) first changes (inl copied) =
+begins_there settings history path (Branch.Directory props inside) first changes (inl copied) =
     let same : first ≡ copy_of copied.number copied.source path =
     (let both : first ∷ changes ≡ copy_of copied.number copied.source path ∷ [] = copied.one in cc) in
     (ap (λ (d : Change). d.path) same, ap (λ (d : Change). d.deletes) same)
-begins_there settings history path (Branch.Folder props inside) first changes (inr (entries, rest, is, made, more)) =
-    let same : first ≡ folder_of path entries =
-    (let both : first ∷ changes ≡ folder_of path entries ∷ rest = is in cc) in
+begins_there settings history path (Branch.Directory props inside) first changes (inr (entries, rest, is, made, more)) =
+    let same : first ≡ directory_of path entries =
+    (let both : first ∷ changes ≡ directory_of path entries ∷ rest = is in cc) in
     (ap (λ (d : Change). d.path) same, ap (λ (d : Change). d.deletes) same)
 begins_there settings history path (Branch.File props text) first changes (inl copied) =
     let same : first ≡ copy_of copied.number copied.source path =
@@ -105,11 +105,11 @@ begins_there settings history path (Branch.File props text) first changes (inr (
     (ap (λ (d : Change). d.path) same, ap (λ (d : Change). d.deletes) same)
 
 pub kept_copy_replaces : KeptCopyReplaces
-kept_copy_replaces settings history before old c number source branch made first changes folders stands kept is there
+kept_copy_replaces settings history before old c number source branch made first changes directories stands kept is there
     has apart makes out =
     let (at, adds) = begins_there settings history c.path made first changes out in
     replacing_expands settings history first adds before c changes
     (subst (λ p. Expands settings history before c (deletion_of p ∷ first ∷ changes)) (sym at)
     (subst (λ b. Expands settings history before c (cond b (deletion_of c.path ∷ []) [] ++ first ∷ changes)) stands
-    (kept_copy settings history before old c number source branch made (first ∷ changes) folders kept is there has apart
+    (kept_copy settings history before old c number source branch made (first ∷ changes) directories kept is there has apart
     makes out)))

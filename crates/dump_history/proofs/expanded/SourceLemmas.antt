@@ -29,10 +29,10 @@ module _ (settings : Settings) where
       no_copy_free (node_record place version (WrittenNode.Deletion path)) refl
   written_free place version (WrittenNode.Copy kind number source path) =
       making_free (node_record place version (WrittenNode.Copy kind number source path)) refl
-  written_free place version (WrittenNode.Folder true path entries) =
-      making_free (node_record place version (WrittenNode.Folder true path entries)) refl
-  written_free place version (WrittenNode.Folder false path entries) =
-      making_free (node_record place version (WrittenNode.Folder false path entries)) refl
+  written_free place version (WrittenNode.Directory true path entries) =
+      making_free (node_record place version (WrittenNode.Directory true path entries)) refl
+  written_free place version (WrittenNode.Directory false path entries) =
+      making_free (node_record place version (WrittenNode.Directory false path entries)) refl
   written_free place version (WrittenNode.File true path entries text md5 sha1) =
       making_free (node_record place version (WrittenNode.File true path entries text md5 sha1)) refl
   written_free place version (WrittenNode.File false path entries text md5 sha1) =

@@ -8,19 +8,19 @@ module _ (settings : Settings) (IsNew : NewProperty) (before : ℕ) (Written Loa
   made_lowered : (whole : Bool) (old new : Option Made) → IsNewMade settings Written whole (made_behind before old) new
       → (low : Option Made) × (new ≡ made_behind before low) × IsNewMade settings Loaded whole old low
   made_lowered whole None None is = (None, refl, tt)
-  made_lowered whole None (Some Made.NewFolder) is = absurd is
+  made_lowered whole None (Some Made.NewDirectory) is = absurd is
   made_lowered whole None (Some Made.NewFile) is = absurd is
   made_lowered whole None (Some (Made.Copied new source)) is = absurd is
-  made_lowered whole (Some Made.NewFolder) None is = absurd is
-  made_lowered whole (Some Made.NewFolder) (Some Made.NewFolder) is = (Some Made.NewFolder, refl, tt)
-  made_lowered whole (Some Made.NewFolder) (Some Made.NewFile) is = absurd is
-  made_lowered whole (Some Made.NewFolder) (Some (Made.Copied new source)) is = absurd is
+  made_lowered whole (Some Made.NewDirectory) None is = absurd is
+  made_lowered whole (Some Made.NewDirectory) (Some Made.NewDirectory) is = (Some Made.NewDirectory, refl, tt)
+  made_lowered whole (Some Made.NewDirectory) (Some Made.NewFile) is = absurd is
+  made_lowered whole (Some Made.NewDirectory) (Some (Made.Copied new source)) is = absurd is
   made_lowered whole (Some Made.NewFile) None is = absurd is
-  made_lowered whole (Some Made.NewFile) (Some Made.NewFolder) is = absurd is
+  made_lowered whole (Some Made.NewFile) (Some Made.NewDirectory) is = absurd is
   made_lowered whole (Some Made.NewFile) (Some Made.NewFile) is = (Some Made.NewFile, refl, tt)
   made_lowered whole (Some Made.NewFile) (Some (Made.Copied new source)) is = absurd is
   made_lowered whole (Some (Made.Copied n source)) None is = absurd is
-  made_lowered whole (Some (Made.Copied n source)) (Some Made.NewFolder) is = absurd is
+  made_lowered whole (Some (Made.Copied n source)) (Some Made.NewDirectory) is = absurd is
   made_lowered whole (Some (Made.Copied n source)) (Some Made.NewFile) is = (Some Made.NewFile, refl, is)
   made_lowered whole (Some (Made.Copied n source)) (Some (Made.Copied new same)) is =
       let (low, new_is, loaded) = numbers n new is.1 in

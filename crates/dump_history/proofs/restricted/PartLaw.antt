@@ -1,5 +1,5 @@
 -- The law of partial dumps.
-use Rattle.dump_history.proofs.Prelude.{◌≡◌, suc, ◌+◌, Bool, true, not, ◌&&◌, ◌||◌, ◌==◌, ◌⊎◌, None, IsSome, is_some, length, map, bytes_eq, MatchBool, refl, sym, ap, ◌∙◌, subst, inl, inr, arith, list_all, MatchBool-at_false, or_left, or_right, or_parts, length-map, Ending, HasRecords, IsCutInto, DumpRecord, Settings, KeptRevisions, image, is_mergeinfo, mergeinfo_name, LengthsFit, Group, groups, group_number, keeps_group, first_number, kept_revisions, IsNewProperty, IsWrittenCopyNumber, IsCleanText, AllLawful, all_lawful, reads_again, Tree, root_alone, is_copied, Change, given, NewProperty, KeepsEntries, ImagesRestrict, revisions_behind, loaded_over, names_none_behind, stays_numbered, AreNewRevisions, kept_from, kept_of, IsWrittenNumber, given_folders, loads_alike, given_alike, both_restrict, history, AreAbove, kept_above, fewer_names_none, all_quiet, Patching, IsRaised, sets_mergeinfo, names_revision, count_to_gap, KeepsNamedNumbers, keeps_numbering, HasNoGapIfKept, RevisionsKeepProperties, MakePartRevisions, MakePartRevisionsWithGaps, IsLoadedProperty, IsLoadedBehindOne, kept_as_loaded, PartLoadsBehind, FilteredPartRestricts, QuietPartRestricts, absurd_bool, first_true, second_true}
+use Rattle.dump_history.proofs.Prelude.{◌≡◌, suc, ◌+◌, Bool, true, not, ◌&&◌, ◌||◌, ◌==◌, ◌⊎◌, None, IsSome, is_some, length, map, bytes_eq, MatchBool, refl, sym, ap, ◌∙◌, subst, inl, inr, arith, list_all, MatchBool-at_false, or_left, or_right, or_parts, length-map, Ending, HasRecords, IsCutInto, DumpRecord, Settings, KeptRevisions, image, is_mergeinfo, mergeinfo_name, LengthsFit, Group, groups, group_number, keeps_group, first_number, kept_revisions, IsNewProperty, IsWrittenCopyNumber, IsCleanText, AllLawful, all_lawful, reads_again, Tree, root_alone, is_copied, Change, given, NewProperty, KeepsEntries, ImagesRestrict, revisions_behind, loaded_over, names_none_behind, stays_numbered, AreNewRevisions, kept_from, kept_of, IsWrittenNumber, given_directories, loads_alike, given_alike, both_restrict, history, AreAbove, kept_above, fewer_names_none, all_quiet, Patching, IsRaised, sets_mergeinfo, names_revision, count_to_gap, KeepsNamedNumbers, keeps_numbering, HasNoGapIfKept, RevisionsKeepProperties, MakePartRevisions, MakePartRevisionsWithGaps, IsLoadedProperty, IsLoadedBehindOne, kept_as_loaded, PartLoadsBehind, FilteredPartRestricts, QuietPartRestricts, absurd_bool, first_true, second_true}
 use Rattle.std.proofs.Common.{ℕ, false, List, [], ◌∷◌, Some, filter}
 use Rattle.dump_history.proofs.again.NodeChanges.{entries_kept}
 use Rattle.dump_history.proofs.again.GroupsAgain.{keeps_first, AreGroupsAgain, groups_again}
@@ -200,7 +200,7 @@ part_behind : (IsLoaded : NewProperty) → KeepsEntries IsLoaded → (older : Li
     → PartLoadsBehind IsLoaded older before settings records trees written
 part_behind IsLoaded entries older before settings records trees others written loads size images moved behind =
     let (later, loaded_are, same_size, alike) = loads_alike IsLoaded entries older (given settings) written moved others
-    (given_folders settings) (given_alike settings IsLoaded) behind loads in (
+    (given_directories settings) (given_alike settings IsLoaded) behind loads in (
       later,
       loaded_are,
       same_size ∙ size,

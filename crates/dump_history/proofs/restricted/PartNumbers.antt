@@ -167,7 +167,7 @@ kept_from_raised settings before n (changes ∷ revisions) =
 -- what is raised is copied exactly if it was copied before
 pub raised_copied : (before : ℕ) (made : Option Made) → is_copied (made_behind before made) ≡ is_copied made
 raised_copied before None = refl
-raised_copied before (Some Made.NewFolder) = refl
+raised_copied before (Some Made.NewDirectory) = refl
 raised_copied before (Some Made.NewFile) = refl
 raised_copied before (Some (Made.Copied number source)) = refl
 

@@ -375,13 +375,13 @@ module _ (patched : Patching) (settings : Settings) (r : DumpRecord) (ps : List 
 
   -- a new node gives no alarm
   kind_quiet : (d f : Bool) → is_quiet_kept settings (path_of (node_path r)) (property_change_of r ps)
-      (if d then Some Made.NewFolder else if f then Some Made.NewFile else None) ≡ true
+      (if d then Some Made.NewDirectory else if f then Some Made.NewFile else None) ≡ true
   kind_quiet true f = refl
   kind_quiet false true = refl
   kind_quiet false false = refl
 
   kind_not_copied : (d f : Bool)
-      → is_copied (if d then Some Made.NewFolder else if f then Some Made.NewFile else None) ≡ false
+      → is_copied (if d then Some Made.NewDirectory else if f then Some Made.NewFile else None) ≡ false
   kind_not_copied true f = refl
   kind_not_copied false true = refl
   kind_not_copied false false = refl

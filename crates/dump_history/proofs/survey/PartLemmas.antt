@@ -17,9 +17,9 @@ module _ (before : ℕ) (r : DumpRecord) (none : copies_from_before (suc before)
   high true false b makes copies low fine n source is =
       by_kind (says node_kind_name (codes "dir") r) (says node_kind_name (codes "file") r) is
     where
-      by_kind : (d f : Bool) → (if d then Some Made.NewFolder else if f then Some Made.NewFile else None)
+      by_kind : (d f : Bool) → (if d then Some Made.NewDirectory else if f then Some Made.NewFile else None)
           ≡ Some (Made.Copied n source) → before ≤ n
-      by_kind true f is = absurd (let bad : Some Made.NewFolder ≡ Some (Made.Copied n source) = is in cc)
+      by_kind true f is = absurd (let bad : Some Made.NewDirectory ≡ Some (Made.Copied n source) = is in cc)
       by_kind false true is = absurd (let bad : Some Made.NewFile ≡ Some (Made.Copied n source) = is in cc)
       by_kind false false is = absurd (let bad : None ≡ Some (Made.Copied n source) = is in cc)
   high false c b makes copies low fine n source is = absurd (let bad : None ≡ Some (Made.Copied n source) = is in cc)
@@ -31,7 +31,7 @@ module _ (before : ℕ) (r : DumpRecord) (none : copies_from_before (suc before)
 made_lowered : (before : ℕ) (made : Option Made) → IsFrom before made
     → (low : Option Made) × (made ≡ made_behind before low)
 made_lowered before None from = (None, refl)
-made_lowered before (Some Made.NewFolder) from = (Some Made.NewFolder, refl)
+made_lowered before (Some Made.NewDirectory) from = (Some Made.NewDirectory, refl)
 made_lowered before (Some Made.NewFile) from = (Some Made.NewFile, refl)
 made_lowered before (Some (Made.Copied n source)) from =
     let at_least = from n source refl in
@@ -77,7 +77,7 @@ module _ (settings : Settings) (before : ℕ) where
   same_kept : (path : NodePath) (props : Option PropertyChange) (made : Option Made)
       → is_quiet_kept settings path props (made_behind before made) ≡ is_quiet_kept settings path props made
   same_kept path props None = refl
-  same_kept path props (Some Made.NewFolder) = refl
+  same_kept path props (Some Made.NewDirectory) = refl
   same_kept path props (Some Made.NewFile) = refl
   same_kept path props (Some (Made.Copied n source)) = refl
 

@@ -4,7 +4,7 @@ use Rattle.std.proofs.Common.{ℕ, false, List, [], ◌∷◌, Some}
 use Rattle.dump_history.proofs.survey.FindingLemmas.{none_passes, obstacles_exact, alarms_exact}
 use Rattle.dump_history.proofs.survey.PartLemmas.{groups_lowered, lowered_quiet}
 use Rattle.dump_history.proofs.restricted.FilteredLaw.{quiet_dump_restricts, quiet_front_restricts}
-use Rattle.dump_history.proofs.restricted.FolderLaw.{quiet_dump_restricts_behind}
+use Rattle.dump_history.proofs.restricted.DirectoryLaw.{quiet_dump_restricts_behind}
 use Rattle.dump_history.proofs.restricted.PartLaw.{quiet_part_restricts}
 
 -- what is found in the nodes

@@ -4,7 +4,7 @@
 use Rattle.dump_history.proofs.Prelude.{◌≡◌, Bool, None, refl, path_of, Change, TextChange}
 use Rattle.std.proofs.Common.{ℕ, true, false, List, [], ◌∷◌, Some, codes}
 use Rattle.dump_trees.specs.ExpansionCases.{deletion_of}
-use Rattle.dump_trees.specs.WritingOut.{copy_of, file_of, folder_of}
+use Rattle.dump_trees.specs.WritingOut.{copy_of, file_of, directory_of}
 use Rattle.dump_history.specs.CopiesOver.{copies_over_changed, some_copies_over}
 use Rattle.dump_history.specs.WrittenNodes.{replacing}
 
@@ -19,8 +19,8 @@ change path = record {
   text = Some (TextChange.Replaced (codes "new"));
 }
 
-abbrev folder : List ℕ → Change
-folder path = folder_of (path_of path) []
+abbrev directory : List ℕ → Change
+directory path = directory_of (path_of path) []
 
 abbrev file : List ℕ → Change
 file path = file_of (path_of path) [] (codes "text")
@@ -41,7 +41,7 @@ over_changed : is_over (codes "a/c") (change (codes "a/c") ∷ copy (codes "x") 
 over_changed = refl
 
 over_added : is_over (codes "t/c")
-    (folder (codes "t") ∷ file (codes "t/c") ∷ copy (codes "x") (codes "t/c") ∷ []) ≡ true
+    (directory (codes "t") ∷ file (codes "t/c") ∷ copy (codes "x") (codes "t/c") ∷ []) ≡ true
 over_added = refl
 
 over_copied : is_over (codes "a/c") (copy (codes "x") (codes "a/c") ∷ copy (codes "b/c") (codes "a/c") ∷ []) ≡ true
@@ -52,9 +52,9 @@ over_made_again : is_over (codes "a/c")
 over_made_again = refl
 
 -- a deletion below what was copied doesn't undo the copy
-over_copied_folder : is_over (codes "t")
+over_copied_directory : is_over (codes "t")
     (copy (codes "b") (codes "t") ∷ delete (codes "t/c") ∷ copy (codes "b") (codes "t") ∷ []) ≡ true
-over_copied_folder = refl
+over_copied_directory = refl
 
 -- accepted
 
@@ -66,7 +66,7 @@ over_brought : is_over (codes "t/c") (copy (codes "a") (codes "t") ∷ copy (cod
 over_brought = refl
 
 over_deleted : is_over (codes "t/c")
-    (folder (codes "t") ∷ file (codes "t/c") ∷ delete (codes "t/c") ∷ copy (codes "x") (codes "t/c") ∷ []) ≡ false
+    (directory (codes "t") ∷ file (codes "t/c") ∷ delete (codes "t/c") ∷ copy (codes "x") (codes "t/c") ∷ []) ≡ false
 over_deleted = refl
 
 over_brought_deleted : is_over (codes "t/c")
@@ -75,7 +75,7 @@ over_brought_deleted = refl
 
 -- a copy that replaces deletes first
 replacing_added : is_over (codes "t/c")
-    (folder (codes "t") ∷ file (codes "t/c") ∷ replacing true (copy (codes "x") (codes "t/c")) ∷ []) ≡ false
+    (directory (codes "t") ∷ file (codes "t/c") ∷ replacing true (copy (codes "x") (codes "t/c")) ∷ []) ≡ false
 replacing_added = refl
 
 over_copied_above : is_over (codes "a/c")
@@ -88,7 +88,7 @@ over_made_above = refl
 
 -- nothing is below a node that is newly made, whatever was there before
 over_named_before : is_over (codes "t/c")
-    (record (change (codes "t/c")) { text = None } ∷ folder (codes "t") ∷ copy (codes "x") (codes "t/c") ∷ []) ≡ false
+    (record (change (codes "t/c")) { text = None } ∷ directory (codes "t") ∷ copy (codes "x") (codes "t/c") ∷ []) ≡ false
 over_named_before = refl
 
 -- revisions

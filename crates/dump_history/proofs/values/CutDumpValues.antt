@@ -3,11 +3,11 @@ use Rattle.dump_history.proofs.Prelude.{◌≡◌, ◌++◌, Bool, None, refl, s
 use Rattle.std.proofs.Common.{ℕ, true, false, List, [], ◌∷◌, Some, is_some, is_none, codes}
 use Rattle.std.specs.Fmt.{digits}
 use Rattle.dump_records.specs.DumpText.{line_feeds}
-use Rattle.dump_trees.specs.WritingOut.{copy_of, folder_of}
+use Rattle.dump_trees.specs.WritingOut.{copy_of, directory_of}
 use Rattle.dump_trees.specs.Changes.{PropertyChange, steps}
 use Rattle.dump_trees.specs.Branches.{Branch}
 use Rattle.dump_trees.specs.Expansions.{Expands, AllExpand}
-use Rattle.dump_trees.proofs.histories.StandingNames.{loaded_folders}
+use Rattle.dump_trees.proofs.histories.StandingNames.{loaded_directories}
 use Rattle.dump_trees.proofs.expansions.ExpandLemmas.{expanded_lead}
 use Rattle.dump_history.specs.WrittenNodes.{NodeKind, WrittenNode, node_bytes, node_record, replacing, written_change}
 use Rattle.dump_history.specs.ExpandedDumps.{OwnForm, stead_records, expanded_records}
@@ -83,7 +83,7 @@ second_counts all =
 -- what is written
 
 -- a directory's entries replace the old ones
-whole_properties : (folder_of (path_of (codes "a")) []).props ≡ Some (PropertyChange.Replaced [])
+whole_properties : (directory_of (path_of (codes "a")) []).props ≡ Some (PropertyChange.Replaced [])
 whole_properties = refl
 
 -- written nodes
@@ -99,14 +99,14 @@ copied_file_bytes = refl
 copied_file_change : written_change copied_file ≡ copy_of 2 (path_of (codes "c")) (path_of (codes "a/b"))
 copied_file_change = refl
 
-replacing_folder_bytes : node_bytes (WrittenNode.Folder true (codes "a") [])
+replacing_directory_bytes : node_bytes (WrittenNode.Directory true (codes "a") [])
     ≡ codes "Node-path: a\nNode-kind: dir\nNode-action: replace\nProp-content-length: 10\nContent-length: 10\n\n"
     ++ codes "PROPS-END\n"
 unfolding digits
-replacing_folder_bytes = refl
+replacing_directory_bytes = refl
 
-replacing_folder_deletes : (written_change (WrittenNode.Folder true (codes "a") [])).deletes ≡ true
-replacing_folder_deletes = refl
+replacing_directory_deletes : (written_change (WrittenNode.Directory true (codes "a") [])).deletes ≡ true
+replacing_directory_deletes = refl
 
 both_digests : node_bytes (WrittenNode.File false (codes "a") [] [] (Some (codes "d4")) (Some (codes "da")))
     ≡ codes "Node-path: a\nNode-kind: file\nNode-action: add\nProp-content-length: 10\nText-content-length: 0\n"
@@ -121,7 +121,7 @@ replaces_file : Expands settings (slice_get (root_alone ∷ first_tree ∷ [])) 
     (written_change (WrittenNode.File true (codes "trunk/app") [] (codes "text") None None) ∷ [])
 replaces_file = kept_copy_replaces settings (slice_get (root_alone ∷ first_tree ∷ [])) second_tree first_tree
     (replacing true copies_old) 1 (path_of (codes "trunk/old")) (Branch.File [] (codes "text"))
-    (Branch.File [] (codes "text")) adds_app [] (loaded_folders revisions trees 2 second_tree refl refl) refl refl refl
+    (Branch.File [] (codes "text")) adds_app [] (loaded_directories revisions trees 2 second_tree refl refl) refl refl refl
     refl source_branch refl refl (inr ([], refl, refl))
 
 -- if nothing exists, a node that replaces is rejected

@@ -252,7 +252,7 @@ in_revision_3 : (parts : List DumpRecord) × (changes : List (List Change)) × (
     (tree (path_of (codes "trunk/app")))
     × IsNewNode (IsNewProperty settings (kept_revisions settings again)) (Some (Node.File [] (codes "text")))
     (tree (path_of (codes "branch/app")))
-    × IsNewNode (IsNewProperty settings (kept_revisions settings again)) (Some (Node.Folder []))
+    × IsNewNode (IsNewProperty settings (kept_revisions settings again)) (Some (Node.Directory []))
     (tree (path_of (codes "branch")))
     × (tree (path_of (codes "trunk/old")) ≡ None)
     × (tree (path_of (codes "branch/old")) ≡ None)

@@ -3,7 +3,7 @@
 use Rattle.dump_history.proofs.Prelude.{◌≡◌, true, ◌++◌, length, Option, None, refl, ap, ◌∙◌, inl, inr, slice_get, Header, Property, first_true, second_true, DumpRecord, Pad, DropAll, Settings, HasPropertyList, HasPropertyBlock, Group, padding_log, path_of, is_short, Node, Tree, root_alone, put, PropertyChange, TextChange, Change, given, loaded_over, Patching, copy_path, change_of, MakesChange, counts_from, has_ordered_nodes, MakeRevisions, HaveRevisionProperties, LoadsAs, keeps_numbering, TreesRestrict, KeepsProperties, RevisionsKeepProperties, LoadsRestricted, FrontLoadsRestricted, sets_no_mergeinfo, AreFindingsOf, no_node_faults}
 use Rattle.std.proofs.Common.{ℕ, false, List, [], ◌∷◌, Some, codes}
 use Rattle.dump_history.proofs.survey.FindingLemmas.{faults_of_unread}
-use Rattle.dump_history.proofs.values.WorkedDump.{line, record_at, version, zero, one, two, three, trunk, other, copy, records, settings, folder, revisions, none_of, third_tree}
+use Rattle.dump_history.proofs.values.WorkedDump.{line, record_at, version, zero, one, two, three, trunk, other, copy, records, settings, directory, revisions, none_of, third_tree}
 use Rattle.dump_history.specs.declared.findings.Finding.TheVariants as findings
 
 -- a property
@@ -82,7 +82,7 @@ bare = record { numbered = refl; ordered = refl; changes = (tt, (tt, tt)) }
 
 -- the first tree is that of the repository into which the dump is loaded
 abbrev begun : Tree
-begun = put (path_of (codes "a")) (Node.Folder []) root_alone
+begun = put (path_of (codes "a")) (Node.Directory []) root_alone
 
 over_begun : LoadsAs refused begun (version ∷ zero ∷ one ∷ []) ([] ∷ []) (begun ∷ begun ∷ [])
 over_begun = record { makes = bare; loads = refl }
@@ -144,7 +144,7 @@ third more = record {
 
 -- the change of the path trunk that makes this of properties and text
 abbrev made_of_both : PropertyChange → TextChange → Option Change
-made_of_both props text = Some (record (folder (codes "trunk") None) { props = Some props; text = Some text })
+made_of_both props text = Some (record (directory (codes "trunk") None) { props = Some props; text = Some text })
 
 no_deltas : change_of put_before (third []) (date ∷ [])
     ≡ made_of_both (PropertyChange.Replaced (date ∷ [])) (TextChange.Replaced (codes "hi"))
@@ -281,7 +281,7 @@ front_given trees text (again, first, more, others, has, makes, no_gap, loads, s
 -- a change sets mergeinfo, with other properties or by an edit; removing mergeinfo doesn't set it
 
 abbrev sets : Option PropertyChange → Change
-sets props = record (folder (codes "trunk") None) { props = props }
+sets props = record (directory (codes "trunk") None) { props = props }
 
 abbrev merge : Option (List ℕ) → Property
 merge value = record { name = codes "svn:mergeinfo"; value = value }

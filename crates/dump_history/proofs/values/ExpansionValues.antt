@@ -4,7 +4,7 @@ use Rattle.std.proofs.Common.{true, false, List, [], ◌∷◌, Some, codes}
 use Rattle.std.specs.Fmt.{digits}
 use Rattle.dump_trees.specs.Expansions.{Expands}
 use Rattle.dump_trees.specs.ExpansionCases.{deletion_of}
-use Rattle.dump_trees.specs.WritingOut.{folder_of}
+use Rattle.dump_trees.specs.WritingOut.{directory_of}
 use Rattle.dump_history.specs.WrittenNodes.{WrittenNode, replacing}
 use Rattle.dump_history.specs.ExpandedDumps.{OwnForm, Stead, without_source, as_replacement, may_stand, IsSameRecord, has_idle_source, takes_idle_source}
 use Rattle.dump_history.specs.ExpandedText.{AreRecordTexts, changes_for, node_steads, stead_groups, made_in_stead}
@@ -124,7 +124,7 @@ first_nodes : node_steads (other ∷ copy ∷ one ∷ copy ∷ []) (stays ∷ st
 first_nodes = refl
 
 its_changes : made_in_stead records steads revisions
-    ≡ (adds_other ∷ []) ∷ (folder_of (path_of (codes "trunk")) [] ∷ []) ∷ []
+    ≡ (adds_other ∷ []) ∷ (directory_of (path_of (codes "trunk")) [] ∷ []) ∷ []
 its_changes = refl
 
 -- nothing in place of the copy is no expansion of it, since what it makes would be missing

@@ -98,9 +98,9 @@ leading_slash = refl
 
 -- a copy of a path that isn't kept
 
-folder_from_left_out : in_node include_a (node (codes "p/a/g") (codes "add") (block ∷ from (codes "q/g")))
+directory_from_left_out : in_node include_a (node (codes "p/a/g") (codes "add") (block ∷ from (codes "q/g")))
     ≡ findings.NoWholeFile ∷ []
-folder_from_left_out = refl
+directory_from_left_out = refl
 
 left_out_from_left_out : in_node include_a (node (codes "q/h") (codes "add") (from (codes "q/g"))) ≡ []
 left_out_from_left_out = refl
@@ -171,15 +171,15 @@ stays_and_missing : in_node include_a (node (codes "p") (codes "replace") (from 
     ≡ findings.IncludedStays ∷ findings.IncludedMissing ∷ []
 stays_and_missing = refl
 
-folder_stays : in_node include_a (node (codes "p") (codes "change") []) ≡ []
-folder_stays = refl
+directory_stays : in_node include_a (node (codes "p") (codes "change") []) ≡ []
+directory_stays = refl
 
-folder_beside : in_node include_a (node (codes "pp") (codes "delete") []) ≡ []
-folder_beside = refl
+directory_beside : in_node include_a (node (codes "pp") (codes "delete") []) ≡ []
+directory_beside = refl
 
 -- if an excluded directory is deleted, nothing kept is deleted with it
-folder_excluded : in_node exclude_a (node (codes "p/a") (codes "delete") []) ≡ []
-folder_excluded = refl
+directory_excluded : in_node exclude_a (node (codes "p/a") (codes "delete") []) ≡ []
+directory_excluded = refl
 
 -- of a dump
 

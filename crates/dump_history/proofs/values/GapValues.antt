@@ -2,7 +2,7 @@
 use Rattle.dump_history.proofs.Prelude.{◌≡◌, zero, suc, Bool, true, ◌||◌, None, refl, ap, inl, inr, arith, Property, DumpRecord, Settings, HasPropertyList, property_list_once, groups, first_number, path_of, root_alone, Made, PropertyChange, Change, Patching, names_revision, name_no_revision, go_up, count_to_gap, MakeRevisionsWithGaps, LoadsWithGapsAs, NamesRevision, NamesRevisionBehind, KeepsNamedNumbers, MakePartRevisionsWithGaps, AreDumpFindingsOf}
 use Rattle.std.proofs.Common.{ℕ, false, List, [], ◌∷◌, Some, codes}
 use Rattle.dump_history.proofs.survey.NamingTest.{names_test, test_tells, behind_told}
-use Rattle.dump_history.proofs.values.WorkedDump.{line, record_at, version, one, two, three, trunk, other, copy, records, settings, folder, none_of, makes_trunk}
+use Rattle.dump_history.proofs.values.WorkedDump.{line, record_at, version, one, two, three, trunk, other, copy, records, settings, directory, none_of, makes_trunk}
 use Rattle.dump_history.proofs.values.WorkedDump.{zero as revision_0}
 use Rattle.dump_history.proofs.values.UnreadValues.{told_read}
 use Rattle.dump_history.specs.declared.findings.DumpFinding.TheVariants as dump_wide
@@ -10,10 +10,10 @@ use Rattle.dump_history.specs.declared.findings.DumpFinding.TheVariants as dump_
 -- changes that name a revision
 
 abbrev plain : Change
-plain = folder (codes "trunk") (Some Made.NewFolder)
+plain = directory (codes "trunk") (Some Made.NewDirectory)
 
 abbrev copied : Change
-copied = folder (codes "trunk/b") (Some (Made.Copied 2 (path_of (codes "trunk"))))
+copied = directory (codes "trunk/b") (Some (Made.Copied 2 (path_of (codes "trunk"))))
 
 abbrev merge : Property
 merge = record { name = codes "svn:mergeinfo"; value = Some (codes "/b:1") }
@@ -21,8 +21,8 @@ merge = record { name = codes "svn:mergeinfo"; value = Some (codes "/b:1") }
 abbrev merging : Change
 merging = record plain { props = Some (PropertyChange.Edited (merge ∷ [])) }
 
-folder_names_none : names_revision plain ≡ false
-folder_names_none = refl
+directory_names_none : names_revision plain ≡ false
+directory_names_none = refl
 
 copy_names_one : names_revision copied ≡ true
 copy_names_one = refl
@@ -30,8 +30,8 @@ copy_names_one = refl
 mergeinfo_names_one : names_revision merging ≡ true
 mergeinfo_names_one = refl
 
-none_in_folders : name_no_revision ([] ∷ (plain ∷ plain ∷ []) ∷ []) ≡ true
-none_in_folders = refl
+none_in_directories : name_no_revision ([] ∷ (plain ∷ plain ∷ []) ∷ []) ≡ true
+none_in_directories = refl
 
 one_in_second : name_no_revision ((plain ∷ []) ∷ (plain ∷ merging ∷ []) ∷ []) ≡ false
 one_in_second = refl
@@ -152,9 +152,9 @@ copy_names = inl refl
 merge_names : NamesRevision merges
 merge_names = inr (merge ∷ [], reads_merge, refl)
 
-folder_names_no_revision : ¬ NamesRevision trunk
-folder_names_no_revision (inl copies) = let bad : false ≡ true = copies in cc
-folder_names_no_revision (inr (ps, list, set)) =
+directory_names_no_revision : ¬ NamesRevision trunk
+directory_names_no_revision (inl copies) = let bad : false ≡ true = copies in cc
+directory_names_no_revision (inr (ps, list, set)) =
     let same : ps ≡ [] = property_list_once trunk ps [] list (none_of trunk refl) in cc
 
 ignore_names_no_revision : ¬ NamesRevision ignores
@@ -177,8 +177,8 @@ left true is = refl
 left false is = is
 
 -- a node that names none
-folder_behind : ¬ NamesRevisionBehind left_numbers (behind trunk)
-folder_behind names = folder_names_no_revision ((test_tells trunk).0 (left (names_test trunk)
+directory_behind : ¬ NamesRevisionBehind left_numbers (behind trunk)
+directory_behind names = directory_names_no_revision ((test_tells trunk).0 (left (names_test trunk)
     (left (names_test trunk || false)
     ((behind_told left_numbers names_test test_tells (groups (behind trunk))).1 names))))
 
@@ -212,7 +212,7 @@ none_found : AreDumpFindingsOf left_numbers (behind trunk) []
 none_found = (
   record { named = false; unread = false },
   record {
-    named = (λ bad. let worse : false ≡ true = bad in cc, λ names. absurd (folder_behind names));
+    named = (λ bad. let worse : false ≡ true = bad in cc, λ names. absurd (directory_behind names));
     unread = told_read (behind trunk) refl;
   },
   refl,
@@ -227,7 +227,7 @@ renumbered = (
 
 -- and what the law asks
 kept_by_name : KeepsNamedNumbers left_numbers (behind trunk)
-kept_by_name = folder_behind
+kept_by_name = directory_behind
 
 kept_by_renumbering : KeepsNamedNumbers settings records
 kept_by_renumbering = tt

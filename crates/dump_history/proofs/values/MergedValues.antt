@@ -44,7 +44,7 @@ new_value = (
 
 -- the root has this mergeinfo, and nothing else exists
 abbrev merged : List ℕ → Tree
-merged value = put [] (Node.Folder (merge value ∷ [])) root_alone
+merged value = put [] (Node.Directory (merge value ∷ [])) root_alone
 
 at_kept : (path : NodePath) → IsTrue (keeps settings path)
     → IsNewNode (IsNewProperty settings (kept_revisions settings records)) (merged (codes "t:3") path)
@@ -54,7 +54,7 @@ at_kept (name ∷ path) kept = tt
 
 at_left : (path : NodePath) → IsFalse (keeps settings path) → merged (codes "t:2") path ≡ given settings path
 at_left [] none = absurd (let bad : true ≡ false = none in cc)
-at_left (name ∷ path) none = sym (ap (λ b. cond (not b && false) (Some (Node.Folder [])) None) none)
+at_left (name ∷ path) none = sym (ap (λ b. cond (not b && false) (Some (Node.Directory [])) None) none)
 
 restricts : TreeRestricts settings records (merged (codes "t:3")) (merged (codes "t:2"))
 restricts = record { kept = at_kept; left = at_left }

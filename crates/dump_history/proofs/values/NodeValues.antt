@@ -37,9 +37,9 @@ add_file : change_of refused (node (codes "a/b") (codes "add") (kind (codes "fil
     ≡ Some (record nothing { made = Some Made.NewFile })
 add_file = refl
 
-add_folder : change_of refused (node (codes "a/b") (codes "add") (kind (codes "dir") ∷ [])) []
-    ≡ Some (record nothing { made = Some Made.NewFolder })
-add_folder = refl
+add_directory : change_of refused (node (codes "a/b") (codes "add") (kind (codes "dir") ∷ [])) []
+    ≡ Some (record nothing { made = Some Made.NewDirectory })
+add_directory = refl
 
 -- without a kind, or of an unknown one, nothing is made
 add_no_kind : change_of refused (node (codes "a/b") (codes "add") []) [] ≡ Some nothing

@@ -3,7 +3,7 @@ use Rattle.dump_history.proofs.Prelude.{◌≡◌, ◌+◌, true, map, Option, N
 use Rattle.std.proofs.Common.{ℕ, false, List, [], ◌∷◌, Some, codes}
 use Rattle.dump_history.proofs.again.GroupChanges.{AllMake}
 use Rattle.dump_history.proofs.again.NodeChanges.{change_once}
-use Rattle.dump_history.proofs.values.WorkedDump.{line, record_at, trunk, other, settings, folder, none_of, makes_trunk, makes_other, revisions, trees}
+use Rattle.dump_history.proofs.values.WorkedDump.{line, record_at, trunk, other, settings, directory, none_of, makes_trunk, makes_other, revisions, trees}
 
 -- a revision of this number
 abbrev revision : List ℕ → DumpRecord
@@ -22,7 +22,7 @@ records = record_at 0 (line (codes "SVN-fs-dump-format-version") (codes "2") ∷
     ∷ revision (codes "7") ∷ trunk ∷ revision (codes "8") ∷ other ∷ revision (codes "9") ∷ copy ∷ []
 
 makes_copy : (patched : Patching) → MakesChange patched copy
-    (folder (codes "trunk/b") (Some (Made.Copied 8 (path_of (codes "trunk")))))
+    (directory (codes "trunk/b") (Some (Made.Copied 8 (path_of (codes "trunk")))))
 makes_copy patched = ([], none_of copy refl, refl, refl)
 
 -- its changes are those of the whole dump, whose copy names revision 2
@@ -54,8 +54,8 @@ copies_before patched (first ∷ changes) other = early first other.changes.0
   where
     by_made : (made : Option Made) → made_behind 9 made ≡ Some (Made.Copied 8 (path_of (codes "trunk"))) → ⊥
     by_made None is = let bad : None ≡ Some (Made.Copied 8 (path_of (codes "trunk"))) = is in cc
-    by_made (Some Made.NewFolder) is =
-        let bad : Some Made.NewFolder ≡ Some (Made.Copied 8 (path_of (codes "trunk"))) = is in cc
+    by_made (Some Made.NewDirectory) is =
+        let bad : Some Made.NewDirectory ≡ Some (Made.Copied 8 (path_of (codes "trunk"))) = is in cc
     by_made (Some Made.NewFile) is =
         let bad : Some Made.NewFile ≡ Some (Made.Copied 8 (path_of (codes "trunk"))) = is in cc
     by_made (Some (Made.Copied n source)) is =
@@ -65,7 +65,7 @@ copies_before patched (first ∷ changes) other = early first other.changes.0
     early : (changes : List Change) → ¬ (AllMake patched (copy ∷ []) (map (change_behind 9) changes))
     early [] make = make
     early (c ∷ changes) (make, more) =
-        let same = change_once patched copy (change_behind 9 c) (folder (codes "trunk/b")
+        let same = change_once patched copy (change_behind 9 c) (directory (codes "trunk/b")
         (Some (Made.Copied 8 (path_of (codes "trunk"))))) make (makes_copy patched) in
         by_made c.made (ap (λ (c : Change). c.made) same)
 

@@ -49,9 +49,9 @@ unread_and_odd = refl
 
 -- the filter stops under exclude too, and under each action: a copy source counts wherever it is
 
-excluded_folder : in_node exclude_a (node (codes "q/g") (codes "add") (from (codes "p/a/g")))
+excluded_directory : in_node exclude_a (node (codes "q/g") (codes "add") (from (codes "p/a/g")))
     ≡ findings.NoWholeFile ∷ findings.PropertiesLost ∷ []
-excluded_folder = refl
+excluded_directory = refl
 
 changed_from_left_out : in_node include_a (node (codes "p/a/g") (codes "change") (from (codes "q/g")))
     ≡ findings.NoWholeFile ∷ []
@@ -82,23 +82,23 @@ changed_with_source = refl
 
 -- if a kept directory is deleted or copied, what is below it is deleted or copied with it
 
-kept_folder_goes : in_node include_both (node (codes "p") (codes "delete") []) ≡ []
-kept_folder_goes = refl
+kept_directory_goes : in_node include_both (node (codes "p") (codes "delete") []) ≡ []
+kept_directory_goes = refl
 
-kept_folder_comes : in_node include_both (node (codes "p") (codes "add") (from (codes "p/x"))) ≡ []
-kept_folder_comes = refl
+kept_directory_comes : in_node include_both (node (codes "p") (codes "add") (from (codes "p/x"))) ≡ []
+kept_directory_comes = refl
 
 -- a new directory above an included prefix brings nothing, and neither does a change with a copy source
 
-folder_added : in_node include_a (node (codes "p") (codes "add") (line (codes "Node-kind") (codes "dir") ∷ [])) ≡ []
-folder_added = refl
+directory_added : in_node include_a (node (codes "p") (codes "add") (line (codes "Node-kind") (codes "dir") ∷ [])) ≡ []
+directory_added = refl
 
-folder_changed : in_node include_a (node (codes "p") (codes "change") (from (codes "q"))) ≡ []
-folder_changed = refl
+directory_changed : in_node include_a (node (codes "p") (codes "change") (from (codes "q"))) ≡ []
+directory_changed = refl
 
 -- a directory that is replaced by a new one takes what is below it
-folder_replaced : in_node include_a (node (codes "p") (codes "replace") []) ≡ findings.IncludedStays ∷ []
-folder_replaced = refl
+directory_replaced : in_node include_a (node (codes "p") (codes "replace") []) ≡ findings.IncludedStays ∷ []
+directory_replaced = refl
 
 -- a directory far above the prefix counts too
 root_of_prefix : in_node (cut_by Include (codes "p/a/b" ∷ [])) (node (codes "p") (codes "delete") [])

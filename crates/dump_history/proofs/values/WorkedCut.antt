@@ -9,7 +9,7 @@ use Rattle.dump_trees.specs.Changes.{History, step, steps}
 use Rattle.dump_trees.specs.Branches.{Branch, HasBranch}
 use Rattle.dump_trees.specs.WritingOut.{file_of}
 use Rattle.dump_trees.specs.Expansions.{Expands, AllExpand, AllRevisionsExpand}
-use Rattle.dump_trees.proofs.histories.StandingNames.{loaded_folders}
+use Rattle.dump_trees.proofs.histories.StandingNames.{loaded_directories}
 use Rattle.dump_trees.proofs.quiet.QuietLemmas.{quiet_separates}
 use Rattle.dump_trees.proofs.expansions.CaseLemmas.{separated_expands, kept_copy}
 use Rattle.dump_history.specs.WrittenNodes.{WrittenNode, node_bytes, node_record, can_be_written}
@@ -17,7 +17,7 @@ use Rattle.dump_history.specs.ExpandedDumps.{OwnForm, Stead}
 use Rattle.dump_history.specs.ExpandedText.{AreRecordTexts, IsExpandedText, made_in_stead}
 use Rattle.dump_history.proofs.expanded.NodeLemmas.{written_nodes_are_records}
 use Rattle.dump_history.proofs.values.WorkedExpansion.{stays}
-use Rattle.dump_history.proofs.values.WorkedDump.{line, record_at, version, zero as revision_0, one, trunk, joined, folder, none_of, makes_trunk}
+use Rattle.dump_history.proofs.values.WorkedDump.{line, record_at, version, zero as revision_0, one, trunk, joined, directory, none_of, makes_trunk}
 use Rattle.dump_text.specs.declared.fault.FaultKind.TheVariants as faults
 
 -- the dump; its first records are those of the other example dump: a version, revision 0, and the directory in revision 1
@@ -203,23 +203,23 @@ refused = refl
 -- its changes and its trees
 
 abbrev pub adds_trunk : Change
-adds_trunk = folder (codes "trunk") (Some Made.NewFolder)
+adds_trunk = directory (codes "trunk") (Some Made.NewDirectory)
 
 abbrev pub adds_old : Change
-adds_old = record (folder (codes "trunk/old") (Some Made.NewFile)) { text = Some (TextChange.Replaced (codes "text")) }
+adds_old = record (directory (codes "trunk/old") (Some Made.NewFile)) { text = Some (TextChange.Replaced (codes "text")) }
 
 abbrev pub copies_old : Change
-copies_old = folder (codes "trunk/app") (Some (Made.Copied 1 (path_of (codes "trunk/old"))))
+copies_old = directory (codes "trunk/app") (Some (Made.Copied 1 (path_of (codes "trunk/old"))))
 
 abbrev pub copies_trunk : Change
-copies_trunk = folder (codes "branch") (Some (Made.Copied 2 (path_of (codes "trunk"))))
+copies_trunk = directory (codes "branch") (Some (Made.Copied 2 (path_of (codes "trunk"))))
 
 abbrev pub revisions : List (List Change)
 revisions = (adds_trunk ∷ adds_old ∷ []) ∷ (copies_old ∷ []) ∷ (copies_trunk ∷ []) ∷ []
 
 -- the tree in the midst of revision 1
 abbrev pub begun_tree : Tree
-begun_tree = put (path_of (codes "trunk")) (Node.Folder []) root_alone
+begun_tree = put (path_of (codes "trunk")) (Node.Directory []) root_alone
 
 abbrev pub first_tree : Tree
 first_tree = put (path_of (codes "trunk/old")) (Node.File [] (codes "text"))
@@ -389,7 +389,7 @@ first_expands =
 second_expands : Expands settings (slice_get (root_alone ∷ first_tree ∷ [])) first_tree copies_old (adds_app ∷ [])
 second_expands = kept_copy settings (slice_get (root_alone ∷ first_tree ∷ [])) first_tree first_tree copies_old 1
     (path_of (codes "trunk/old")) (Branch.File [] (codes "text")) (Branch.File [] (codes "text")) (adds_app ∷ [])
-    (loaded_folders revisions trees 1 first_tree refl refl) refl refl refl source_branch refl refl
+    (loaded_directories revisions trees 1 first_tree refl refl) refl refl refl source_branch refl refl
     (inr ([], refl, refl))
 
 -- that of the copied directory: it stays

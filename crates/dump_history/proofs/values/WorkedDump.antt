@@ -86,28 +86,28 @@ settings = record {
 -- the changes, and the trees once they are loaded
 
 -- what is made at a path, without properties and text
-abbrev pub folder : List ℕ → Option Made → Change
-folder path made = record { path = path_of path; deletes = false; made = made; props = None; text = None }
+abbrev pub directory : List ℕ → Option Made → Change
+directory path made = record { path = path_of path; deletes = false; made = made; props = None; text = None }
 
 -- the changes of its revisions
 abbrev pub revisions : List (List Change)
-revisions = (folder (codes "trunk") (Some Made.NewFolder) ∷ [])
-    ∷ (folder (codes "other") (Some Made.NewFolder) ∷ [])
-    ∷ (folder (codes "trunk/b") (Some (Made.Copied 2 (path_of (codes "trunk")))) ∷ [])
+revisions = (directory (codes "trunk") (Some Made.NewDirectory) ∷ [])
+    ∷ (directory (codes "other") (Some Made.NewDirectory) ∷ [])
+    ∷ (directory (codes "trunk/b") (Some (Made.Copied 2 (path_of (codes "trunk")))) ∷ [])
     ∷ []
 
 -- a record without property bytes has no properties
 pub none_of : (r : DumpRecord) → r.props ≡ [] → HasPropertyList r []
 none_of r empty = (inl (empty, refl), λ deletes. cc)
 
-pub makes_trunk : (patched : Patching) → MakesChange patched trunk (folder (codes "trunk") (Some Made.NewFolder))
+pub makes_trunk : (patched : Patching) → MakesChange patched trunk (directory (codes "trunk") (Some Made.NewDirectory))
 makes_trunk patched = ([], none_of trunk refl, refl, refl)
 
-pub makes_other : (patched : Patching) → MakesChange patched other (folder (codes "other") (Some Made.NewFolder))
+pub makes_other : (patched : Patching) → MakesChange patched other (directory (codes "other") (Some Made.NewDirectory))
 makes_other patched = ([], none_of other refl, refl, refl)
 
 makes_copy : (patched : Patching) → MakesChange patched copy
-    (folder (codes "trunk/b") (Some (Made.Copied 2 (path_of (codes "trunk")))))
+    (directory (codes "trunk/b") (Some (Made.Copied 2 (path_of (codes "trunk")))))
 makes_copy patched = ([], none_of copy refl, refl, refl)
 
 makes : (patched : Patching) → MakeRevisions patched records revisions
@@ -119,11 +119,11 @@ makes patched = record {
 
 -- the tree of revision 1
 abbrev pub first_tree : Tree
-first_tree = put (path_of (codes "trunk")) (Node.Folder []) root_alone
+first_tree = put (path_of (codes "trunk")) (Node.Directory []) root_alone
 
 -- that of revision 2
 abbrev pub second_tree : Tree
-second_tree = put (path_of (codes "other")) (Node.Folder []) first_tree
+second_tree = put (path_of (codes "other")) (Node.Directory []) first_tree
 
 -- that of revision 3
 abbrev pub third_tree : Tree

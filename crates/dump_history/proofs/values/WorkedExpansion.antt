@@ -4,10 +4,10 @@ use Rattle.std.proofs.Common.{ℕ, false, List, [], ◌∷◌, Some, codes}
 use Rattle.std.specs.Fmt.{digits}
 use Rattle.dump_text.specs.declared.fault.FaultKind.TheVariants as faults
 use Rattle.dump_trees.specs.Branches.{Branch, Branches, HasBranch}
-use Rattle.dump_trees.specs.WritingOut.{folder_of}
+use Rattle.dump_trees.specs.WritingOut.{directory_of}
 use Rattle.dump_trees.specs.Expansions.{Expands, AllRevisionsExpand}
-use Rattle.dump_trees.proofs.histories.HistoryLemmas.{root_folders}
-use Rattle.dump_trees.proofs.changes.FolderLemmas.{step_keeps}
+use Rattle.dump_trees.proofs.histories.HistoryLemmas.{root_directories}
+use Rattle.dump_trees.proofs.changes.DirectoryLemmas.{step_keeps}
 use Rattle.dump_trees.proofs.expansions.CaseLemmas.{separated_expands, kept_copy}
 use Rattle.dump_trees.proofs.quiet.QuietLemmas.{quiet_separates}
 use Rattle.dump_history.specs.WrittenNodes.{WrittenNode, node_bytes, node_record, can_be_written}
@@ -15,8 +15,8 @@ use Rattle.dump_history.specs.ExpandedDumps.{OwnForm, Stead, IsExpandedDump}
 use Rattle.dump_history.specs.ExpandedText.{IsExpandedText, made_in_stead}
 use Rattle.dump_history.proofs.expanded.NodeLemmas.{written_nodes_are_records, written_nodes_make_changes}
 use Rattle.dump_history.proofs.expanded.TextLemmas.{moved_same}
-use Rattle.dump_trees.specs.Trees.{HasFolders}
-use Rattle.dump_history.proofs.values.WorkedDump.{line, record_at, version, zero, one, joined, settings, folder, none_of, stands_here}
+use Rattle.dump_trees.specs.Trees.{HasDirectories}
+use Rattle.dump_history.proofs.values.WorkedDump.{line, record_at, version, zero, one, joined, settings, directory, none_of, stands_here}
 
 -- the dump
 
@@ -109,16 +109,16 @@ whole = (
 -- its changes and its trees
 
 abbrev pub adds_other : Change
-adds_other = folder (codes "other") (Some Made.NewFolder)
+adds_other = directory (codes "other") (Some Made.NewDirectory)
 
 abbrev pub copies_other : Change
-copies_other = folder (codes "trunk") (Some (Made.Copied 1 (path_of (codes "other"))))
+copies_other = directory (codes "trunk") (Some (Made.Copied 1 (path_of (codes "other"))))
 
 abbrev pub revisions : List (List Change)
 revisions = (adds_other ∷ []) ∷ (copies_other ∷ []) ∷ []
 
 abbrev pub first_tree : Tree
-first_tree = put (path_of (codes "other")) (Node.Folder []) root_alone
+first_tree = put (path_of (codes "other")) (Node.Directory []) root_alone
 
 abbrev pub second_tree : Tree
 second_tree = grafted (path_of (codes "trunk")) (λ rest. first_tree (path_of (codes "other") ++ rest)) first_tree
@@ -139,7 +139,7 @@ loads patched = record { makes = makes patched; loads = refl }
 -- its expanded form: a directory is in place of the copy
 
 abbrev pub trunk : WrittenNode
-trunk = WrittenNode.Folder false (codes "trunk") []
+trunk = WrittenNode.Directory false (codes "trunk") []
 
 -- the record as it is, and nothing before it
 abbrev pub stays : Stead
@@ -205,56 +205,56 @@ is_expanded = record {
 -- what it makes
 
 abbrev pub expanded : List (List Change)
-expanded = (adds_other ∷ []) ∷ (folder_of (path_of (codes "trunk")) [] ∷ []) ∷ []
+expanded = (adds_other ∷ []) ∷ (directory_of (path_of (codes "trunk")) [] ∷ []) ∷ []
 
 makes_these : made_in_stead records steads revisions ≡ expanded
 makes_these = refl
 
 -- the branch at the copy's source has only a directory
-source_branch : HasBranch first_tree (path_of (codes "other")) (Branch.Folder [] Branches.NoMore)
+source_branch : HasBranch first_tree (path_of (codes "other")) (Branch.Directory [] Branches.NoMore)
 source_branch [] = refl
 source_branch (name ∷ rest) = refl
 
 -- its tree has only directories above its nodes
-first_folders : HasFolders first_tree
-first_folders = step_keeps (λ number. None) (λ number tree bad. absurd (let none : None ≡ Some tree = bad in cc))
-    root_alone adds_other root_folders
+first_directories : HasDirectories first_tree
+first_directories = step_keeps (λ number. None) (λ number tree bad. absurd (let none : None ≡ Some tree = bad in cc))
+    root_alone adds_other root_directories
 
 first_expands : Expands settings (slice_get (root_alone ∷ [])) root_alone adds_other (adds_other ∷ [])
 first_expands = separated_expands settings (slice_get (root_alone ∷ [])) root_alone adds_other
     (λ after is. quiet_separates settings (slice_get (root_alone ∷ [])) root_alone after adds_other refl refl is)
 
 second_expands : Expands settings (slice_get (root_alone ∷ first_tree ∷ [])) first_tree copies_other
-    (folder_of (path_of (codes "trunk")) [] ∷ [])
+    (directory_of (path_of (codes "trunk")) [] ∷ [])
 second_expands = kept_copy settings (slice_get (root_alone ∷ first_tree ∷ [])) first_tree first_tree copies_other 1
-    (path_of (codes "other")) (Branch.Folder [] Branches.NoMore) (Branch.Folder [] Branches.NoMore)
-    (folder_of (path_of (codes "trunk")) [] ∷ []) first_folders refl refl refl source_branch refl refl (inr ([], [], refl, refl, refl))
+    (path_of (codes "other")) (Branch.Directory [] Branches.NoMore) (Branch.Directory [] Branches.NoMore)
+    (directory_of (path_of (codes "trunk")) [] ∷ []) first_directories refl refl refl source_branch refl refl (inr ([], [], refl, refl, refl))
 
 -- each change is replaced by an expansion of it
 pub expands : AllRevisionsExpand settings (root_alone ∷ []) root_alone revisions expanded
 expands = (
   adds_other ∷ [],
-  (folder_of (path_of (codes "trunk")) [] ∷ []) ∷ [],
+  (directory_of (path_of (codes "trunk")) [] ∷ []) ∷ [],
   refl,
   (adds_other ∷ [], [], refl, first_expands, λ after is. refl),
   λ tree is. subst (λ (t : Tree). AllRevisionsExpand settings (root_alone ∷ t ∷ []) t ((copies_other ∷ []) ∷ [])
-      ((folder_of (path_of (codes "trunk")) [] ∷ []) ∷ []))
+      ((directory_of (path_of (codes "trunk")) [] ∷ []) ∷ []))
       (let same : Some first_tree ≡ Some tree = is in let one : first_tree ≡ tree = cc in one) (
-        folder_of (path_of (codes "trunk")) [] ∷ [],
+        directory_of (path_of (codes "trunk")) [] ∷ [],
         [],
         refl,
-        (folder_of (path_of (codes "trunk")) [] ∷ [], [], refl, second_expands, λ after at. refl),
+        (directory_of (path_of (codes "trunk")) [] ∷ [], [], refl, second_expands, λ after at. refl),
         λ after at. refl,
       ),
 )
 
 -- the records of the expanded form
 
-abbrev pub folder_there : DumpRecord
-folder_there = node_record 141 2 trunk
+abbrev pub directory_there : DumpRecord
+directory_there = node_record 141 2 trunk
 
 abbrev pub again : List DumpRecord
-again = version ∷ zero ∷ one ∷ other ∷ two ∷ folder_there ∷ []
+again = version ∷ zero ∷ one ∷ other ∷ two ∷ directory_there ∷ []
 
 stands_before : (number : ℕ) (r : DumpRecord) (rest : List ℕ) → BeginsWithRecord number (record_text r) r []
     → BeginsWithRecord number (record_text r ++ rest) r rest
@@ -340,7 +340,7 @@ is_expansion patched = record {
           moved_same 71 other,
           (
             moved_same 121 two,
-            (moved_same 141 folder_there, tt),
+            (moved_same 141 directory_there, tt),
           ),
         ),
       ),

@@ -18,10 +18,10 @@ image_of_dropped : image (kept_revisions settings records) 2 ≡ Some 1
 image_of_dropped = refl
 
 -- the copy exists in the whole dump's last tree, and so in the one that is loaded again
-copy_stands : third_tree (path_of (codes "trunk/b")) ≡ Some (Node.Folder [])
+copy_stands : third_tree (path_of (codes "trunk/b")) ≡ Some (Node.Directory [])
 copy_stands = refl
 
-other_stands : third_tree (path_of (codes "other")) ≡ Some (Node.Folder [])
+other_stands : third_tree (path_of (codes "other")) ≡ Some (Node.Directory [])
 other_stands = refl
 
 -- no parent directory is at the path of the excluded directory
@@ -34,7 +34,7 @@ refused delta old = None
 
 -- so in revision 2 of the repository that it is loaded into, the copy exists, and the excluded directory doesn't
 in_revision_2 : (others : List Tree) × (tree : Tree) × (slice_get others 2 ≡ Some tree)
-    × IsNewNode (IsNewProperty settings (kept_revisions settings records)) (Some (Node.Folder []))
+    × IsNewNode (IsNewProperty settings (kept_revisions settings records)) (Some (Node.Directory []))
     (tree (path_of (codes "trunk/b")))
     × (tree (path_of (codes "other")) ≡ None)
 in_revision_2 =

@@ -363,7 +363,7 @@ is_trimmed = record {
 
 -- what is in the directory that is copied
 abbrev both : Branch
-both = Branch.Folder []
+both = Branch.Directory []
     (Branches.Named (codes "app") (Branch.File [] (codes "text"))
     (Branches.Named (codes "old") (Branch.File [] (codes "text")) Branches.NoMore))
 
@@ -467,7 +467,7 @@ refused delta base = None
 in_revision_2 : (others : List Tree) × (tree : Tree) × (length others ≡ 3) × (slice_get others 2 ≡ Some tree)
     × IsNewNode (IsNewProperty settings (kept_revisions settings records)) (Some (Node.File [] (codes "text")))
     (tree (path_of (codes "trunk/old")))
-    × IsNewNode (IsNewProperty settings (kept_revisions settings records)) (Some (Node.Folder []))
+    × IsNewNode (IsNewProperty settings (kept_revisions settings records)) (Some (Node.Directory []))
     (tree (path_of (codes "branch")))
     × (tree (path_of (codes "trunk/app")) ≡ None)
     × (tree (path_of (codes "branch/app")) ≡ None)

@@ -1,5 +1,5 @@
 -- The law of surveyed dumps, applied to the example dump: nothing is found in it.
-use Rattle.dump_history.proofs.Prelude.{◌≡◌, refl, ap, ◌∙◌, DumpRecord, groups, root_alone, nowhere_is_over, loaded_over, Patching, LoadsRestricted, LoadsBehindFolders, Finding, AreFindingsOf, AreDumpFindingsOf, AreFindingsBehind, HaveFindings, no_node_faults, groups_name_behind}
+use Rattle.dump_history.proofs.Prelude.{◌≡◌, refl, ap, ◌∙◌, DumpRecord, groups, root_alone, nowhere_is_over, loaded_over, Patching, LoadsRestricted, LoadsAfterDirectories, Finding, AreFindingsOf, AreDumpFindingsOf, AreFindingsBehind, HaveFindings, no_node_faults, groups_name_behind}
 use Rattle.std.proofs.Common.{false, List, [], ◌∷◌, Some}
 use Rattle.dump_history.proofs.restricted.LoadsOnce.{later_once}
 use Rattle.dump_history.proofs.survey.FindingLemmas.{faults_of_kept, faults_of_left}
@@ -80,7 +80,7 @@ none_in_dump = (
 
 -- so the law applies: the revisions that the survey's law speaks of are those of the dump
 restricts : (patched : Patching) → LoadsRestricted patched settings records trees text
-    × LoadsBehindFolders patched settings records trees text
+    × LoadsAfterDirectories patched settings records trees text
 restricts patched =
     let (found, made, law) =
     surveyed_dump patched settings dump text records nothing clean lengths none_in_dump none_found refl refl in

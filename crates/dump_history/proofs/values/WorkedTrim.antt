@@ -416,7 +416,7 @@ made_tree = put (path_of (codes "trunk/app")) (Node.File [] (codes "text"))
 
 -- what is in the directory that is copied
 abbrev both : Branch
-both = Branch.Folder []
+both = Branch.Directory []
     (Branches.Named (codes "app") (Branch.File [] (codes "text"))
     (Branches.Named (codes "old") (Branch.File [] (codes "text")) Branches.NoMore))
 
@@ -533,7 +533,7 @@ refused delta base = None
 in_the_last_revision : (other : Tree)
     × IsNewNode (IsNewProperty settings (kept_revisions settings again)) (Some (Node.File [] (codes "text")))
     (other (path_of (codes "trunk/app")))
-    × IsNewNode (IsNewProperty settings (kept_revisions settings again)) (Some (Node.Folder []))
+    × IsNewNode (IsNewProperty settings (kept_revisions settings again)) (Some (Node.Directory []))
     (other (path_of (codes "branch")))
     × (other (path_of (codes "trunk/old")) ≡ None)
     × (other (path_of (codes "branch/app")) ≡ None)

@@ -2,7 +2,7 @@
 use Rattle.dump_history.proofs.Prelude.{◌≡◌, ◌++◌, None, refl, Property, is_lawful, path_of}
 use Rattle.std.proofs.Common.{true, false, [], ◌∷◌, Some, codes}
 use Rattle.std.specs.Fmt.{digits}
-use Rattle.dump_trees.specs.WritingOut.{copy_of, folder_of, file_of}
+use Rattle.dump_trees.specs.WritingOut.{copy_of, directory_of, file_of}
 use Rattle.dump_trees.specs.ExpansionCases.{deletion_of}
 use Rattle.dump_history.specs.WrittenNodes.{NodeKind, WrittenNode, node_lines, node_bytes, written_change, can_be_written}
 
@@ -19,8 +19,8 @@ deletion = WrittenNode.Deletion (codes "a/b")
 abbrev copy : WrittenNode
 copy = WrittenNode.Copy NodeKind.Dir 12 (codes "c") (codes "a/b")
 
-abbrev folder : WrittenNode
-folder = WrittenNode.Folder false (codes "a") (set_one ∷ [])
+abbrev directory : WrittenNode
+directory = WrittenNode.Directory false (codes "a") (set_one ∷ [])
 
 abbrev file : WrittenNode
 file = WrittenNode.File true (codes "a/b") [] (codes "text") (Some (codes "1cb2")) None
@@ -35,11 +35,11 @@ copy_bytes : node_bytes copy
 unfolding digits
 copy_bytes = refl
 
-folder_bytes : node_bytes folder
+directory_bytes : node_bytes directory
     ≡ codes "Node-path: a\nNode-kind: dir\nNode-action: add\nProp-content-length: 22\nContent-length: 22\n\n"
     ++ codes "K 1\np\nV 1\n1\nPROPS-END\n"
 unfolding digits
-folder_bytes = refl
+directory_bytes = refl
 
 file_bytes : node_bytes file
     ≡ codes "Node-path: a/b\nNode-kind: file\nNode-action: replace\nProp-content-length: 10\n"
@@ -55,8 +55,8 @@ deletion_change = refl
 copy_change : written_change copy ≡ copy_of 12 (path_of (codes "c")) (path_of (codes "a/b"))
 copy_change = refl
 
-folder_change : written_change folder ≡ folder_of (path_of (codes "a")) (set_one ∷ [])
-folder_change = refl
+directory_change : written_change directory ≡ directory_of (path_of (codes "a")) (set_one ∷ [])
+directory_change = refl
 
 -- what replaces something deletes it first
 file_change : written_change file ≡ record (file_of (path_of (codes "a/b")) [] (codes "text")) { deletes = true }
@@ -65,7 +65,7 @@ file_change = refl
 -- which can be written
 
 all_can : (can_be_written deletion ≡ true) × (can_be_written copy ≡ true)
-    × (can_be_written folder ≡ true) × (can_be_written file ≡ true)
+    × (can_be_written directory ≡ true) × (can_be_written file ≡ true)
 unfolding digits
 all_can = (refl, refl, refl, refl)
 
@@ -86,7 +86,7 @@ no_long_number : can_be_written (WrittenNode.Copy NodeKind.File 1000000000000000
 no_long_number = refl
 
 -- an entry that takes a property away, which version 2 doesn't know
-no_removal : can_be_written (WrittenNode.Folder false (codes "a") (taken ∷ [])) ≡ false
+no_removal : can_be_written (WrittenNode.Directory false (codes "a") (taken ∷ [])) ≡ false
 no_removal = refl
 
 -- a digest with a line feed

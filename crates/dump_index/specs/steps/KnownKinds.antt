@@ -7,7 +7,7 @@ use Rattle.dump_index.specs.Listed.{Listed, all_placed}
 use Rattle.dump_index.specs.InOrder.{ends_in_slash}
 use Rattle.dump_index.specs.Kinds.{kind_look}
 use Rattle.dump_index.specs.declared.change.NodeKind.{NodeKind}
-use Rattle.dump_index.specs.declared.change.NodeKind.TheVariants.{Folder, File}
+use Rattle.dump_index.specs.declared.change.NodeKind.TheVariants.{Directory, File}
 use Rattle.dump_index.specs.declared.look.Look.{Look}
 use Rattle.dump_index.specs.declared.look.Look.TheVariants.{Found, Copied}
 use Rattle.dump_index.specs.steps.Touching.{joined_text}
@@ -27,7 +27,7 @@ AreKindsBehind listed known = (place : ℕ) (kind : Option NodeKind) (l : Listed
 -- what exists at the source of a change of this revision, if the change is a copy of an earlier revision
 abbrev pub source_look : List Listed → ℕ → Option Made → Option NodeKind
 source_look listed revision None = None
-source_look listed revision (Some Made.NewFolder) = None
+source_look listed revision (Some Made.NewDirectory) = None
 source_look listed revision (Some Made.NewFile) = None
 source_look listed revision (Some (Made.Copied number source)) =
     if nat_lt number revision then kind_look listed (end_of (all_placed listed) number) source else None
@@ -40,7 +40,7 @@ left_kind false here = here
 -- what exists there after the change makes something, if it does; a copy makes what exists at its source
 abbrev pub made_kind : Option Made → Option NodeKind → Option NodeKind → Option NodeKind
 made_kind None left source = left
-made_kind (Some Made.NewFolder) left source = Some Folder
+made_kind (Some Made.NewDirectory) left source = Some Directory
 made_kind (Some Made.NewFile) left source = Some File
 made_kind (Some (Made.Copied number from)) left source = source
 

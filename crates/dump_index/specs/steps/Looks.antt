@@ -9,9 +9,9 @@ use Rattle.dump_index.specs.InOrder.{ends_in_slash}
 use Rattle.dump_index.specs.Kinds.{node_kind, kind_look}
 use Rattle.dump_index.specs.declared.change.NodeChange.{NodeChange}
 use Rattle.dump_index.specs.declared.change.NodeKind.{NodeKind}
-use Rattle.dump_index.specs.declared.change.NodeKind.TheVariants.{Folder as AFolder, File as AFile}
+use Rattle.dump_index.specs.declared.change.NodeKind.TheVariants.{Directory as ADirectory, File as AFile}
 use Rattle.dump_index.specs.declared.change.NodeMade.{NodeMade}
-use Rattle.dump_index.specs.declared.change.NodeMade.TheVariants.{Folder, File, CopyOf}
+use Rattle.dump_index.specs.declared.change.NodeMade.TheVariants.{Directory, File, CopyOf}
 use Rattle.dump_index.specs.declared.order.Effect.TheVariants.{Texts}
 use Rattle.dump_index.specs.declared.origin.Origin.{Origin}
 use Rattle.dump_index.specs.declared.origin.Origin.TheVariants.{Nowhere, New, Copied}
@@ -22,7 +22,7 @@ use Rattle.dump_index.specs.steps.Touching.{shapes, rest_text, joined_text}
 abbrev pub kind_with_text : Bool → Option NodeKind → Option NodeKind
 kind_with_text false kind = kind
 kind_with_text true None = None
-kind_with_text true (Some AFolder) = None
+kind_with_text true (Some ADirectory) = None
 kind_with_text true (Some AFile) = Some AFile
 
 -- what exists at the origin of what the change at this place leaves at the path
@@ -77,15 +77,15 @@ origin_names listed (Copied source rest) =
 
 -- what a change makes when it makes a node of this kind
 abbrev pub made_as : NodeKind → NodeMade
-made_as AFolder = Folder
+made_as ADirectory = Directory
 made_as AFile = File
 
 -- whether nothing is made at this rest of a path: there is no copy, and no new node, which only exists at the empty
 -- rest
 abbrev pub makes_none : Option NodeMade → List ℕ → Bool
 makes_none None rest = true
-makes_none (Some Folder) [] = false
-makes_none (Some Folder) (b ∷ rest) = true
+makes_none (Some Directory) [] = false
+makes_none (Some Directory) (b ∷ rest) = true
 makes_none (Some File) [] = false
 makes_none (Some File) (b ∷ rest) = true
 makes_none (Some (CopyOf source)) rest = false

@@ -7,7 +7,7 @@ use Rattle.dump_trees.specs.TreeLaws.{GivesRootAlone}
 pub given_alone : (settings : Settings) → settings.side ≡ Exclude → (name : List ℕ) (path : NodePath)
     → given settings (name ∷ path) ≡ None
 given_alone settings side name path =
-    ap (λ b. cond b (Some (Node.Folder [])) None)
+    ap (λ b. cond b (Some (Node.Directory [])) None)
     (ap (λ s. not (keeps settings (name ∷ path)) && is_above_some s settings.prefixes (name ∷ path)) side
     ∙ no_more (not (keeps settings (name ∷ path))))
   where

@@ -1,9 +1,9 @@
 -- A copy whose source isn't kept, and the plain file that is written of it.
-use Rattle.dump_trees.proofs.Prelude.{◌≡◌, ◌||◌, option_map, cond, IsTrue, refl, sym, ap, ◌∙◌, subst, subst₂, append-nil, IfSome, AllZip, both_ways, and_parts, and_from, eqb-true, nil_from_length, Property, Settings, NodePath, keeps, below, parent_of, Node, Tree, HasFolders, is_folder, at_or_below, grafted, at_top, put, empty_tree, PropertyChange, TextChange, has_folder, deleted, node_put, copied, edited_with, with_props, with_text, props_set, text_set, NewProperty, KeepsEntries, IsNewNode, AreNewProps, IsRestricted, has_no_props}
+use Rattle.dump_trees.proofs.Prelude.{◌≡◌, ◌||◌, option_map, cond, IsTrue, refl, sym, ap, ◌∙◌, subst, subst₂, append-nil, IfSome, AllZip, both_ways, and_parts, and_from, eqb-true, nil_from_length, Property, Settings, NodePath, keeps, below, parent_of, Node, Tree, HasDirectories, is_directory_node, at_or_below, grafted, at_top, put, empty_tree, PropertyChange, TextChange, has_directory, deleted, node_put, copied, edited_with, with_props, with_text, props_set, text_set, NewProperty, KeepsEntries, IsNewNode, AreNewProps, IsRestricted, has_no_props}
 use Rattle.std.proofs.Common.{ℕ, Bool, true, false, ◌&&◌, List, [], ◌∷◌, ◌++◌, length, Option, Some, None, option_and_then, is_some, is_none}
 use Rattle.dump_trees.proofs.changes.EditLemmas.{edits_new}
 use Rattle.dump_trees.proofs.paths.KeptPaths.{gives_nothing}
-use Rattle.dump_trees.proofs.changes.TreeLemmas.{below_rest, below_found, below_top, RestrictedAt, nothing_restricted, folder_restricted}
+use Rattle.dump_trees.proofs.changes.TreeLemmas.{below_rest, below_found, below_top, RestrictedAt, nothing_restricted, directory_restricted}
 use Rattle.dump_trees.proofs.changes.StageLemmas.{Follows}
 
 -- what exists at the top
@@ -18,25 +18,25 @@ graft_at top new tree = ap (λ o. at_or_below o new (tree top)) (below_top top)
 
 -- nothing exists below a file, and nothing exists below a path without a node
 
-below_no_folder : (tree : Tree) → HasFolders tree → (top : NodePath) → is_folder (tree top) ≡ false
+below_no_directory : (tree : Tree) → HasDirectories tree → (top : NodePath) → is_directory_node (tree top) ≡ false
     → (name : List ℕ) (rest : NodePath) → tree (top ++ name ∷ rest) ≡ None
-below_no_folder tree folders top none name rest = cases (tree (top ++ name ∷ rest)) refl
+below_no_directory tree directories top none name rest = cases (tree (top ++ name ∷ rest)) refl
   where
     cases : (o : Option Node) → tree (top ++ name ∷ rest) ≡ o → o ≡ None
     cases None at = refl
-    cases (Some node) at = absurd (both_ways _ none (folders top name rest node at))
+    cases (Some node) at = absurd (both_ways _ none (directories top name rest node at))
 
 -- after a deletion, or if nothing existed there before, nothing exists at the top and below it
-pub all_gone : (deletes : Bool) (top : NodePath) (tree : Tree) → HasFolders tree
+pub all_gone : (deletes : Bool) (top : NodePath) (tree : Tree) → HasDirectories tree
     → IsTrue (deletes || is_none (tree top))
     → IfSome (deleted deletes top tree) (λ after. (rest : NodePath) → after (top ++ rest) ≡ None)
-all_gone true top tree folders free = cases (is_some (parent_of top) && is_some (tree top))
+all_gone true top tree directories free = cases (is_some (parent_of top) && is_some (tree top))
   where
     cases : (b : Bool) → IfSome (cond b (Some (grafted top empty_tree tree)) None)
         (λ after. (rest : NodePath) → after (top ++ rest) ≡ None)
     cases false = tt
     cases true = λ rest. ap (λ o. at_or_below o empty_tree (tree (top ++ rest))) (below_found top rest)
-all_gone false top tree folders free = λ rest. cases rest
+all_gone false top tree directories free = λ rest. cases rest
   where
     none : (o : Option Node) → is_none o ≡ true → o ≡ None
     none None is = refl
@@ -44,7 +44,7 @@ all_gone false top tree folders free = λ rest. cases rest
 
     cases : (rest : NodePath) → tree (top ++ rest) ≡ None
     cases [] = ap tree (append-nil top) ∙ none (tree top) free
-    cases (name ∷ rest) = below_no_folder tree folders top (ap is_folder (none (tree top) free)) name rest
+    cases (name ∷ rest) = below_no_directory tree directories top (ap is_directory_node (none (tree top) free)) name rest
 
 -- properties and a text, set one after the other
 
@@ -57,7 +57,7 @@ file_set (Some entries) text old other top tree =
 -- the result for both, by what exists at the top
 abbrev both_set : Option (List Property) → List ℕ → NodePath → Tree → Option Node → Option Tree
 both_set props text top tree None = None
-both_set props text top tree (Some (Node.Folder old)) = None
+both_set props text top tree (Some (Node.Directory old)) = None
 both_set props text top tree (Some (Node.File old other)) = Some (file_set props text old other top tree)
 
 -- the text's part
@@ -80,13 +80,13 @@ edited : (props : Option (List Property)) (text : List ℕ) (top : NodePath) (tr
     → option_and_then (λ t. text_set (Some (TextChange.Replaced text)) top t) (props_set (replaced props) top tree)
     ≡ both_set props text top tree o
 edited None text top tree None at = ap (texted text top tree) at
-edited None text top tree (Some (Node.Folder old)) at = ap (texted text top tree) at
+edited None text top tree (Some (Node.Directory old)) at = ap (texted text top tree) at
 edited None text top tree (Some (Node.File old other)) at = ap (texted text top tree) at
 edited (Some props) text top tree None at = ap (propped props text top tree) at
-edited (Some props) text top tree (Some (Node.Folder old)) at =
+edited (Some props) text top tree (Some (Node.Directory old)) at =
     ap (propped props text top tree) at
-    ∙ ap (texted text top (put top (Node.Folder (edited_with props [])) tree))
-    (put_at top (Node.Folder (edited_with props [])) tree)
+    ∙ ap (texted text top (put top (Node.Directory (edited_with props [])) tree))
+    (put_at top (Node.Directory (edited_with props [])) tree)
 edited (Some props) text top tree (Some (Node.File old other)) at =
     ap (propped props text top tree) at
     ∙ ap (texted text top (put top (Node.File (edited_with props []) other) tree))
@@ -103,7 +103,7 @@ module _ (settings : Settings) (IsNew : NewProperty) (entries : KeepsEntries IsN
     (props others : Option (List Property)) (text : List ℕ)
     (both : AreNewProps IsNew (replaced props) (replaced others))
     (bare : IsTrue (is_some props || has_no_props (from source))) (is : IsTrue (keeps settings top))
-    (folders : HasFolders from) (gone : (rest : NodePath) → old (top ++ rest) ≡ None)
+    (directories : HasDirectories from) (gone : (rest : NodePath) → old (top ++ rest) ≡ None)
     (r : IsRestricted settings IsNew old new) where
   -- the tree with the copy, and the tree with the plain file
   abbrev copy_tree : Tree
@@ -134,7 +134,7 @@ module _ (settings : Settings) (IsNew : NewProperty) (entries : KeepsEntries IsN
           subst (λ p. RestrictedAt settings IsNew p (from (source ++ name ∷ rest)) (new p))
           (sym (below_rest top path (name ∷ rest) at))
           (let none = nothing_restricted settings IsNew old new r top (name ∷ rest) is (gone (name ∷ rest)) in
-          let no_source = below_no_folder from folders source (ap is_folder file) name rest in (
+          let no_source = below_no_directory from directories source (ap is_directory_node file) name rest in (
             λ kept. subst (λ o. IsNewNode IsNew o (new (top ++ name ∷ rest))) (sym no_source)
                 (subst (λ o. IsNewNode IsNew None o) (sym none) tt),
             λ left. none ∙ sym (gives_nothing settings top (name ∷ rest) is left),
@@ -174,12 +174,12 @@ module _ (settings : Settings) (IsNew : NewProperty) (entries : KeepsEntries IsN
       (Node.File (edited_with qs []) []) other (edits_new IsNew entries ps qs [] [] pair tt) file
 
   -- the plain file is made wherever the copy is
-  plain_made : has_folder old top ≡ true → node_put (Node.File [] []) top new ≡ Some plain_tree
+  plain_made : has_directory old top ≡ true → node_put (Node.File [] []) top new ≡ Some plain_tree
   plain_made some =
       let none = ap new (sym (append-nil top)) ∙ nothing_restricted settings IsNew old new r top [] is (gone []) in
       ap (λ b. cond b (Some plain_tree) None)
-      (and_from (is_none (new top)) (has_folder new top) (ap is_none none)
-      (folder_restricted settings IsNew old new r top is some))
+      (and_from (is_none (new top)) (has_directory new top) (ap is_none none)
+      (directory_restricted settings IsNew old new r top is some))
 
   -- the copy and the plain file, each with the properties and the text
   pub plain_follows : Follows settings IsNew
@@ -189,15 +189,15 @@ module _ (settings : Settings) (IsNew : NewProperty) (entries : KeepsEntries IsN
       (option_and_then (λ t. text_set (Some (TextChange.Replaced text)) top t)
       (option_and_then (λ t. props_set (replaced others) top t)
       (node_put (Node.File [] []) top new)))
-  plain_follows = made (is_some (from source) && has_folder old top) refl
+  plain_follows = made (is_some (from source) && has_directory old top) refl
     where
       set : (o : Option Node) → from source ≡ o → Follows settings IsNew (both_set props text top copy_tree o)
           (Some (file_set others text [] [] top plain_tree))
       set None at = tt
-      set (Some (Node.Folder ps)) at = tt
+      set (Some (Node.Directory ps)) at = tt
       set (Some (Node.File ps other)) at = files_alike props others both bare ps other at
 
-      made : (b : Bool) → (is_some (from source) && has_folder old top) ≡ b → Follows settings IsNew
+      made : (b : Bool) → (is_some (from source) && has_directory old top) ≡ b → Follows settings IsNew
           (option_and_then (λ t. text_set (Some (TextChange.Replaced text)) top t)
           (option_and_then (λ t. props_set (replaced props) top t)
           (cond b (Some copy_tree) None)))
@@ -206,7 +206,7 @@ module _ (settings : Settings) (IsNew : NewProperty) (entries : KeepsEntries IsN
           (node_put (Node.File [] []) top new)))
       made false at = tt
       made true at =
-          let some = (and_parts (is_some (from source)) (has_folder old top) at).1 in
+          let some = (and_parts (is_some (from source)) (has_directory old top) at).1 in
           let whole = edited props text top copy_tree (from source)
           (graft_at top (λ rest. from (source ++ rest)) old ∙ ap from (append-nil source)) in
           let filtered = ap (λ o. option_and_then (λ t. text_set (Some (TextChange.Replaced text)) top t)

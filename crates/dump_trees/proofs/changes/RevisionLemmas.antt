@@ -1,25 +1,25 @@
 -- The changes of a revision.
-use Rattle.dump_trees.proofs.Prelude.{◌≡◌, refl, sym, subst, MatchBool, list_any, MatchBool-at_true, MatchBool-at_false, or_parts, Settings, keeps, Tree, HasFolders, Change, History, step, steps, NewProperty, KeepsEntries, NewNumber, IsRestricted, IsNewChange, AllHaveFolders, AreRestricted, IsMade, IsRenumbered, AreNewChanges, AllSeparate, EachRevisionRestricts}
+use Rattle.dump_trees.proofs.Prelude.{◌≡◌, refl, sym, subst, MatchBool, list_any, MatchBool-at_true, MatchBool-at_false, or_parts, Settings, keeps, Tree, HasDirectories, Change, History, step, steps, NewProperty, KeepsEntries, NewNumber, IsRestricted, IsNewChange, AllHaveDirectories, AreRestricted, IsMade, IsRenumbered, AreNewChanges, AllSeparate, EachRevisionRestricts}
 use Rattle.std.proofs.Common.{Bool, true, false, List, [], ◌∷◌, Option, Some, None, option_and_then}
 use Rattle.dump_trees.proofs.changes.StageLemmas.{Follows}
 use Rattle.dump_trees.proofs.changes.StepLemmas.{followed, change_follows, dropped_step}
-use Rattle.dump_trees.proofs.changes.FolderLemmas.{KeepsFolders, step_keeps}
+use Rattle.dump_trees.proofs.changes.DirectoryLemmas.{KeepsDirectories, step_keeps}
 
 -- the changes of a revision keep directories
-pub steps_keep : (history : History) → AllHaveFolders history → (changes : List Change) (tree : Tree) → HasFolders tree
-    → KeepsFolders (steps history tree changes)
-steps_keep history all [] tree folders = folders
-steps_keep history all (c ∷ changes) tree folders =
-    cases (steps_keep history all changes) (step history tree c) (step_keeps history all tree c folders)
+pub steps_keep : (history : History) → AllHaveDirectories history → (changes : List Change) (tree : Tree) → HasDirectories tree
+    → KeepsDirectories (steps history tree changes)
+steps_keep history all [] tree directories = directories
+steps_keep history all (c ∷ changes) tree directories =
+    cases (steps_keep history all changes) (step history tree c) (step_keeps history all tree c directories)
   where
-    cases : ((t : Tree) → HasFolders t → KeepsFolders (steps history t changes)) → (o : Option Tree) → KeepsFolders o
-        → KeepsFolders (option_and_then (λ t. steps history t changes) o)
+    cases : ((t : Tree) → HasDirectories t → KeepsDirectories (steps history t changes)) → (o : Option Tree) → KeepsDirectories o
+        → KeepsDirectories (option_and_then (λ t. steps history t changes) o)
     cases further None has = tt
     cases further (Some t) has = further t has
 
 module _ (settings : Settings) (IsNew : NewProperty) (IsNumber : NewNumber) (entries : KeepsEntries IsNew)
     (history others : History)
-    (all : AllHaveFolders history) (same : AreRestricted settings IsNew IsNumber history others) where
+    (all : AllHaveDirectories history) (same : AreRestricted settings IsNew IsNumber history others) where
   -- what follows an existing tree exists
   follows_there : (old : Tree) (o : Option Tree) (f : Tree → Option Tree) (whole : Option Tree)
       → Follows settings IsNew (Some old) o
@@ -30,28 +30,28 @@ module _ (settings : Settings) (IsNew : NewProperty) (IsNumber : NewNumber) (ent
 
   -- what is proved of the changes after a change
   abbrev Further : List Change → Type 0
-  Further changes = (rest : List Change) (t u : Tree) → HasFolders t → IsRestricted settings IsNew t u
+  Further changes = (rest : List Change) (t u : Tree) → HasDirectories t → IsRestricted settings IsNew t u
       → AllSeparate settings history t changes → AreNewChanges settings IsNew IsNumber changes rest
       → Follows settings IsNew (steps history t changes) (steps others u rest)
 
   -- the changes of a revision, one after the other
-  pub steps_follow : (changes written : List Change) (before restricted : Tree) → HasFolders before
+  pub steps_follow : (changes written : List Change) (before restricted : Tree) → HasDirectories before
       → IsRestricted settings IsNew before restricted → AllSeparate settings history before changes
       → AreNewChanges settings IsNew IsNumber changes written
       → Follows settings IsNew (steps history before changes) (steps others restricted written)
-  steps_follow [] written before restricted folders r apart new =
+  steps_follow [] written before restricted directories r apart new =
       subst (λ w. Follows settings IsNew (Some before) (steps others restricted w)) (sym new) r
-  steps_follow (c ∷ changes) written before restricted folders r apart new =
-      cases (steps_follow changes) (step history before c) refl (step_keeps history all before c folders)
+  steps_follow (c ∷ changes) written before restricted directories r apart new =
+      cases (steps_follow changes) (step history before c) refl (step_keeps history all before c directories)
     where
-      sides : Further changes → (after : Tree) → step history before c ≡ Some after → HasFolders after → (b : Bool)
+      sides : Further changes → (after : Tree) → step history before c ≡ Some after → HasDirectories after → (b : Bool)
           → keeps settings c.path ≡ b
           → Follows settings IsNew (steps history after changes) (steps others restricted written)
       sides further after at has true kept =
           let parts = MatchBool-at_true _ _ kept new in
           let first =
           change_follows settings IsNew IsNumber entries history others before after restricted c parts.0 all same
-          folders r (apart after at).0 kept parts.3 in
+          directories r (apart after at).0 kept parts.3 in
           subst (λ w. Follows settings IsNew (steps history after changes) (steps others restricted w)) (sym parts.2)
           (follows_there after (step others restricted parts.0) (λ u. steps others u parts.1)
           (steps history after changes)
@@ -63,7 +63,7 @@ module _ (settings : Settings) (IsNew : NewProperty) (IsNumber : NewNumber) (ent
           (apart after at).1
           (MatchBool-at_false _ _ left new)
 
-      cases : Further changes → (o : Option Tree) → step history before c ≡ o → KeepsFolders o
+      cases : Further changes → (o : Option Tree) → step history before c ≡ o → KeepsDirectories o
           → Follows settings IsNew (option_and_then (λ t. steps history t changes) o) (steps others restricted written)
       cases further None at has = tt
       cases further (Some after) at has = sides further after at has (keeps settings c.path) refl
@@ -82,10 +82,10 @@ none_written settings IsNew IsNumber (c ∷ changes) none =
 
 -- the law of a revision, as the contract states it
 pub each_revision : EachRevisionRestricts
-each_revision settings make renumber entries history others before after restricted changes written all same folders
+each_revision settings make renumber entries history others before after restricted changes written all same directories
     r at
     apart new =
     followed settings (IsMade make) (steps history before changes) (steps others restricted written)
     (steps_follow settings (IsMade make) (IsRenumbered renumber)
     entries history others all same changes written before restricted
-    folders r apart new) after at
+    directories r apart new) after at

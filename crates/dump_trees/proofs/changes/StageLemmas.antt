@@ -1,9 +1,9 @@
 -- The stages of a change, each taken by the restricted tree as by the whole one.
-use Rattle.dump_trees.proofs.Prelude.{◌≡◌, not, option_map, cond, IsTrue, refl, sym, ap, ◌∙◌, subst, both_ways, and_parts, and_from, AllZip, Property, Settings, NodePath, keeps, parent_of, Node, Tree, grafted, put, empty_tree, PropertyChange, TextChange, has_folder, deleted, node_put, copied, new_props, with_props, new_text, with_text, props_put, props_set, text_set, NewProperty, KeepsEntries, IsNewNode, AreNewProps, IsRestricted}
+use Rattle.dump_trees.proofs.Prelude.{◌≡◌, not, option_map, cond, IsTrue, refl, sym, ap, ◌∙◌, subst, both_ways, and_parts, and_from, AllZip, Property, Settings, NodePath, keeps, parent_of, Node, Tree, grafted, put, empty_tree, PropertyChange, TextChange, has_directory, deleted, node_put, copied, new_props, with_props, new_text, with_text, props_put, props_set, text_set, NewProperty, KeepsEntries, IsNewNode, AreNewProps, IsRestricted}
 use Rattle.std.proofs.Common.{ℕ, Bool, true, false, ◌&&◌, List, [], ◌∷◌, ◌++◌, Option, Some, None, option_and_then, is_some, is_none}
 use Rattle.dump_trees.proofs.changes.EditLemmas.{edits_new}
 use Rattle.dump_trees.proofs.paths.KeptPaths.{gives_nothing}
-use Rattle.dump_trees.proofs.changes.TreeLemmas.{same_presence, RestrictedAt, nothing_restricted, graft_restricts, put_restricts, folder_restricted}
+use Rattle.dump_trees.proofs.changes.TreeLemmas.{same_presence, RestrictedAt, nothing_restricted, graft_restricts, put_restricts, directory_restricted}
 
 module _ (settings : Settings) (IsNew : NewProperty) where
   -- if the whole load continues, the filtered one does too, with the restricted tree
@@ -44,12 +44,12 @@ module _ (settings : Settings) (IsNew : NewProperty) where
       → IsNewNode IsNew (Some n) (Some n) → IsRestricted settings IsNew old new
       → Follows (node_put n top old) (node_put n top new)
   node_put_follows n top old new is node r =
-      follows_if (is_none (old top) && has_folder old top) (is_none (new top) && has_folder new top)
+      follows_if (is_none (old top) && has_directory old top) (is_none (new top) && has_directory new top)
       (put top n old) (put top n new)
-      (λ both. let parts = and_parts (is_none (old top)) (has_folder old top) both in
-      and_from (is_none (new top)) (has_folder new top)
+      (λ both. let parts = and_parts (is_none (old top)) (has_directory old top) both in
+      and_from (is_none (new top)) (has_directory new top)
       (ap not (sym (same_presence IsNew (old top) (new top) (r.kept top is))) ∙ parts.0)
-      (folder_restricted settings IsNew old new r top is parts.1))
+      (directory_restricted settings IsNew old new r top is parts.1))
       (put_restricts settings IsNew top n n old new is node r)
 
   -- a copy of a kept path
@@ -80,12 +80,12 @@ module _ (settings : Settings) (IsNew : NewProperty) where
     pub copied_follows : (old new : Tree) → IsRestricted settings IsNew old new
         → Follows (copied source top old from) (copied source top new others)
     copied_follows old new s =
-        follows_if (is_some (from source) && has_folder old top) (is_some (others source) && has_folder new top)
+        follows_if (is_some (from source) && has_directory old top) (is_some (others source) && has_directory new top)
         (grafted top (λ rest. from (source ++ rest)) old) (grafted top (λ rest. others (source ++ rest)) new)
-        (λ both. let parts = and_parts (is_some (from source)) (has_folder old top) both in
-        and_from (is_some (others source)) (has_folder new top)
+        (λ both. let parts = and_parts (is_some (from source)) (has_directory old top) both in
+        and_from (is_some (others source)) (has_directory new top)
         (sym (same_presence IsNew (from source) (others source) (r.kept source is_source)) ∙ parts.0)
-        (folder_restricted settings IsNew old new s top is parts.1))
+        (directory_restricted settings IsNew old new s top is parts.1))
         (graft_restricts settings IsNew top (λ rest. from (source ++ rest)) (λ rest. others (source ++ rest)) old new s
         copy_restricted)
 
@@ -99,13 +99,13 @@ module _ (settings : Settings) (IsNew : NewProperty) where
           → Follows (option_map (λ node. put top (with_props change node) old) a)
           (option_map (λ node. put top (with_props other node) new) b)
       cases None b node = tt
-      cases (Some (Node.Folder ps)) None node = absurd node
+      cases (Some (Node.Directory ps)) None node = absurd node
       cases (Some (Node.File ps text)) None node = absurd node
-      cases (Some (Node.Folder ps)) (Some (Node.File qs same)) node = absurd node
-      cases (Some (Node.File ps text)) (Some (Node.Folder qs)) node = absurd node
-      cases (Some (Node.Folder ps)) (Some (Node.Folder qs)) node =
-          put_restricts settings IsNew top (Node.Folder (new_props change ps))
-          (Node.Folder (new_props other qs)) old new is
+      cases (Some (Node.Directory ps)) (Some (Node.File qs same)) node = absurd node
+      cases (Some (Node.File ps text)) (Some (Node.Directory qs)) node = absurd node
+      cases (Some (Node.Directory ps)) (Some (Node.Directory qs)) node =
+          put_restricts settings IsNew top (Node.Directory (new_props change ps))
+          (Node.Directory (new_props other qs)) old new is
           (alike ps qs node) r
       cases (Some (Node.File ps text)) (Some (Node.File qs same)) node =
           put_restricts settings IsNew top (Node.File (new_props change ps) text) (Node.File (new_props other qs) same)
@@ -151,9 +151,9 @@ module _ (settings : Settings) (IsNew : NewProperty) where
           → Follows (option_map (λ node. put top node old) (option_and_then (λ node. with_text change node) a))
           (option_map (λ node. put top node new) (option_and_then (λ node. with_text change node) b))
       cases None b node = tt
-      cases (Some (Node.Folder ps)) b node = tt
+      cases (Some (Node.Directory ps)) b node = tt
       cases (Some (Node.File ps other)) None node = absurd node
-      cases (Some (Node.File ps other)) (Some (Node.Folder qs)) node = absurd node
+      cases (Some (Node.File ps other)) (Some (Node.Directory qs)) node = absurd node
       cases (Some (Node.File ps text)) (Some (Node.File qs same)) node =
           subst (λ t. Follows (texted top ps old (new_text change text)) (texted top qs new (new_text change t)))
           (sym node.1)

@@ -1,5 +1,5 @@
 -- One change.
-use Rattle.dump_trees.proofs.Prelude.{◌≡◌, not, ◌||◌, IsTrue, IsFalse, refl, sym, ap, ◌∙◌, subst, IfSome, and_parts, Settings, NodePath, keeps, Node, Tree, HasFolders, Made, PropertyChange, TextChange, Change, History, deleted, node_put, copied, made_in, props_set, text_set, step, edits_props, sets_whole_text, NewProperty, KeepsEntries, IsNewNode, AreNewProps, NewNumber, IsNewMade, IsRestricted, IsNewChange, has_no_props, Separates, AllHaveFolders, AreRestricted, IsMade, IsRenumbered, KeptStepRestricts, DroppedStepRestricts, EachStepRestricts}
+use Rattle.dump_trees.proofs.Prelude.{◌≡◌, not, ◌||◌, IsTrue, IsFalse, refl, sym, ap, ◌∙◌, subst, IfSome, and_parts, Settings, NodePath, keeps, Node, Tree, HasDirectories, Made, PropertyChange, TextChange, Change, History, deleted, node_put, copied, made_in, props_set, text_set, step, edits_props, sets_whole_text, NewProperty, KeepsEntries, IsNewNode, AreNewProps, NewNumber, IsNewMade, IsRestricted, IsNewChange, has_no_props, Separates, AllHaveDirectories, AreRestricted, IsMade, IsRenumbered, KeptStepRestricts, DroppedStepRestricts, EachStepRestricts}
 use Rattle.std.proofs.Common.{ℕ, Bool, true, false, ◌&&◌, List, [], ◌++◌, Option, Some, None, option_and_then, is_some, is_none}
 use Rattle.dump_trees.proofs.changes.StageLemmas.{Follows, follows_then, deleted_follows, node_put_follows, copied_follows, props_follow, text_follows}
 use Rattle.dump_trees.proofs.changes.PlainLemmas.{all_gone, plain_follows}
@@ -14,7 +14,7 @@ stages history top deletes made props text tree =
 
 module _ (settings : Settings) (IsNew : NewProperty) (IsNumber : NewNumber) (entries : KeepsEntries IsNew)
     (history others : History)
-    (folders : AllHaveFolders history) (same : AreRestricted settings IsNew IsNumber history others)
+    (directories : AllHaveDirectories history) (same : AreRestricted settings IsNew IsNumber history others)
     (top : NodePath) (is : IsTrue (keeps settings top)) where
   -- a copy of a kept path
   copy_follows : (number written : ℕ) (source : NodePath) → IsTrue (keeps settings source) → IsNumber number written
@@ -60,15 +60,15 @@ module _ (settings : Settings) (IsNew : NewProperty) (IsNumber : NewNumber) (ent
         (λ t u s. text_follows settings IsNew text top t u is s)
 
     -- a copy that becomes a plain file
-    plain : (number : ℕ) (source : NodePath) → HasFolders old
+    plain : (number : ℕ) (source : NodePath) → HasDirectories old
         → ((tree : Tree) → history number ≡ Some tree → IsTrue (is_some props || has_no_props (tree source)))
         → IsTrue (deletes || is_none (old top)) → IsTrue (sets_whole_text text && not (edits_props props))
         → Follows settings IsNew (stages history top deletes (Some (Made.Copied number source)) props text old)
         (stages others top deletes (Some Made.NewFile) others_props text new)
-    plain number source has_folders bare free whole =
+    plain number source has_directories bare free whole =
         parts text (and_parts (sets_whole_text text) (not (edits_props props)) whole).0 (deleted deletes top old)
         (deleted deletes top new)
-        (deleted_follows settings IsNew deletes top old new is r) (all_gone deletes top old has_folders free)
+        (deleted_follows settings IsNew deletes top old new is r) (all_gone deletes top old has_directories free)
       where
         -- both sets of properties, as the entries that replace the old ones
         replacing : (t : List ℕ) (a b tree : Tree) → history number ≡ Some tree → IsRestricted settings IsNew a b
@@ -82,7 +82,7 @@ module _ (settings : Settings) (IsNew : NewProperty) (IsNumber : NewNumber) (ent
             (option_and_then (λ u. props_set qs top u) (node_put (Node.File [] []) top b)))
         replacing t a b tree at s gone None None apart pair none =
             plain_follows settings IsNew entries source top tree a b None None t pair none is
-            (folders number tree at) gone s
+            (directories number tree at) gone s
         replacing t a b tree at s gone None (Some q) apart pair none = absurd pair
         replacing t a b tree at s gone (Some (PropertyChange.Replaced es)) None apart pair none = absurd pair
         replacing t a b tree at s gone (Some (PropertyChange.Replaced es)) (Some (PropertyChange.Edited fs)) apart pair
@@ -91,7 +91,7 @@ module _ (settings : Settings) (IsNew : NewProperty) (IsNumber : NewNumber) (ent
         replacing t a b tree at s gone (Some (PropertyChange.Replaced es)) (Some (PropertyChange.Replaced fs)) apart
             pair none =
             plain_follows settings IsNew entries source top tree a b (Some es) (Some fs) t pair none is
-            (folders number tree at) gone s
+            (directories number tree at) gone s
         replacing t a b tree at s gone (Some (PropertyChange.Edited es)) qs apart pair none =
             absurd (let bad : false ≡ true = apart in cc)
 
@@ -125,7 +125,7 @@ module _ (settings : Settings) (IsNew : NewProperty) (IsNumber : NewNumber) (ent
     -- each kind of kept change
     pub kept_follows : (made written : Option Made) →
         IsNewMade settings IsNumber (sets_whole_text text && not (edits_props props)) made written
-        → HasFolders old
+        → HasDirectories old
         → ((number : ℕ) (source : NodePath) → made ≡ Some (Made.Copied number source) → IsTrue (keeps settings source)
         → (tree : Tree) → history number ≡ Some tree → (rest : NodePath) (node : Node)
         → tree (source ++ rest) ≡ Some node
@@ -135,26 +135,26 @@ module _ (settings : Settings) (IsNew : NewProperty) (IsNumber : NewNumber) (ent
         × IsTrue (deletes || is_none (old top)))
         → Follows settings IsNew (stages history top deletes made props text old)
         (stages others top deletes written others_props text new)
-    kept_follows None None m has_folders apart alone = through None None (λ t u s. s)
-    kept_follows None (Some w) m has_folders apart alone = absurd m
-    kept_follows (Some Made.NewFolder) None m has_folders apart alone = absurd m
-    kept_follows (Some Made.NewFile) None m has_folders apart alone = absurd m
-    kept_follows (Some (Made.Copied number source)) None m has_folders apart alone = absurd m
-    kept_follows (Some Made.NewFolder) (Some Made.NewFolder) m has_folders apart alone =
-        through (Some Made.NewFolder) (Some Made.NewFolder)
-        (λ t u s. node_put_follows settings IsNew (Node.Folder []) top t u is tt s)
-    kept_follows (Some Made.NewFolder) (Some Made.NewFile) m has_folders apart alone = absurd m
-    kept_follows (Some Made.NewFolder) (Some (Made.Copied w q)) m has_folders apart alone = absurd m
-    kept_follows (Some Made.NewFile) (Some Made.NewFolder) m has_folders apart alone = absurd m
-    kept_follows (Some Made.NewFile) (Some Made.NewFile) m has_folders apart alone =
+    kept_follows None None m has_directories apart alone = through None None (λ t u s. s)
+    kept_follows None (Some w) m has_directories apart alone = absurd m
+    kept_follows (Some Made.NewDirectory) None m has_directories apart alone = absurd m
+    kept_follows (Some Made.NewFile) None m has_directories apart alone = absurd m
+    kept_follows (Some (Made.Copied number source)) None m has_directories apart alone = absurd m
+    kept_follows (Some Made.NewDirectory) (Some Made.NewDirectory) m has_directories apart alone =
+        through (Some Made.NewDirectory) (Some Made.NewDirectory)
+        (λ t u s. node_put_follows settings IsNew (Node.Directory []) top t u is tt s)
+    kept_follows (Some Made.NewDirectory) (Some Made.NewFile) m has_directories apart alone = absurd m
+    kept_follows (Some Made.NewDirectory) (Some (Made.Copied w q)) m has_directories apart alone = absurd m
+    kept_follows (Some Made.NewFile) (Some Made.NewDirectory) m has_directories apart alone = absurd m
+    kept_follows (Some Made.NewFile) (Some Made.NewFile) m has_directories apart alone =
         through (Some Made.NewFile) (Some Made.NewFile)
         (λ t u s. node_put_follows settings IsNew (Node.File [] []) top t u is (tt, refl) s)
-    kept_follows (Some Made.NewFile) (Some (Made.Copied w q)) m has_folders apart alone = absurd m
-    kept_follows (Some (Made.Copied number source)) (Some Made.NewFolder) m has_folders apart alone = absurd m
-    kept_follows (Some (Made.Copied number source)) (Some Made.NewFile) m has_folders apart alone =
+    kept_follows (Some Made.NewFile) (Some (Made.Copied w q)) m has_directories apart alone = absurd m
+    kept_follows (Some (Made.Copied number source)) (Some Made.NewDirectory) m has_directories apart alone = absurd m
+    kept_follows (Some (Made.Copied number source)) (Some Made.NewFile) m has_directories apart alone =
         let free = alone number source refl m.0 in
-        plain number source has_folders free.0 free.1 m.1
-    kept_follows (Some (Made.Copied number source)) (Some (Made.Copied w q)) m has_folders apart alone =
+        plain number source has_directories free.0 free.1 m.1
+    kept_follows (Some (Made.Copied number source)) (Some (Made.Copied w q)) m has_directories apart alone =
         subst
         (λ p. Follows settings IsNew (stages history top deletes (Some (Made.Copied number source)) props text old)
         (stages others top deletes (Some (Made.Copied w p)) others_props text new)) (sym m.2)
@@ -174,27 +174,27 @@ followed settings IsNew (Some t) (Some u) f old at =
 -- a kept change
 pub change_follows : (settings : Settings) (IsNew : NewProperty) (IsNumber : NewNumber) → KeepsEntries IsNew
     → (history others : History) (before after restricted : Tree) (c d : Change)
-    → AllHaveFolders history → AreRestricted settings IsNew IsNumber history others
-    → HasFolders before → IsRestricted settings IsNew before restricted
+    → AllHaveDirectories history → AreRestricted settings IsNew IsNumber history others
+    → HasDirectories before → IsRestricted settings IsNew before restricted
     → Separates settings history before c after → IsTrue (keeps settings c.path)
     → IsNewChange settings IsNew IsNumber c d
     → Follows settings IsNew (step history before c) (step others restricted d)
-change_follows settings IsNew IsNumber entries history others before after restricted c d all same folders r apart is
+change_follows settings IsNew IsNumber entries history others before after restricted c d all same directories r apart is
     new =
     let moved = ap (λ p. stages others p d.deletes d.made d.props d.text restricted) new.path
     ∙ (ap (λ b. stages others c.path b d.made d.props d.text restricted) new.deletes
     ∙ ap (λ t. stages others c.path c.deletes d.made d.props t restricted) new.text) in
     subst (λ o. Follows settings IsNew (step history before c) o) (sym moved)
     (kept_follows settings IsNew IsNumber entries history others all same c.path is c.deletes c.props d.props new.props
-    c.text before restricted r c.made d.made new.made folders (apart.copy is) (apart.plain is))
+    c.text before restricted r c.made d.made new.made directories (apart.copy is) (apart.plain is))
 
 -- the law of a kept change, for each relation of new properties and of new numbers
 pub kept_step : (settings : Settings) (IsNew : NewProperty) (IsNumber : NewNumber) → KeepsEntries IsNew
     → KeptStepRestricts settings IsNew IsNumber
-kept_step settings IsNew IsNumber entries history others before after restricted c d all same folders r at apart is
+kept_step settings IsNew IsNumber entries history others before after restricted c d all same directories r at apart is
     new =
     followed settings IsNew (step history before c) (step others restricted d)
-    (change_follows settings IsNew IsNumber entries history others before after restricted c d all same folders r apart
+    (change_follows settings IsNew IsNumber entries history others before after restricted c d all same directories r apart
     is new) after at
 
 -- a dropped change

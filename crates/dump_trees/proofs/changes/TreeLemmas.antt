@@ -1,5 +1,5 @@
 -- Trees: what exists at a path and below it, and which of it the restricted tree has.
-use Rattle.dump_trees.proofs.Prelude.{◌≡◌, option_map, cond, bytes_eq, IsTrue, IsFalse, refl, sym, ap, ◌∙◌, subst, append-nil, both_ways, bytes_eq-Decides, Settings, NodePath, keeps, below, parent_of, Node, Tree, is_folder, at_or_below, grafted, at_top, put, is_folder_at, has_folder, given, NewProperty, IsNewNode, IsRestricted}
+use Rattle.dump_trees.proofs.Prelude.{◌≡◌, option_map, cond, bytes_eq, IsTrue, IsFalse, refl, sym, ap, ◌∙◌, subst, append-nil, both_ways, bytes_eq-Decides, Settings, NodePath, keeps, below, parent_of, Node, Tree, is_directory_node, at_or_below, grafted, at_top, put, is_directory_at, has_directory, given, NewProperty, IsNewNode, IsRestricted}
 use Rattle.std.proofs.Common.{ℕ, Bool, true, false, List, [], ◌∷◌, ◌++◌, Option, Some, None, is_some}
 use Rattle.dump_trees.proofs.paths.KeptPaths.{gives_nothing, gives_above}
 
@@ -55,19 +55,19 @@ parent_rest (name ∷ other ∷ path) parent is =
 pub same_presence : (IsNew : NewProperty) (a b : Option Node) → IsNewNode IsNew a b → is_some a ≡ is_some b
 same_presence IsNew None None new = refl
 same_presence IsNew None (Some b) new = absurd new
-same_presence IsNew (Some (Node.Folder props)) None new = absurd new
+same_presence IsNew (Some (Node.Directory props)) None new = absurd new
 same_presence IsNew (Some (Node.File props text)) None new = absurd new
 same_presence IsNew (Some a) (Some b) new = refl
 
 -- one is a directory exactly if the other is
-pub same_kind : (IsNew : NewProperty) (a b : Option Node) → IsNewNode IsNew a b → is_folder a ≡ is_folder b
+pub same_kind : (IsNew : NewProperty) (a b : Option Node) → IsNewNode IsNew a b → is_directory_node a ≡ is_directory_node b
 same_kind IsNew None None new = refl
 same_kind IsNew None (Some b) new = absurd new
-same_kind IsNew (Some (Node.Folder props)) None new = absurd new
+same_kind IsNew (Some (Node.Directory props)) None new = absurd new
 same_kind IsNew (Some (Node.File props text)) None new = absurd new
-same_kind IsNew (Some (Node.Folder props)) (Some (Node.Folder others)) new = refl
-same_kind IsNew (Some (Node.Folder props)) (Some (Node.File others text)) new = absurd new
-same_kind IsNew (Some (Node.File props text)) (Some (Node.Folder others)) new = absurd new
+same_kind IsNew (Some (Node.Directory props)) (Some (Node.Directory others)) new = refl
+same_kind IsNew (Some (Node.Directory props)) (Some (Node.File others text)) new = absurd new
+same_kind IsNew (Some (Node.File props text)) (Some (Node.Directory others)) new = absurd new
 same_kind IsNew (Some (Node.File props text)) (Some (Node.File others same)) new = refl
 
 nothing_new : (IsNew : NewProperty) (a b : Option Node) → IsNewNode IsNew a b → a ≡ None → b ≡ None
@@ -126,22 +126,22 @@ module _ (settings : Settings) (IsNew : NewProperty) where
           (λ kept. node, λ left. absurd (both_ways _ left is))
 
   -- a kept path that is in a directory is in one in the restricted tree too
-  pub folder_restricted : (old new : Tree) → IsRestricted settings IsNew old new → (top : NodePath)
-      → IsTrue (keeps settings top) → has_folder old top ≡ true → has_folder new top ≡ true
-  folder_restricted old new r top is = cases (parent_of top) refl
+  pub directory_restricted : (old new : Tree) → IsRestricted settings IsNew old new → (top : NodePath)
+      → IsTrue (keeps settings top) → has_directory old top ≡ true → has_directory new top ≡ true
+  directory_restricted old new r top is = cases (parent_of top) refl
     where
-      given_folder : (parent : NodePath) (name : List ℕ) → top ≡ parent ++ name ∷ [] → keeps settings parent ≡ false
-          → is_folder (new parent) ≡ true
-      given_folder parent name at left =
-          ap is_folder (r.left parent left)
+      given_directory : (parent : NodePath) (name : List ℕ) → top ≡ parent ++ name ∷ [] → keeps settings parent ≡ false
+          → is_directory_node (new parent) ≡ true
+      given_directory parent name at left =
+          ap is_directory_node (r.left parent left)
           ∙ gives_above settings parent (name ∷ []) (subst (λ p. IsTrue (keeps settings p)) at is) left
 
       sides : (parent : NodePath) → parent_of top ≡ Some parent → (b : Bool) → keeps settings parent ≡ b
-          → is_folder (old parent) ≡ true → is_folder (new parent) ≡ true
+          → is_directory_node (old parent) ≡ true → is_directory_node (new parent) ≡ true
       sides parent at true kept some = sym (same_kind IsNew _ _ (r.kept parent kept)) ∙ some
       sides parent at false left some =
-          let rest = parent_rest top parent at in given_folder parent rest.0 rest.1 left
+          let rest = parent_rest top parent at in given_directory parent rest.0 rest.1 left
 
-      cases : (o : Option NodePath) → parent_of top ≡ o → is_folder_at old o ≡ true → is_folder_at new o ≡ true
+      cases : (o : Option NodePath) → parent_of top ≡ o → is_directory_at old o ≡ true → is_directory_at new o ≡ true
       cases None at some = some
       cases (Some parent) at some = sides parent at (keeps settings parent) refl some

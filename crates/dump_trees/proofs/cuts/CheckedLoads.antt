@@ -406,7 +406,7 @@ module _ (told : ToldKinds) (first : Tree) (placed : List Placed) where
 
       source_same : (made : Option Made) → source_told told placed (1 + length front) made ≡ source_kind (slice_get trees) made
       source_same None = refl
-      source_same (Some Made.NewFolder) = refl
+      source_same (Some Made.NewDirectory) = refl
       source_same (Some Made.NewFile) = refl
       source_same (Some (Made.Copied number source)) =
           by_number number (told (end_of placed number) source) None

@@ -1,5 +1,5 @@
 -- A load takes a change exactly if the kinds at single paths allow it.
-use Rattle.dump_trees.proofs.Prelude.{◌≡◌, not, ◌||◌, cond, refl, sym, ap, ap₂, ◌∙◌, append-nil, option_map, IfSome, Property, NodePath, parent_of, Node, Tree, is_folder, grafted, at_or_below, at_top, put, empty_tree, Made, PropertyChange, TextChange, Change, History, is_folder_at, has_folder, deleted, copied, made_in, with_props, with_text, props_put, props_set, text_set, step, is_root}
+use Rattle.dump_trees.proofs.Prelude.{◌≡◌, not, ◌||◌, cond, refl, sym, ap, ap₂, ◌∙◌, append-nil, option_map, IfSome, Property, NodePath, parent_of, Node, Tree, is_directory_node, grafted, at_or_below, at_top, put, empty_tree, Made, PropertyChange, TextChange, Change, History, is_directory_at, has_directory, deleted, copied, made_in, with_props, with_text, props_put, props_set, text_set, step, is_root}
 use Rattle.std.proofs.Common.{ℕ, Bool, true, false, ◌&&◌, List, [], ◌∷◌, ◌++◌, Option, Some, None, option_and_then, is_some, is_none}
 use Rattle.std.proofs.lemmas.Option.{same_Some}
 use Rattle.dump_trees.specs.Looking.{left_by, origin_of, node_with_props}
@@ -17,13 +17,13 @@ kind_none : (o : Option Node) → is_none (option_map kind_of_node o) ≡ is_non
 kind_none None = refl
 kind_none (Some node) = refl
 
-kind_directory : (o : Option Node) → is_directory (option_map kind_of_node o) ≡ is_folder o
+kind_directory : (o : Option Node) → is_directory (option_map kind_of_node o) ≡ is_directory_node o
 kind_directory None = refl
-kind_directory (Some (Node.Folder props)) = refl
+kind_directory (Some (Node.Directory props)) = refl
 kind_directory (Some (Node.File props text)) = refl
 
 pub parent_directory : (tree : Tree) (parent : Option NodePath)
-    → is_directory (option_and_then (λ p. kind_at tree p) parent) ≡ is_folder_at tree parent
+    → is_directory (option_and_then (λ p. kind_at tree p) parent) ≡ is_directory_at tree parent
 parent_directory tree None = refl
 parent_directory tree (Some parent) = kind_directory (tree parent)
 
@@ -39,7 +39,7 @@ holds_if P false tree is = tt
 
 -- this node is at the top of the tree, and this says whether its parent is a directory
 abbrev IsThere : NodePath → Option Node → Bool → Tree → Type 0
-IsThere top node parent tree = (tree top ≡ node) × (has_folder tree top ≡ parent)
+IsThere top node parent tree = (tree top ≡ node) × (has_directory tree top ≡ parent)
 
 some_then : (f : Tree → Option Tree) (o : Option Tree) (a b : Bool) → is_some o ≡ a
     → IfSome o (λ t. is_some (f t) ≡ b) → is_some (option_and_then f o) ≡ (a && b)
@@ -79,23 +79,23 @@ deleted_some true top tree =
     ∙ ap₂ (λ a b. a && b) (root_parent top) (sym (kind_some (tree top)))
 
 deleted_there : (deletes : Bool) (top : NodePath) (tree : Tree)
-    → IfSome (deleted deletes top tree) (IsThere top (left_of deletes (tree top)) (has_folder tree top))
+    → IfSome (deleted deletes top tree) (IsThere top (left_of deletes (tree top)) (has_directory tree top))
 deleted_there false top tree = (refl, refl)
 deleted_there true top tree =
-    holds_if (IsThere top None (has_folder tree top)) (is_some (parent_of top) && is_some (tree top))
+    holds_if (IsThere top None (has_directory tree top)) (is_some (parent_of top) && is_some (tree top))
     (grafted top empty_tree tree)
     (ap (λ o. at_or_below o empty_tree (tree top)) (below_top top), cases (parent_of top) refl)
   where
-    cases : (o : Option NodePath) → parent_of top ≡ o → is_folder_at (grafted top empty_tree tree) o ≡ is_folder_at tree o
+    cases : (o : Option NodePath) → parent_of top ≡ o → is_directory_at (grafted top empty_tree tree) o ≡ is_directory_at tree o
     cases None is = refl
     cases (Some parent) is =
-        ap (λ o. is_folder (at_or_below o empty_tree (tree parent))) (parent_apart top parent is)
+        ap (λ o. is_directory_node (at_or_below o empty_tree (tree parent))) (parent_apart top parent is)
 
 -- what is made
 
 abbrev pub made_node : History → Option Made → Option Node → Option Node
 made_node history None left = left
-made_node history (Some Made.NewFolder) left = Some (Node.Folder [])
+made_node history (Some Made.NewDirectory) left = Some (Node.Directory [])
 made_node history (Some Made.NewFile) left = Some (Node.File [] [])
 made_node history (Some (Made.Copied number source)) left =
     option_and_then (λ tree. tree (source ++ [])) (history number)
@@ -106,7 +106,7 @@ put_there top n tree = ap (λ o. at_top o n (tree top)) (below_top top)
 -- whether it may be made, by the nodes
 abbrev may_make : History → Option Made → Option Node → Bool → Bool
 may_make history None left parent = true
-may_make history (Some Made.NewFolder) left parent = is_none left && parent
+may_make history (Some Made.NewDirectory) left parent = is_none left && parent
 may_make history (Some Made.NewFile) left parent = is_none left && parent
 may_make history (Some (Made.Copied number source)) left parent =
     is_some (option_and_then (λ tree. tree (source ++ [])) (history number)) && parent
@@ -115,11 +115,11 @@ made_some : (history : History) (made : Option Made) (top : NodePath) (left : Op
     → IsThere top left parent tree
     → is_some (made_in history made top tree) ≡ may_make history made left parent
 made_some history None top left parent tree there = refl
-made_some history (Some Made.NewFolder) top left parent tree there =
-    some_if (is_none (tree top) && has_folder tree top) (put top (Node.Folder []) tree)
+made_some history (Some Made.NewDirectory) top left parent tree there =
+    some_if (is_none (tree top) && has_directory tree top) (put top (Node.Directory []) tree)
     ∙ ap₂ (λ o b. is_none o && b) there.0 there.1
 made_some history (Some Made.NewFile) top left parent tree there =
-    some_if (is_none (tree top) && has_folder tree top) (put top (Node.File [] []) tree)
+    some_if (is_none (tree top) && has_directory tree top) (put top (Node.File [] []) tree)
     ∙ ap₂ (λ o b. is_none o && b) there.0 there.1
 made_some history (Some (Made.Copied number source)) top left parent tree there = cases (history number)
   where
@@ -127,18 +127,18 @@ made_some history (Some (Made.Copied number source)) top left parent tree there 
         ≡ (is_some (option_and_then (λ old. old (source ++ [])) o) && parent)
     cases None = refl
     cases (Some old) =
-        some_if (is_some (old source) && has_folder tree top) (grafted top (λ rest. old (source ++ rest)) tree)
+        some_if (is_some (old source) && has_directory tree top) (grafted top (λ rest. old (source ++ rest)) tree)
         ∙ ap₂ (λ p b. is_some (old p) && b) (sym (append-nil source)) there.1
 
 made_there : (history : History) (made : Option Made) (top : NodePath) (left : Option Node) (parent : Bool) (tree : Tree)
     → IsThere top left parent tree
     → IfSome (made_in history made top tree) (λ t. t top ≡ made_node history made left)
 made_there history None top left parent tree there = there.0
-made_there history (Some Made.NewFolder) top left parent tree there =
-    holds_if (λ t. t top ≡ Some (Node.Folder [])) (is_none (tree top) && has_folder tree top)
-    (put top (Node.Folder []) tree) (put_there top (Node.Folder []) tree)
+made_there history (Some Made.NewDirectory) top left parent tree there =
+    holds_if (λ t. t top ≡ Some (Node.Directory [])) (is_none (tree top) && has_directory tree top)
+    (put top (Node.Directory []) tree) (put_there top (Node.Directory []) tree)
 made_there history (Some Made.NewFile) top left parent tree there =
-    holds_if (λ t. t top ≡ Some (Node.File [] [])) (is_none (tree top) && has_folder tree top)
+    holds_if (λ t. t top ≡ Some (Node.File [] [])) (is_none (tree top) && has_directory tree top)
     (put top (Node.File [] []) tree) (put_there top (Node.File [] []) tree)
 made_there history (Some (Made.Copied number source)) top left parent tree there = cases (history number)
   where
@@ -146,7 +146,7 @@ made_there history (Some (Made.Copied number source)) top left parent tree there
         (λ t. t top ≡ option_and_then (λ old. old (source ++ [])) o)
     cases None = tt
     cases (Some old) =
-        holds_if (λ t. t top ≡ old (source ++ [])) (is_some (old source) && has_folder tree top)
+        holds_if (λ t. t top ≡ old (source ++ [])) (is_some (old source) && has_directory tree top)
         (grafted top (λ rest. old (source ++ rest)) tree)
         (ap (λ o. at_or_below o (λ rest. old (source ++ rest)) (tree top)) (below_top top))
 
@@ -164,7 +164,7 @@ puts_there change top tree (Some node) = put_there top (with_props change node) 
 
 no_edit : (o : Option Node) → o ≡ option_map (with_props (PropertyChange.Edited [])) o
 no_edit None = refl
-no_edit (Some (Node.Folder props)) = refl
+no_edit (Some (Node.Directory props)) = refl
 no_edit (Some (Node.File props text)) = refl
 
 set_some : (props : Option PropertyChange) (top : NodePath) (old : Option Node) (tree : Tree) → tree top ≡ old
@@ -210,7 +210,7 @@ text_some (Some change) top old tree at =
         → is_some (option_map (λ n. put top n tree) (option_and_then (λ n. with_text change n) o))
         ≡ (is_file (option_map kind_of_node o) && delta_applies (Some change) o)
     cases change None = refl
-    cases change (Some (Node.Folder props)) = refl
+    cases change (Some (Node.Directory props)) = refl
     cases (TextChange.Replaced text) (Some (Node.File props old)) = refl
     cases (TextChange.Patched patch) (Some (Node.File props old)) = new_some props (patch old)
 
@@ -230,7 +230,7 @@ pub kind_of_made : (history : History) (made : Option Made) (left : Option Node)
     → option_map kind_of_node (made_node history made left)
     ≡ kind_made made (option_map kind_of_node left) (source_kind history made)
 kind_of_made history None left = refl
-kind_of_made history (Some Made.NewFolder) left = refl
+kind_of_made history (Some Made.NewDirectory) left = refl
 kind_of_made history (Some Made.NewFile) left = refl
 kind_of_made history (Some (Made.Copied number source)) left = source_is source (history number)
 
@@ -238,7 +238,7 @@ pub kind_with_props : (props : Option PropertyChange) (o : Option Node)
     → option_map kind_of_node (node_with_props props o) ≡ option_map kind_of_node o
 kind_with_props None o = refl
 kind_with_props (Some change) None = refl
-kind_with_props (Some change) (Some (Node.Folder props)) = refl
+kind_with_props (Some change) (Some (Node.Directory props)) = refl
 kind_with_props (Some change) (Some (Node.File props text)) = refl
 
 delta_with_props : (text : Option TextChange) (props : Option PropertyChange) (o : Option Node)
@@ -247,7 +247,7 @@ delta_with_props text None o = refl
 delta_with_props None (Some change) o = refl
 delta_with_props (Some (TextChange.Replaced text)) (Some change) o = refl
 delta_with_props (Some (TextChange.Patched patch)) (Some change) None = refl
-delta_with_props (Some (TextChange.Patched patch)) (Some change) (Some (Node.Folder props)) = refl
+delta_with_props (Some (TextChange.Patched patch)) (Some change) (Some (Node.Directory props)) = refl
 delta_with_props (Some (TextChange.Patched patch)) (Some change) (Some (Node.File props text)) = refl
 
 -- what is made over what is left
@@ -259,7 +259,7 @@ same_left history false old = refl
 pub same_made : (history : History) (deletes : Bool) (made : Option Made) (old : Option Node)
     → made_node history made (left_of deletes old) ≡ node_from history old (origin_of deletes made [])
 same_made history deletes None old = same_left history deletes old
-same_made history deletes (Some Made.NewFolder) old = refl
+same_made history deletes (Some Made.NewDirectory) old = refl
 same_made history deletes (Some Made.NewFile) old = refl
 same_made history deletes (Some (Made.Copied number source)) old = refl
 
@@ -267,7 +267,7 @@ may_is_allowed : (history : History) (made : Option Made) (left : Option Node) (
     → is_directory kinds.parent ≡ parent → kinds.source ≡ source_kind history made
     → may_make history made left parent ≡ making_allowed made (option_map kind_of_node left) kinds
 may_is_allowed history None left kinds parent above source = refl
-may_is_allowed history (Some Made.NewFolder) left kinds parent above source =
+may_is_allowed history (Some Made.NewDirectory) left kinds parent above source =
     ap₂ (λ a b. a && b) (sym (kind_none left)) (sym above)
 may_is_allowed history (Some Made.NewFile) left kinds parent above source =
     ap₂ (λ a b. a && b) (sym (kind_none left)) (sym above)
@@ -289,10 +289,10 @@ over_made : (history : History) (tree : Tree) (c : Change)
     → IfSome (option_and_then (λ t. made_in history c.made c.path t) (deleted c.deletes c.path tree))
     (λ t. t c.path ≡ made_over history tree c)
 over_made history tree c =
-    holds_then (IsThere c.path (left_of c.deletes (tree c.path)) (has_folder tree c.path))
+    holds_then (IsThere c.path (left_of c.deletes (tree c.path)) (has_directory tree c.path))
     (λ t. t c.path ≡ made_over history tree c) (λ t. made_in history c.made c.path t) (deleted c.deletes c.path tree)
     (deleted_there c.deletes c.path tree)
-    (λ t there. made_there history c.made c.path (left_of c.deletes (tree c.path)) (has_folder tree c.path) t there)
+    (λ t there. made_there history c.made c.path (left_of c.deletes (tree c.path)) (has_directory tree c.path) t there)
 
 before_text : (history : History) (tree : Tree) (c : Change)
     → IfSome (option_and_then (λ t. props_set c.props c.path t)
@@ -311,9 +311,9 @@ step_is_allowed history tree c =
     ((not (is_some c.text) || is_file (option_map kind_of_node node_set_there)) && delta_applies c.text node_set_there)
     (some_then (λ t. props_set c.props c.path t) two (deletes && makes) sets
     (some_then (λ t. made_in history c.made c.path t) one deletes makes (deleted_some c.deletes c.path tree)
-    (holds_weaker (IsThere c.path left (has_folder tree c.path))
+    (holds_weaker (IsThere c.path left (has_directory tree c.path))
     (λ t. is_some (made_in history c.made c.path t) ≡ makes) one (deleted_there c.deletes c.path tree)
-    (λ t there. made_some history c.made c.path left (has_folder tree c.path) t there)))
+    (λ t there. made_some history c.made c.path left (has_directory tree c.path) t there)))
     (holds_weaker (λ t. t c.path ≡ made) (λ t. is_some (props_set c.props c.path t) ≡ sets) two (over_made history tree c)
     (λ t at. set_some c.props c.path made t at)))
     (holds_weaker (λ t. t c.path ≡ node_set_there)
@@ -347,7 +347,7 @@ step_is_allowed history tree c =
     deletes = deletion_allowed c.deletes c.path kinds.here
 
     makes : Bool
-    makes = may_make history c.made left (has_folder tree c.path)
+    makes = may_make history c.made left (has_directory tree c.path)
 
     sets : Bool
     sets = not (sets_props c.props) || is_some made
@@ -366,7 +366,7 @@ step_is_allowed history tree c =
         ∙ ap (λ k. kind_made c.made k kinds.source) (kind_of_left c.deletes (tree c.path))
 
     makes_is : makes ≡ making_allowed c.made (kind_left c.deletes kinds.here) kinds
-    makes_is = may_is_allowed history c.made left kinds (has_folder tree c.path)
+    makes_is = may_is_allowed history c.made left kinds (has_directory tree c.path)
         (parent_directory tree (parent_of c.path)) refl
         ∙ ap (λ k. making_allowed c.made k kinds) (kind_of_left c.deletes (tree c.path))
 

@@ -1,5 +1,5 @@
 -- Paths that cover others, and the rests at which they begin to do so.
-use Rattle.dump_trees.proofs.Prelude.{◌≡◌, ◌⊎◌, zero, suc, ◌<◌, cond, refl, sym, ap, ap₂, ◌∙◌, inl, inr, subst, arith, filter, append-nil, append_assoc, both_ways, list_all, and_from, or_cases, or_left, or_right, NodePath, below, Tree, HasFolders, is_folder}
+use Rattle.dump_trees.proofs.Prelude.{◌≡◌, ◌⊎◌, zero, suc, ◌<◌, cond, refl, sym, ap, ap₂, ◌∙◌, inl, inr, subst, arith, filter, append-nil, append_assoc, both_ways, list_all, and_from, or_cases, or_left, or_right, NodePath, below, Tree, HasDirectories, is_directory_node}
 use Rattle.std.proofs.Common.{ℕ, Bool, true, false, List, [], ◌∷◌, ◌++◌, length, Option, Some, None, is_some, Contains}
 use Rattle.std.proofs.lemmas.Option.{same_Some}
 use Rattle.std.proofs.lemmas.List.Sums.{AllPass-from_list_all}
@@ -97,18 +97,18 @@ one_in_other (other ∷ first) (name ∷ second) first_rest second_rest same =
     ]
 
 -- something exists above what exists
-pub exists_above : (tree : Tree) → HasFolders tree → (top rest : NodePath) → is_some (tree (top ++ rest)) ≡ true
+pub exists_above : (tree : Tree) → HasDirectories tree → (top rest : NodePath) → is_some (tree (top ++ rest)) ≡ true
     → is_some (tree top) ≡ true
-exists_above tree folders top [] some = subst (λ p. is_some (tree p) ≡ true) (append-nil top) some
-exists_above tree folders top (name ∷ rest) some = cases (tree (top ++ name ∷ rest)) refl some
+exists_above tree directories top [] some = subst (λ p. is_some (tree p) ≡ true) (append-nil top) some
+exists_above tree directories top (name ∷ rest) some = cases (tree (top ++ name ∷ rest)) refl some
   where
-    folder_some : (o : Option _) → is_folder o ≡ true → is_some o ≡ true
-    folder_some None is = is
-    folder_some (Some node) is = refl
+    directory_some : (o : Option _) → is_directory_node o ≡ true → is_some o ≡ true
+    directory_some None is = is
+    directory_some (Some node) is = refl
 
     cases : (o : Option _) → tree (top ++ name ∷ rest) ≡ o → is_some o ≡ true → is_some (tree top) ≡ true
     cases None at bad = absurd (let worse : false ≡ true = bad in cc)
-    cases (Some node) at good = folder_some (tree top) (folders top name rest node at)
+    cases (Some node) at good = directory_some (tree top) (directories top name rest node at)
 
 -- covered paths
 

@@ -108,7 +108,7 @@ module _ (settings : Settings) (excluded : List NodePath) (history : History) (o
       (covered_from found first more
       (filter_has tests (rests_covered c.path excluded) first there
       (and_from (is_some (old (source ++ first))) (not (is_covered excluded (source ++ first)))
-      (exists_above old over.folders (source ++ first) more
+      (exists_above old over.directories (source ++ first) more
       (subst (λ p. is_some (old p) ≡ true) (ap (λ r. source ++ r) same ∙ sym (append_assoc source first more)) exists))
       (not_from_false _ (uncovered_above excluded (source ++ first) more
       (subst (λ p. is_covered excluded p ≡ false) (ap (λ r. source ++ r) same ∙ sym (append_assoc source first more))

@@ -4,7 +4,7 @@ use Rattle.std.proofs.Common.{Bool, true, List, [], ◌∷◌, ◌++◌, length}
 use Rattle.dump_trees.specs.Siblings.{has_node_names, have_node_names}
 use Rattle.dump_trees.specs.EverSiblings.{EverKeptInCut}
 use Rattle.dump_trees.proofs.paths.SiblingLemmas.{siblings_leave_cut}
-use Rattle.dump_trees.proofs.histories.StandingNames.{loaded_folders, loaded_names}
+use Rattle.dump_trees.proofs.histories.StandingNames.{loaded_directories, loaded_names}
 
 -- the changes of the first revisions have names
 front_names : (front : List (List Change)) (changes more : List Change) (rest : List (List Change))
@@ -29,7 +29,7 @@ pub ever_kept_in_cut : EverKeptInCut
 ever_kept_in_cut settings included siblings revisions path names excludes all once =
     siblings_leave_cut settings included siblings once.trees (length (once.front ++ once.changes ∷ [])) once.tree path excludes
     (all once.front once.changes once.more once.rest once.trees once.parted once.loads) once.last
-    (loaded_folders (once.front ++ once.changes ∷ []) once.trees (length (once.front ++ once.changes ∷ [])) once.tree
+    (loaded_directories (once.front ++ once.changes ∷ []) once.trees (length (once.front ++ once.changes ∷ [])) once.tree
     once.loads once.last)
     (loaded_names (once.front ++ once.changes ∷ []) once.trees (length (once.front ++ once.changes ∷ [])) once.tree once.loads
     (front_names once.front once.changes once.more once.rest (subst (λ r. have_node_names r ≡ true) once.parted names))

@@ -140,7 +140,7 @@ allowed_exists path deletes made props text kinds does allowed =
         → (not (is_some text) || is_file (kind_made m (kind_left d kinds.here) source)) ≡ true
         → (is_some kinds.here ≡ true) ⊎ (is_some (kind_made m (kind_left d kinds.here) source) ≡ true)
     cases true m some may makes set filed = inl (and_parts (not (is_root path)) (is_some kinds.here) may).1
-    cases false (Some Made.NewFolder) some may makes set filed = inr refl
+    cases false (Some Made.NewDirectory) some may makes set filed = inr refl
     cases false (Some Made.NewFile) some may makes set filed = inr refl
     cases false (Some (Made.Copied number from)) some may makes set filed =
         inr (and_parts (is_some source) (is_directory kinds.parent) makes).0

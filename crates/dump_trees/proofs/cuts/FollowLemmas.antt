@@ -14,7 +14,7 @@ use Rattle.dump_trees.specs.Following.{Copies, Way, from_of, to_of, IsClosed, Co
 use Rattle.dump_trees.proofs.changes.TreeLemmas.{below_found}
 use Rattle.dump_trees.proofs.histories.KeptNumbers.{get_before}
 use Rattle.dump_trees.proofs.histories.FrontLemmas.{begun_trees}
-use Rattle.dump_trees.proofs.histories.StandingNames.{loaded_folders, loaded_names}
+use Rattle.dump_trees.proofs.histories.StandingNames.{loaded_directories, loaded_names}
 use Rattle.dump_trees.proofs.expansions.StandingLemmas.{origin_in, step_has, copy_has_tree}
 use Rattle.dump_trees.proofs.cuts.CheckedSteps.{left_of, made_node, change_leaves}
 use Rattle.dump_trees.proofs.cuts.CheckedLoads.{split_at, get_some, get_front, steps_then, loaded_push, loaded_size, pushed, length_append}
@@ -508,7 +508,7 @@ done_closed way trees revisions tops is nothing = record {
         (filter_has (λ r. is_some (old (source ++ r)) && not (is_covered tops (to_of way path source ++ r)))
         (rests_covered (from_of way path source) tops) first there
         (and_from _ _
-        (exists_above old (loaded_folders revisions trees copy.number old is copy.tree) (source ++ first) more
+        (exists_above old (loaded_directories revisions trees copy.number old is copy.tree) (source ++ first) more
         (subst (λ p. is_some (old p) ≡ true) (ap (λ r. source ++ r) same ∙ sym (append_assoc source first more)) exists))
         (not_from_false _ (uncovered_above tops (to_of way path source ++ first) more
         (subst (λ p. is_covered tops p ≡ false)
@@ -538,7 +538,7 @@ module _ (settings : Settings) (trees : List Tree) (revisions : List (List Chang
     names = named;
     copies = made;
     there = there;
-    folders = loaded_folders revisions trees number old is there;
+    directories = loaded_directories revisions trees number old is there;
     named = loaded_names revisions trees number old is names there;
     path = path;
   }

@@ -61,9 +61,9 @@ text_kind (Some t) (Some (TextChange.Replaced text)) both whole None (Some n) sa
     absurd (let bad : Some (kind_of_node n) ≡ None = same in cc)
 text_kind (Some t) (Some (TextChange.Replaced text)) both whole (Some n) None same leaves =
     absurd (let bad : None ≡ Some (kind_of_node n) = same in cc)
-text_kind (Some t) (Some (TextChange.Replaced text)) both whole (Some (Node.Folder props)) (Some m) same leaves =
+text_kind (Some t) (Some (TextChange.Replaced text)) both whole (Some (Node.Directory props)) (Some m) same leaves =
     absurd (let bad : false ≡ true = leaves refl in cc)
-text_kind (Some t) (Some (TextChange.Replaced text)) both whole (Some (Node.File props old)) (Some (Node.Folder others)) same
+text_kind (Some t) (Some (TextChange.Replaced text)) both whole (Some (Node.File props old)) (Some (Node.Directory others)) same
     leaves =
     absurd (let bad : Some Kind.Directory ≡ Some Kind.File = same in cc)
 text_kind (Some t) (Some (TextChange.Replaced text)) both whole (Some (Node.File props old)) (Some (Node.File others more))

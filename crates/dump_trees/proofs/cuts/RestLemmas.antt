@@ -132,7 +132,7 @@ module _ (way : Way) (tops : List NodePath) (told : ToldKinds) (revisions : List
       by_made : (p : Placed) → slice_get here place ≡ Some p → (made : Option Made) → p.change.made ≡ made
           → Contains (rests_made way tops told here p.change.path made) rest → Found
       by_made p at None same among = absurd (contains_none rest among)
-      by_made p at (Some Made.NewFolder) same among = absurd (contains_none rest among)
+      by_made p at (Some Made.NewDirectory) same among = absurd (contains_none rest among)
       by_made p at (Some Made.NewFile) same among = absurd (contains_none rest among)
       by_made p at (Some (Made.Copied number source)) same among =
           let (old, tree) = has_tree p number source (get_contains here place p at) same in (

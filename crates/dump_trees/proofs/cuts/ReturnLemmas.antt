@@ -91,7 +91,7 @@ module _ (settings : Settings) (excluded : List NodePath) (history : History) (o
         filter_has (λ r. is_some (old (source ++ r)) && not (is_covered excluded (c.path ++ r)))
             (rests_covered source excluded) first there
             (and_from (is_some (old (source ++ first))) (not (is_covered excluded (c.path ++ first)))
-            (exists_above old over.folders (source ++ first) more
+            (exists_above old over.directories (source ++ first) more
             (subst (λ p. is_some (old p) ≡ true)
             (ap (λ r. source ++ r) same ∙ sym (append_assoc source first more)) back.exists))
             (not_from_false _ (uncovered_above excluded (c.path ++ first) more

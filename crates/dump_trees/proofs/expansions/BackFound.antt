@@ -18,7 +18,7 @@ contains_made f (x ∷ xs) y (suc k, low, is) =
 
 -- the tree of what exists in a directory
 abbrev inside_of : Branches → Tree
-inside_of inside = tree_of (Branch.Folder [] inside)
+inside_of inside = tree_of (Branch.Directory [] inside)
 
 found_has_name : (others : Branches) (name : List ℕ) (rest : NodePath) → is_some (found others name rest None) ≡ true
     → has_name name others ≡ true
@@ -73,13 +73,13 @@ module _ (settings : Settings) where
         → IsBack settings path source (tree_of branch) rest
     branch_back (Branch.File props text) path source apart rest there =
         root_back path source (tree_of (Branch.File props text)) refl rest there
-    branch_back (Branch.Folder props inside) path source apart rest there =
+    branch_back (Branch.Directory props inside) path source apart rest there =
         elim (Contains-append_cases (alone_if (keeps settings path && not (keeps settings source)))
         (inside_coming_back settings path source inside) rest there) [
-          | inl here ↦ root_back path source (tree_of (Branch.Folder props inside)) refl rest here
+          | inl here ↦ root_back path source (tree_of (Branch.Directory props inside)) refl rest here
           | inr deeper ↦
               let (name, more, same, back) = inside_back inside path source apart rest deeper in
-              subst (λ r. IsBack settings path source (tree_of (Branch.Folder props inside)) r) (sym same)
+              subst (λ r. IsBack settings path source (tree_of (Branch.Directory props inside)) r) (sym same)
               record { stands = back.stands; kept = back.kept; left = back.left }
         ]
 
@@ -142,10 +142,10 @@ module _ (settings : Settings) where
     branch_found (Branch.File props text) path source [] back = root_found path source back.kept back.left
     branch_found (Branch.File props text) path source (name ∷ rest) back =
         absurd (let bad : false ≡ true = back.stands in cc)
-    branch_found (Branch.Folder props inside) path source [] back =
+    branch_found (Branch.Directory props inside) path source [] back =
         Contains-append_left (alone_if (keeps settings path && not (keeps settings source)))
         (inside_coming_back settings path source inside) [] (root_found path source back.kept back.left)
-    branch_found (Branch.Folder props inside) path source (name ∷ rest) back =
+    branch_found (Branch.Directory props inside) path source (name ∷ rest) back =
         Contains-append_right (alone_if (keeps settings path && not (keeps settings source)))
         (inside_coming_back settings path source inside) (name ∷ rest)
         (inside_found inside path source name rest back.stands back.kept back.left)

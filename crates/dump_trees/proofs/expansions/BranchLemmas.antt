@@ -1,5 +1,5 @@
 -- What exists at a path of a tree in which a branch was put, and changes that write a branch out.
-use Rattle.dump_trees.proofs.Prelude.{◌≡◌, cond, bytes_eq, ◌||◌, refl, ap, ◌∙◌, subst, append-nil, option_map, both_ways, bytes_eq-Decides, Property, NodePath, below, parent_of, Node, Tree, HasFolders, is_folder, at_or_below, grafted, at_top, put, is_folder_at, has_folder}
+use Rattle.dump_trees.proofs.Prelude.{◌≡◌, cond, bytes_eq, ◌||◌, refl, ap, ◌∙◌, subst, append-nil, option_map, both_ways, bytes_eq-Decides, Property, NodePath, below, parent_of, Node, Tree, HasDirectories, is_directory_node, at_or_below, grafted, at_top, put, is_directory_at, has_directory}
 use Rattle.std.proofs.Common.{ℕ, Bool, true, false, List, [], ◌∷◌, ◌++◌, Option, Some, None, option_and_then}
 use Rattle.dump_trees.specs.Branches.{Branch, Branches, tree_of, found, has_name}
 use Rattle.dump_trees.proofs.changes.TreeLemmas.{below_rest, below_top, parent_rest}
@@ -60,36 +60,36 @@ pub put_twice : (top : NodePath) (n m : Node) (tree : Tree) → put top n (put t
 put_twice top n m tree = λ i. λ path. at_twice (below top path) n m (tree path) i
 
 -- outside of the path its directory is the same as before
-pub same_folder : (top : NodePath) (before after : Tree) → IsSameOutside top before after
-    → has_folder after top ≡ has_folder before top
-same_folder top before after same = cases (parent_of top) refl
+pub same_directory : (top : NodePath) (before after : Tree) → IsSameOutside top before after
+    → has_directory after top ≡ has_directory before top
+same_directory top before after same = cases (parent_of top) refl
   where
-    cases : (o : Option NodePath) → parent_of top ≡ o → is_folder_at after o ≡ is_folder_at before o
+    cases : (o : Option NodePath) → parent_of top ≡ o → is_directory_at after o ≡ is_directory_at before o
     cases None at = refl
-    cases (Some parent) at = ap is_folder (same parent (parent_apart top parent at))
+    cases (Some parent) at = ap is_directory_node (same parent (parent_apart top parent at))
 
 -- a path in a directory is in one
-pub child_folder : (tree : Tree) (path : NodePath) (name : List ℕ) → is_folder (tree path) ≡ true
-    → has_folder tree (path ++ name ∷ []) ≡ true
-child_folder tree path name is = ap (λ o. is_folder_at tree o) (parent_child path name) ∙ is
+pub child_directory : (tree : Tree) (path : NodePath) (name : List ℕ) → is_directory_node (tree path) ≡ true
+    → has_directory tree (path ++ name ∷ []) ≡ true
+child_directory tree path name is = ap (λ o. is_directory_at tree o) (parent_child path name) ∙ is
 
 -- nothing exists at the path or below it
 abbrev pub IsClear : Tree → NodePath → Type 0
 IsClear tree path = (rest : NodePath) → tree (path ++ rest) ≡ None
 
 -- if nothing exists at a path, nothing exists below it
-pub clear_below : (tree : Tree) → HasFolders tree → (path : NodePath) → tree path ≡ None → IsClear tree path
-clear_below tree folders path none [] = ap tree (append-nil path) ∙ none
-clear_below tree folders path none (name ∷ rest) = cases (tree (path ++ name ∷ rest)) refl
+pub clear_below : (tree : Tree) → HasDirectories tree → (path : NodePath) → tree path ≡ None → IsClear tree path
+clear_below tree directories path none [] = ap tree (append-nil path) ∙ none
+clear_below tree directories path none (name ∷ rest) = cases (tree (path ++ name ∷ rest)) refl
   where
     cases : (o : Option Node) → tree (path ++ name ∷ rest) ≡ o → o ≡ None
     cases None at = refl
     cases (Some node) at =
-        absurd (both_ways (is_folder (tree path)) (ap is_folder none) (folders path name rest node at))
+        absurd (both_ways (is_directory_node (tree path)) (ap is_directory_node none) (directories path name rest node at))
 
 -- the root of a branch exists
 pub root_stands : (branch : Branch) → (node : Node) × (tree_of branch [] ≡ Some node)
-root_stands (Branch.Folder props inside) = (Node.Folder props, refl)
+root_stands (Branch.Directory props inside) = (Node.Directory props, refl)
 root_stands (Branch.File props text) = (Node.File props text, refl)
 
 -- the tree that has the branches in a directory
@@ -151,13 +151,13 @@ laid_first path name branch others tree none = λ i. λ p.
         sides false apart = refl
 
 -- a directory with its branches, if nothing existed there
-pub laid_folder : (path : NodePath) (props : List Property) (inside : Branches) (tree : Tree) → IsClear tree path
-    → laid path inside (put path (Node.Folder props) tree) ≡ grafted path (tree_of (Branch.Folder props inside)) tree
-laid_folder path props inside tree clear = λ i. λ p. cases p (below path p) refl i
+pub laid_directory : (path : NodePath) (props : List Property) (inside : Branches) (tree : Tree) → IsClear tree path
+    → laid path inside (put path (Node.Directory props) tree) ≡ grafted path (tree_of (Branch.Directory props inside)) tree
+laid_directory path props inside tree clear = λ i. λ p. cases p (below path p) refl i
   where
     cases : (p : NodePath) (o : Option NodePath) → below path p ≡ o
-        → laid_at o inside (at_top o (Node.Folder props) (tree p))
-        ≡ at_or_below o (tree_of (Branch.Folder props inside)) (tree p)
+        → laid_at o inside (at_top o (Node.Directory props) (tree p))
+        ≡ at_or_below o (tree_of (Branch.Directory props inside)) (tree p)
     cases p None at = refl
     cases p (Some []) at = refl
     cases p (Some (name ∷ rest)) at =

@@ -64,8 +64,8 @@ module _ (settings : Settings) (side : settings.side ≡ Exclude) where
         → origin_in history old (origin_of deletes made rest)
         ≡ origin_in other_history other (origin_of deletes made rest)
     same_origin deletes None rest old other same copies = same_left deletes old other same
-    same_origin deletes (Some Made.NewFolder) [] old other same copies = refl
-    same_origin deletes (Some Made.NewFolder) (name ∷ rest) old other same copies = same_left deletes old other same
+    same_origin deletes (Some Made.NewDirectory) [] old other same copies = refl
+    same_origin deletes (Some Made.NewDirectory) (name ∷ rest) old other same copies = same_left deletes old other same
     same_origin deletes (Some Made.NewFile) [] old other same copies = refl
     same_origin deletes (Some Made.NewFile) (name ∷ rest) old other same copies = same_left deletes old other same
     same_origin deletes (Some (Made.Copied number source)) rest old other same copies = copies number source refl

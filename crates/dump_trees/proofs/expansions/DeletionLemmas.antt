@@ -1,5 +1,5 @@
 -- Deletions that clear paths.
-use Rattle.dump_trees.proofs.Prelude.{◌≡◌, cond, refl, ap, ◌∙◌, subst, inl, inr, option_map, list_all, list_any, both_ways, and_parts, and_from, or_cases, Settings, NodePath, keeps, below, parent_of, Node, Tree, at_or_below, grafted, empty_tree, Made, History, is_folder_at, has_folder, made_in, props_set, text_set, step, Separates}
+use Rattle.dump_trees.proofs.Prelude.{◌≡◌, cond, refl, ap, ◌∙◌, subst, inl, inr, option_map, list_all, list_any, both_ways, and_parts, and_from, or_cases, Settings, NodePath, keeps, below, parent_of, Node, Tree, at_or_below, grafted, empty_tree, Made, History, is_directory_at, has_directory, made_in, props_set, text_set, step, Separates}
 use Rattle.std.proofs.Common.{ℕ, Bool, true, false, List, [], ◌∷◌, ◌++◌, Option, Some, None, option_and_then, is_some, is_none}
 use Rattle.dump_trees.specs.Leading.{Leads}
 use Rattle.dump_trees.specs.ExpansionCases.{deletion_of}
@@ -24,9 +24,9 @@ parent_below [] name rest = parent_some name rest
 parent_below (first ∷ top) name rest = parent_some first (top ++ name ∷ rest)
 
 -- if the parent is a directory, there is a parent
-folder_parent : (tree : Tree) (o : Option NodePath) → is_folder_at tree o ≡ true → is_some o ≡ true
-folder_parent tree None is = is
-folder_parent tree (Some parent) is = refl
+directory_parent : (tree : Tree) (o : Option NodePath) → is_directory_at tree o ≡ true → is_some o ≡ true
+directory_parent tree None is = is
+directory_parent tree (Some parent) is = refl
 
 -- two paths below the same top
 pub below_both : (top rest other : NodePath) → below (top ++ rest) (top ++ other) ≡ below rest other
@@ -141,12 +141,12 @@ module _ (settings : Settings) (history : History) where
 
   -- what exists at a path is deleted, if something does
   pub clearing_leads : (path : NodePath) (tree : Tree) (b : Bool) → is_some (tree path) ≡ b
-      → has_folder tree path ≡ true → (tree path ≡ None → IsClear tree path)
+      → has_directory tree path ≡ true → (tree path ≡ None → IsClear tree path)
       → Separates settings history tree (deletion_of path) (grafted path empty_tree tree)
       → Leads settings history tree (cond b (deletion_of path ∷ []) []) (grafted path empty_tree tree)
   clearing_leads path tree true stands some clear apart =
       leads_one settings history tree (grafted path empty_tree tree) (deletion_of path)
-      (deletion_step history path tree (folder_parent tree (parent_of path) some) stands) apart
+      (deletion_step history path tree (directory_parent tree (parent_of path) some) stands) apart
   clearing_leads path tree false stands some clear apart =
       subst (λ t. Leads settings history tree [] t) (graft_nothing path tree (clear (stands_cases (tree path) stands)))
       (leads_nowhere settings history tree)

@@ -1,5 +1,5 @@
 -- What a copy needs: a source at which something exists; and one more tree that is a branch.
-use Rattle.dump_trees.proofs.Prelude.{◌≡◌, cond, refl, sym, ap, ◌∙◌, subst, inl, inr, slice_get, NodePath, Node, Tree, grafted, Made, Change, History, is_copied, has_folder, deleted, copied, made_in, props_set, text_set, step}
+use Rattle.dump_trees.proofs.Prelude.{◌≡◌, cond, refl, sym, ap, ◌∙◌, subst, inl, inr, slice_get, NodePath, Node, Tree, grafted, Made, Change, History, is_copied, has_directory, deleted, copied, made_in, props_set, text_set, step}
 use Rattle.std.proofs.Common.{ℕ, true, false, ◌&&◌, List, [], ◌∷◌, ◌++◌, Option, Some, None, option_and_then, is_some}
 use Rattle.dump_trees.proofs.histories.KeptNumbers.{get_pushed}
 use Rattle.dump_trees.proofs.expansions.FiniteSteps.{AllFinite, IsFinite}
@@ -29,13 +29,13 @@ copies_something history before after old c number source made there at =
         (option_and_then (λ from. copied source c.path t from) o))) there
         ∙ ap (λ o. option_and_then (λ u. text_set c.text c.path u)
         (option_and_then (λ u. props_set c.props c.path u)
-        (cond (is_some o && has_folder t c.path) (Some (grafted c.path (λ rest. old (source ++ rest)) t)) None)))
+        (cond (is_some o && has_directory t c.path) (Some (grafted c.path (λ rest. old (source ++ rest)) t)) None)))
         stands) ∙ done in cc)
 
 pub copy_parts : (made : Option Made) → is_copied made ≡ true
     → (number : ℕ) × (source : NodePath) × (made ≡ Some (Made.Copied number source))
 copy_parts None is = absurd (let bad : false ≡ true = is in cc)
-copy_parts (Some Made.NewFolder) is = absurd (let bad : false ≡ true = is in cc)
+copy_parts (Some Made.NewDirectory) is = absurd (let bad : false ≡ true = is in cc)
 copy_parts (Some Made.NewFile) is = absurd (let bad : false ≡ true = is in cc)
 copy_parts (Some (Made.Copied number source)) is = (number, source, refl)
 

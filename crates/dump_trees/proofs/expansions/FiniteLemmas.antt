@@ -1,5 +1,5 @@
 -- Trees that are branches remain branches if something is put in or removed.
-use Rattle.dump_trees.proofs.Prelude.{◌≡◌, not, cond, bytes_eq, refl, sym, ap, ◌∙◌, subst, option_map, both_ways, and_parts, and_from, or_parts, or_from, not-true, not_from_false, bytes_eq-Decides, Property, NodePath, below, parent_of, Node, Tree, is_folder, at_or_below, grafted, empty_tree, is_folder_at, has_folder, edited_with}
+use Rattle.dump_trees.proofs.Prelude.{◌≡◌, not, cond, bytes_eq, refl, sym, ap, ◌∙◌, subst, option_map, both_ways, and_parts, and_from, or_parts, or_from, not-true, not_from_false, bytes_eq-Decides, Property, NodePath, below, parent_of, Node, Tree, is_directory_node, at_or_below, grafted, empty_tree, is_directory_at, has_directory, edited_with}
 use Rattle.std.proofs.Common.{ℕ, Bool, true, false, ◌&&◌, List, [], ◌∷◌, ◌++◌, Option, Some, None, is_some}
 use Rattle.dump_trees.specs.Branches.{Branch, Branches, tree_of, found, has_name, is_distinct, are_distinct, HasBranch}
 use Rattle.dump_trees.proofs.expansions.BranchLemmas.{not_found}
@@ -7,7 +7,7 @@ use Rattle.dump_trees.proofs.expansions.BranchLemmas.{not_found}
 -- the properties of each node of a branch are made by some entries
 abbrev mutual
   pub HasEntries : Branch → Type 0
-  HasEntries (Branch.Folder props inside) =
+  HasEntries (Branch.Directory props inside) =
       ((entries : List Property) × (edited_with entries [] ≡ props)) × HaveEntries inside
   HasEntries (Branch.File props text) = (entries : List Property) × (edited_with entries [] ≡ props)
 
@@ -31,32 +31,32 @@ tree_if None = empty_tree
 tree_if (Some branch) = tree_of branch
 
 -- a claim about the node that a test selects, from the claims about both nodes
-folder_either : (b : Bool) (here there also_here also_there : Option Node) (node : Node)
-    → (here ≡ Some node → is_folder also_here ≡ true) → (there ≡ Some node → is_folder also_there ≡ true)
-    → cond b here there ≡ Some node → is_folder (cond b also_here also_there) ≡ true
-folder_either true here there also_here also_there node one two at = one at
-folder_either false here there also_here also_there node one two at = two at
+directory_either : (b : Bool) (here there also_here also_there : Option Node) (node : Node)
+    → (here ≡ Some node → is_directory_node also_here ≡ true) → (there ≡ Some node → is_directory_node also_there ≡ true)
+    → cond b here there ≡ Some node → is_directory_node (cond b also_here also_there) ≡ true
+directory_either true here there also_here also_there node one two at = one at
+directory_either false here there also_here also_there node one two at = two at
 
 -- each node of a branch is in directories only
 mutual
-  pub branch_folders : (branch : Branch) (top : NodePath) (name : List ℕ) (rest : NodePath) (node : Node)
-      → tree_of branch (top ++ name ∷ rest) ≡ Some node → is_folder (tree_of branch top) ≡ true
-  branch_folders (Branch.Folder props inside) [] name rest node at = refl
-  branch_folders (Branch.Folder props inside) (first ∷ top) name rest node at =
-      inside_folders inside first top name rest node at
-  branch_folders (Branch.File props text) [] name rest node at = absurd (let bad : None ≡ Some node = at in cc)
-  branch_folders (Branch.File props text) (first ∷ top) name rest node at =
+  pub branch_directories : (branch : Branch) (top : NodePath) (name : List ℕ) (rest : NodePath) (node : Node)
+      → tree_of branch (top ++ name ∷ rest) ≡ Some node → is_directory_node (tree_of branch top) ≡ true
+  branch_directories (Branch.Directory props inside) [] name rest node at = refl
+  branch_directories (Branch.Directory props inside) (first ∷ top) name rest node at =
+      inside_directories inside first top name rest node at
+  branch_directories (Branch.File props text) [] name rest node at = absurd (let bad : None ≡ Some node = at in cc)
+  branch_directories (Branch.File props text) (first ∷ top) name rest node at =
       absurd (let bad : None ≡ Some node = at in cc)
 
-  pub inside_folders : (branches : Branches) (first : List ℕ) (top : NodePath) (name : List ℕ) (rest : NodePath)
+  pub inside_directories : (branches : Branches) (first : List ℕ) (top : NodePath) (name : List ℕ) (rest : NodePath)
       (node : Node) → found branches first (top ++ name ∷ rest) None ≡ Some node
-      → is_folder (found branches first top None) ≡ true
-  inside_folders Branches.NoMore first top name rest node at = absurd (let bad : None ≡ Some node = at in cc)
-  inside_folders (Branches.Named other branch others) first top name rest node at =
-      folder_either (bytes_eq other first) (tree_of branch (top ++ name ∷ rest))
+      → is_directory_node (found branches first top None) ≡ true
+  inside_directories Branches.NoMore first top name rest node at = absurd (let bad : None ≡ Some node = at in cc)
+  inside_directories (Branches.Named other branch others) first top name rest node at =
+      directory_either (bytes_eq other first) (tree_of branch (top ++ name ∷ rest))
       (found others first (top ++ name ∷ rest) None) (tree_of branch top) (found others first top None) node
-      (λ here. branch_folders branch top name rest node here)
-      (λ there. inside_folders others first top name rest node there) at
+      (λ here. branch_directories branch top name rest node here)
+      (λ there. inside_directories others first top name rest node there) at
 
 -- a branch that is at a path of a tree
 pub record Stands (tree : Tree) (path : NodePath) : Type 0 where
@@ -93,8 +93,8 @@ mutual
       → HasEntries branch → tree_of branch path ≡ Some node → Stands (tree_of branch) path
   branch_stands branch [] node apart entries at =
       record { branch = branch; has = λ rest. refl; whole = record { apart = apart; entries = entries } }
-  branch_stands (Branch.Folder props inside) (name ∷ rest) node apart entries at =
-      inside_stands inside name rest node apart entries.1 at (tree_of (Branch.Folder props inside)) (λ more. refl)
+  branch_stands (Branch.Directory props inside) (name ∷ rest) node apart entries at =
+      inside_stands inside name rest node apart entries.1 at (tree_of (Branch.Directory props inside)) (λ more. refl)
   branch_stands (Branch.File props text) (name ∷ rest) node apart entries at =
       absurd (let bad : None ≡ Some node = at in cc)
 
@@ -123,7 +123,7 @@ added name (next ∷ rest) new = Branches.NoMore
 
 abbrev mutual
   pub replaced : List ℕ → NodePath → Option Branch → Branch → Branch
-  replaced name rest new (Branch.Folder props inside) = Branch.Folder props (replaced_inside name rest new inside)
+  replaced name rest new (Branch.Directory props inside) = Branch.Directory props (replaced_inside name rest new inside)
   replaced name rest new (Branch.File props text) = Branch.File props text
 
   pub replaced_inside : List ℕ → NodePath → Option Branch → Branches → Branches
@@ -137,7 +137,7 @@ abbrev mutual
 
 -- what is put in must be in a directory
 abbrev pub Holds : Option Branch → Tree → NodePath → Type 0
-Holds new tree path = is_some new ≡ true → has_folder tree path ≡ true
+Holds new tree path = is_some new ≡ true → has_directory tree path ≡ true
 
 holds_not : (new : Option Branch) → (is_some new ≡ true → ⊥) → (o : Option NodePath)
     → None ≡ at_or_below o (tree_if new) None
@@ -147,49 +147,49 @@ holds_not (Some branch) bad o = absurd (bad refl)
 
 -- nothing is below a file
 file_holds : (props : List Property) (text : List ℕ) (name : List ℕ) (rest : NodePath)
-    → has_folder (tree_of (Branch.File props text)) (name ∷ rest) ≡ true → ⊥
+    → has_directory (tree_of (Branch.File props text)) (name ∷ rest) ≡ true → ⊥
 file_holds props text name [] is = let bad : false ≡ true = is in cc
 file_holds props text name (next ∷ rest) is = cases (parent_of (next ∷ rest)) is
   where
     cases : (o : Option NodePath)
-        → is_folder_at (tree_of (Branch.File props text)) (option_map (λ p. name ∷ p) o) ≡ true → ⊥
+        → is_directory_at (tree_of (Branch.File props text)) (option_map (λ p. name ∷ p) o) ≡ true → ⊥
     cases None is = let bad : false ≡ true = is in cc
     cases (Some parent) is = let bad : false ≡ true = is in cc
 
 -- a directory doesn't have it at a missing name either
 none_holds : (props : List Property) (name next : List ℕ) (rest : NodePath)
-    → has_folder (tree_of (Branch.Folder props Branches.NoMore)) (name ∷ next ∷ rest) ≡ true → ⊥
+    → has_directory (tree_of (Branch.Directory props Branches.NoMore)) (name ∷ next ∷ rest) ≡ true → ⊥
 none_holds props name next rest is = cases (parent_of (next ∷ rest)) is
   where
     cases : (o : Option NodePath)
-        → is_folder_at (tree_of (Branch.Folder props Branches.NoMore)) (option_map (λ p. name ∷ p) o) ≡ true → ⊥
+        → is_directory_at (tree_of (Branch.Directory props Branches.NoMore)) (option_map (λ p. name ∷ p) o) ≡ true → ⊥
     cases None is = let bad : false ≡ true = is in cc
     cases (Some parent) is = let bad : false ≡ true = is in cc
 
 module _ (props : List Property) (first : List ℕ) (branch : Branch) (others : Branches) (name : List ℕ) where
   abbrev both : Tree
-  both = tree_of (Branch.Folder props (Branches.Named first branch others))
+  both = tree_of (Branch.Directory props (Branches.Named first branch others))
 
-  hold_others : (rest : NodePath) → bytes_eq first name ≡ false → has_folder both (name ∷ rest) ≡ true
-      → has_folder (tree_of (Branch.Folder props others)) (name ∷ rest) ≡ true
+  hold_others : (rest : NodePath) → bytes_eq first name ≡ false → has_directory both (name ∷ rest) ≡ true
+      → has_directory (tree_of (Branch.Directory props others)) (name ∷ rest) ≡ true
   hold_others [] apart is = refl
   hold_others (next ∷ rest) apart is = cases (parent_of (next ∷ rest)) is
     where
-      cases : (o : Option NodePath) → is_folder_at both (option_map (λ p. name ∷ p) o) ≡ true
-          → is_folder_at (tree_of (Branch.Folder props others)) (option_map (λ p. name ∷ p) o) ≡ true
+      cases : (o : Option NodePath) → is_directory_at both (option_map (λ p. name ∷ p) o) ≡ true
+          → is_directory_at (tree_of (Branch.Directory props others)) (option_map (λ p. name ∷ p) o) ≡ true
       cases None is = is
       cases (Some parent) is =
-          ap (λ b. is_folder (cond b (tree_of branch parent) (found others name parent None))) (sym apart) ∙ is
+          ap (λ b. is_directory_node (cond b (tree_of branch parent) (found others name parent None))) (sym apart) ∙ is
 
   hold_branch : (next : List ℕ) (rest : NodePath) → bytes_eq first name ≡ true
-      → has_folder both (name ∷ next ∷ rest) ≡ true → has_folder (tree_of branch) (next ∷ rest) ≡ true
+      → has_directory both (name ∷ next ∷ rest) ≡ true → has_directory (tree_of branch) (next ∷ rest) ≡ true
   hold_branch next rest same is = cases (parent_of (next ∷ rest)) is
     where
-      cases : (o : Option NodePath) → is_folder_at both (option_map (λ p. name ∷ p) o) ≡ true
-          → is_folder_at (tree_of branch) o ≡ true
+      cases : (o : Option NodePath) → is_directory_at both (option_map (λ p. name ∷ p) o) ≡ true
+          → is_directory_at (tree_of branch) o ≡ true
       cases None is = is
       cases (Some parent) is =
-          ap (λ b. is_folder (cond b (tree_of branch parent) (found others name parent None))) (sym same) ∙ is
+          ap (λ b. is_directory_node (cond b (tree_of branch parent) (found others name parent None))) (sym same) ∙ is
 
 -- a branch with another name doesn't change
 apart_case : (first name : List ℕ) → bytes_eq first name ≡ false → (q : List ℕ) (here left right : Option Node)
@@ -231,8 +231,8 @@ module _ (new : Option Branch) where
     pub replaced_tree : (branch : Branch) (name : List ℕ) (rest : NodePath) → is_distinct branch ≡ true
         → Holds new (tree_of branch) (name ∷ rest) → (path : NodePath)
         → tree_of (replaced name rest new branch) path ≡ grafted (name ∷ rest) (tree_if new) (tree_of branch) path
-    replaced_tree (Branch.Folder props inside) name rest apart holds [] = refl
-    replaced_tree (Branch.Folder props inside) name rest apart holds (q ∷ r) =
+    replaced_tree (Branch.Directory props inside) name rest apart holds [] = refl
+    replaced_tree (Branch.Directory props inside) name rest apart holds (q ∷ r) =
         inside_tree inside name rest props apart holds q r
     replaced_tree (Branch.File props text) name rest apart holds [] = refl
     replaced_tree (Branch.File props text) name rest apart holds (q ∷ r) =
@@ -240,7 +240,7 @@ module _ (new : Option Branch) where
 
     pub inside_tree : (branches : Branches) (name : List ℕ) (rest : NodePath) (props : List Property)
         → are_distinct branches ≡ true
-        → Holds new (tree_of (Branch.Folder props branches)) (name ∷ rest) → (q : List ℕ) (r : NodePath)
+        → Holds new (tree_of (Branch.Directory props branches)) (name ∷ rest) → (q : List ℕ) (r : NodePath)
         → found (replaced_inside name rest new branches) q r None
         ≡ at_or_below (cond (bytes_eq name q) (below rest r) None) (tree_if new) (found branches q r None)
     inside_tree Branches.NoMore name [] props apart holds q r =
@@ -374,7 +374,7 @@ module _ (new : Option Branch) (is : IsWholeIf new) where
     pub replaced_whole : (branch : Branch) (name : List ℕ) (rest : NodePath) → is_distinct branch ≡ true
         → HasEntries branch
         → (is_distinct (replaced name rest new branch) ≡ true) × HasEntries (replaced name rest new branch)
-    replaced_whole (Branch.Folder props inside) name rest apart entries =
+    replaced_whole (Branch.Directory props inside) name rest apart entries =
         let more = inside_whole inside name rest apart entries.1 in (more.0, (entries.0, more.1))
     replaced_whole (Branch.File props text) name rest apart entries = (apart, entries)
 

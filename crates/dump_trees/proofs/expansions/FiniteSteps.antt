@@ -1,12 +1,12 @@
 -- Each change of a tree that is a branch makes a tree that is a branch.
-use Rattle.dump_trees.proofs.Prelude.{◌≡◌, cond, refl, sym, ap, ◌∙◌, subst, append-nil, option_map, IfSome, and_parts, Property, NodePath, below, parent_of, Node, Tree, HasFolders, at_or_below, grafted, at_top, put, empty_tree, root_alone, Made, PropertyChange, TextChange, Change, History, is_folder_at, has_folder, deleted, node_put, copied, made_in, edited_with, with_entry, new_props, new_text, with_props, with_text, props_put, props_set, text_set, step, steps}
+use Rattle.dump_trees.proofs.Prelude.{◌≡◌, cond, refl, sym, ap, ◌∙◌, subst, append-nil, option_map, IfSome, and_parts, Property, NodePath, below, parent_of, Node, Tree, HasDirectories, at_or_below, grafted, at_top, put, empty_tree, root_alone, Made, PropertyChange, TextChange, Change, History, is_directory_at, has_directory, deleted, node_put, copied, made_in, edited_with, with_entry, new_props, new_text, with_props, with_text, props_put, props_set, text_set, step, steps}
 use Rattle.std.proofs.Common.{ℕ, Bool, true, false, ◌&&◌, List, [], ◌∷◌, ◌++◌, Option, Some, None, option_and_then, is_some, is_none}
 use Rattle.dump_trees.specs.Branches.{Branch, Branches, tree_of, HasBranch}
 use Rattle.dump_trees.specs.ExpansionCases.{branch_with_props}
 use Rattle.dump_trees.proofs.changes.TreeLemmas.{below_rest, parent_rest}
 use Rattle.dump_trees.proofs.expansions.BranchLemmas.{clear_below}
 use Rattle.dump_trees.proofs.expansions.DeletionLemmas.{parent_some}
-use Rattle.dump_trees.proofs.expansions.FiniteLemmas.{IsWhole, IsWholeIf, tree_if, branch_folders, Stands, branch_stands, replaced, Holds, replaced_tree, replaced_whole}
+use Rattle.dump_trees.proofs.expansions.FiniteLemmas.{IsWhole, IsWholeIf, tree_if, branch_directories, Stands, branch_stands, replaced, Holds, replaced_tree, replaced_whole}
 
 -- the tree is that of a branch
 pub record IsFinite (tree : Tree) : Type 0 where
@@ -19,10 +19,10 @@ abbrev pub AllFinite : History → Type 0
 AllFinite history = (number : ℕ) (tree : Tree) → history number ≡ Some tree → IsFinite tree
 
 -- each node of it is in directories only
-pub finite_folders : (tree : Tree) → IsFinite tree → HasFolders tree
-finite_folders tree f =
-    subst (λ t. HasFolders t) f.same
-    (λ top name rest node at. branch_folders f.branch top name rest node at)
+pub finite_directories : (tree : Tree) → IsFinite tree → HasDirectories tree
+finite_directories tree f =
+    subst (λ t. HasDirectories t) f.same
+    (λ top name rest node at. branch_directories f.branch top name rest node at)
 
 -- at each path at which something exists, a branch exists
 pub finite_stands : (tree : Tree) → IsFinite tree → (path : NodePath) (node : Node) → tree path ≡ Some node
@@ -34,12 +34,12 @@ finite_stands tree f path node =
 -- a new repository
 pub finite_root : IsFinite root_alone
 finite_root = record {
-  branch = Branch.Folder [] Branches.NoMore;
+  branch = Branch.Directory [] Branches.NoMore;
   same = λ i. λ path. cases path i;
   whole = record { apart = refl; entries = (([], refl), tt) };
 }
   where
-    cases : (path : NodePath) → tree_of (Branch.Folder [] Branches.NoMore) path ≡ root_alone path
+    cases : (path : NodePath) → tree_of (Branch.Directory [] Branches.NoMore) path ≡ root_alone path
     cases [] = refl
     cases (name ∷ path) = refl
 
@@ -56,15 +56,15 @@ finite_replaced tree f name rest new whole =
     })
 
 -- what is below the root is in a directory
-stands_folder : (tree : Tree) → HasFolders tree → (name : List ℕ) (rest : NodePath) (node : Node)
-    → tree (name ∷ rest) ≡ Some node → has_folder tree (name ∷ rest) ≡ true
-stands_folder tree folders name rest node at = cases (parent_of (name ∷ rest)) refl (parent_some name rest)
+stands_directory : (tree : Tree) → HasDirectories tree → (name : List ℕ) (rest : NodePath) (node : Node)
+    → tree (name ∷ rest) ≡ Some node → has_directory tree (name ∷ rest) ≡ true
+stands_directory tree directories name rest node at = cases (parent_of (name ∷ rest)) refl (parent_some name rest)
   where
-    cases : (o : Option NodePath) → parent_of (name ∷ rest) ≡ o → is_some o ≡ true → is_folder_at tree o ≡ true
+    cases : (o : Option NodePath) → parent_of (name ∷ rest) ≡ o → is_some o ≡ true → is_directory_at tree o ≡ true
     cases None is some = some
     cases (Some parent) is some =
         let last = parent_rest (name ∷ rest) parent is in
-        folders parent last.0 [] node (ap tree (sym last.1) ∙ at)
+        directories parent last.0 [] node (ap tree (sym last.1) ∙ at)
 
 -- another branch in place of what exists at a path
 finite_changed : (tree : Tree) → IsFinite tree → (top : NodePath) (node : Node) → tree top ≡ Some node → (new : Branch)
@@ -72,10 +72,10 @@ finite_changed : (tree : Tree) → IsFinite tree → (top : NodePath) (node : No
 finite_changed tree f [] node at new whole = record { branch = new; same = refl; whole = whole }
 finite_changed tree f (name ∷ rest) node at new whole =
     finite_replaced tree f name rest (Some new) whole
-    (λ some. stands_folder tree (finite_folders tree f) name rest node at)
+    (λ some. stands_directory tree (finite_directories tree f) name rest node at)
 
 -- a new branch in a directory
-finite_added : (tree : Tree) → IsFinite tree → (top : NodePath) → has_folder tree top ≡ true → (new : Branch)
+finite_added : (tree : Tree) → IsFinite tree → (top : NodePath) → has_directory tree top ≡ true → (new : Branch)
     → IsWhole new → IsFinite (grafted top (tree_of new) tree)
 finite_added tree f [] some new whole = absurd (let bad : false ≡ true = some in cc)
 finite_added tree f (name ∷ rest) some new whole =
@@ -111,7 +111,7 @@ new_entries (PropertyChange.Edited entries) old made =
 pub whole_props : (props : Option PropertyChange) (branch : Branch) → IsWhole branch
     → IsWhole (branch_with_props props branch)
 whole_props None branch is = is
-whole_props (Some change) (Branch.Folder props inside) is =
+whole_props (Some change) (Branch.Directory props inside) is =
     record { apart = is.apart; entries = (new_entries change props is.entries.0, is.entries.1) }
 whole_props (Some change) (Branch.File props text) is =
     record { apart = refl; entries = new_entries change props is.entries }
@@ -144,22 +144,22 @@ finite_new : (node : Node) (new : Branch) → tree_of new [] ≡ Some node
     → ((name : List ℕ) (rest : NodePath) → tree_of new (name ∷ rest) ≡ None) → IsWhole new → (top : NodePath)
     (tree : Tree) → IsFinite tree → IfSome (node_put node top tree) IsFinite
 finite_new node new root below_it whole top tree f =
-    finite_if (is_none (tree top) && has_folder tree top) (put top node tree) (λ both.
-    let parts = and_parts (is_none (tree top)) (has_folder tree top) both in
+    finite_if (is_none (tree top) && has_directory tree top) (put top node tree) (λ both.
+    let parts = and_parts (is_none (tree top)) (has_directory tree top) both in
     subst (λ t. IsFinite t)
     (put_branch top node new tree root
     (λ name rest. below_it name rest
-    ∙ sym (clear_below tree (finite_folders tree f) top (none_node (tree top) parts.0) (name ∷ rest))))
+    ∙ sym (clear_below tree (finite_directories tree f) top (none_node (tree top) parts.0) (name ∷ rest))))
     (finite_added tree f top parts.1 new whole))
 
 finite_copied : (source top : NodePath) (tree old : Tree) → IsFinite tree → IsFinite old
     → IfSome (copied source top tree old) IsFinite
 finite_copied source top tree old f from =
-    finite_if (is_some (old source) && has_folder tree top) (grafted top (λ rest. old (source ++ rest)) tree) (λ both.
-    let parts = and_parts (is_some (old source)) (has_folder tree top) both in
+    finite_if (is_some (old source) && has_directory tree top) (grafted top (λ rest. old (source ++ rest)) tree) (λ both.
+    let parts = and_parts (is_some (old source)) (has_directory tree top) both in
     cases (old source) refl parts.0 parts.1)
   where
-    cases : (o : Option Node) → old source ≡ o → is_some o ≡ true → has_folder tree top ≡ true
+    cases : (o : Option Node) → old source ≡ o → is_some o ≡ true → has_directory tree top ≡ true
         → IsFinite (grafted top (λ rest. old (source ++ rest)) tree)
     cases None at some there = absurd (let bad : false ≡ true = some in cc)
     cases (Some node) at some there =
@@ -170,8 +170,8 @@ finite_copied source top tree old f from =
 finite_made : (history : History) → AllFinite history → (made : Option Made) (top : NodePath) (tree : Tree)
     → IsFinite tree → IfSome (made_in history made top tree) IsFinite
 finite_made history all None top tree f = f
-finite_made history all (Some Made.NewFolder) top tree f =
-    finite_new (Node.Folder []) (Branch.Folder [] Branches.NoMore) refl (λ name rest. refl)
+finite_made history all (Some Made.NewDirectory) top tree f =
+    finite_new (Node.Directory []) (Branch.Directory [] Branches.NoMore) refl (λ name rest. refl)
     (record { apart = refl; entries = (([], refl), tt) }) top tree f
 finite_made history all (Some Made.NewFile) top tree f =
     finite_new (Node.File [] []) (Branch.File [] []) refl (λ name rest. refl)
@@ -186,8 +186,8 @@ finite_made history all (Some (Made.Copied number source)) top tree f = cases (h
 -- the root of a branch with new properties
 props_root : (change : PropertyChange) (branch : Branch) (node : Node) → tree_of branch [] ≡ Some node
     → tree_of (branch_with_props (Some change) branch) [] ≡ Some (with_props change node)
-props_root change (Branch.Folder props inside) node at =
-    let same : Node.Folder props ≡ node = (let both : Some (Node.Folder props) ≡ Some node = at in cc) in
+props_root change (Branch.Directory props inside) node at =
+    let same : Node.Directory props ≡ node = (let both : Some (Node.Directory props) ≡ Some node = at in cc) in
     ap (λ n. Some (with_props change n)) same
 props_root change (Branch.File props text) node at =
     let same : Node.File props text ≡ node = (let both : Some (Node.File props text) ≡ Some node = at in cc) in
@@ -195,7 +195,7 @@ props_root change (Branch.File props text) node at =
 
 props_below : (change : PropertyChange) (branch : Branch) (name : List ℕ) (rest : NodePath)
     → tree_of (branch_with_props (Some change) branch) (name ∷ rest) ≡ tree_of branch (name ∷ rest)
-props_below change (Branch.Folder props inside) name rest = refl
+props_below change (Branch.Directory props inside) name rest = refl
 props_below change (Branch.File props text) name rest = refl
 
 -- a branch exists at a path if a node does, and the node is its root
@@ -233,8 +233,8 @@ file_whole : (branch : Branch) (props : List Property) (old text : List ℕ) →
     → IsWhole branch
     → IsWhole (Branch.File props text)
     × ((name : List ℕ) (rest : NodePath) → tree_of branch (name ∷ rest) ≡ None)
-file_whole (Branch.Folder ps inside) props old text at is =
-    absurd (let bad : Some (Node.Folder ps) ≡ Some (Node.File props old) = at in cc)
+file_whole (Branch.Directory ps inside) props old text at is =
+    absurd (let bad : Some (Node.Directory ps) ≡ Some (Node.File props old) = at in cc)
 file_whole (Branch.File ps t) props old text at is =
     let same : ps ≡ props = (let both : Some (Node.File ps t) ≡ Some (Node.File props old) = at in cc) in
     (subst (λ qs. IsWhole (Branch.File qs text)) same (record { apart = refl; entries = is.entries }), λ name rest. refl)
@@ -247,7 +247,7 @@ finite_text (Some change) top tree f = cases (tree top) refl
     cases : (o : Option Node) → tree top ≡ o
         → IfSome (option_map (λ node. put top node tree) (option_and_then (λ node. with_text change node) o)) IsFinite
     cases None at = tt
-    cases (Some (Node.Folder props)) at = tt
+    cases (Some (Node.Directory props)) at = tt
     cases (Some (Node.File props old)) at = by_text (new_text change old)
       where
         by_text : (o : Option (List ℕ))

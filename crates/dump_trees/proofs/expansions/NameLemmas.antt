@@ -1,11 +1,11 @@
 -- Each name in a directory is one of the names that can exist there.
-use Rattle.dump_trees.proofs.Prelude.{◌≡◌, zero, suc, ◌≤◌, ◌||◌, cond, bytes_eq, refl, sym, ap, ◌∙◌, subst, inl, inr, ◌⊎◌, arith, append-nil, append_assoc, slice_get, IfSome, list_any, both_ways, or_left, or_right, or_cases, bytes_eq-Decides, NodePath, below, Node, Tree, HasFolders, root_alone, put, Made, PropertyChange, TextChange, Change, History, is_copied, deleted, made_in, node_put, has_folder, props_set, text_set, step}
+use Rattle.dump_trees.proofs.Prelude.{◌≡◌, zero, suc, ◌≤◌, ◌||◌, cond, bytes_eq, refl, sym, ap, ◌∙◌, subst, inl, inr, ◌⊎◌, arith, append-nil, append_assoc, slice_get, IfSome, list_any, both_ways, or_left, or_right, or_cases, bytes_eq-Decides, NodePath, below, Node, Tree, HasDirectories, root_alone, put, Made, PropertyChange, TextChange, Change, History, is_copied, deleted, made_in, node_put, has_directory, props_set, text_set, step}
 use Rattle.std.proofs.Common.{ℕ, Bool, true, false, ◌&&◌, List, [], ◌∷◌, ◌++◌, Option, Some, None, option_and_then, length, is_some, is_none}
 use Rattle.dump_trees.specs.Looking.{Placed, placed_from, end_of, touches_rest, touches_path, holds_there, latest, left_by, origin_of, node_with_props, node_with_text, set_by}
 use Rattle.dump_trees.specs.Listing.{name_made, name_below, names_made, names_from, names_left, names_there, names_behind, names_within, NamesAreLooked}
 use Rattle.dump_trees.proofs.changes.TreeLemmas.{below_rest, below_found}
-use Rattle.dump_trees.proofs.changes.FolderLemmas.{step_keeps}
-use Rattle.dump_trees.proofs.histories.HistoryLemmas.{root_folders}
+use Rattle.dump_trees.proofs.changes.DirectoryLemmas.{step_keeps}
+use Rattle.dump_trees.proofs.histories.HistoryLemmas.{root_directories}
 use Rattle.dump_trees.proofs.expansions.BranchLemmas.{clear_below}
 use Rattle.dump_trees.proofs.expansions.StandingLemmas.{origin_in, step_has, step_untouched, copy_has_tree}
 use Rattle.dump_trees.proofs.expansions.LookLemmas.{StepsAt, Runs, loaded_begun}
@@ -108,7 +108,7 @@ stood_before history c rest old is = cases c.deletes refl is
 
 -- a new node that replaces nothing is made at a path without a node
 new_needs_none : (history : History) (before after : Tree) (c : Change) → c.deletes ≡ false
-    → (c.made ≡ Some Made.NewFolder) ⊎ (c.made ≡ Some Made.NewFile) → step history before c ≡ Some after
+    → (c.made ≡ Some Made.NewDirectory) ⊎ (c.made ≡ Some Made.NewFile) → step history before c ≡ Some after
     → before c.path ≡ None
 new_needs_none history before after c stays (inl made) at =
     cases (before c.path) refl
@@ -118,14 +118,14 @@ new_needs_none history before after c stays (inl made) at =
   where
     cases : (o : Option Node) → before c.path ≡ o
         → option_and_then (λ t. text_set c.text c.path t)
-        (option_and_then (λ t. props_set c.props c.path t) (node_put (Node.Folder []) c.path before)) ≡ Some after
+        (option_and_then (λ t. props_set c.props c.path t) (node_put (Node.Directory []) c.path before)) ≡ Some after
         → o ≡ None
     cases None stands done = refl
     cases (Some node) stands done =
         absurd (let bad : None ≡ Some after
         = sym (ap (λ o. option_and_then (λ t. text_set c.text c.path t)
         (option_and_then (λ t. props_set c.props c.path t)
-        (cond (is_none o && has_folder before c.path) (Some (put c.path (Node.Folder []) before)) None))) stands) ∙ done
+        (cond (is_none o && has_directory before c.path) (Some (put c.path (Node.Directory []) before)) None))) stands) ∙ done
         in cc)
 new_needs_none history before after c stays (inr made) at =
     cases (before c.path) refl
@@ -142,23 +142,23 @@ new_needs_none history before after c stays (inr made) at =
         absurd (let bad : None ≡ Some after
         = sym (ap (λ o. option_and_then (λ t. text_set c.text c.path t)
         (option_and_then (λ t. props_set c.props c.path t)
-        (cond (is_none o && has_folder before c.path) (Some (put c.path (Node.File [] []) before)) None))) stands) ∙ done
+        (cond (is_none o && has_directory before c.path) (Some (put c.path (Node.File [] []) before)) None))) stands) ∙ done
         in cc)
 
 module _ (placed : List Placed) (bound : ℕ) (trees : List Tree) (runs : Runs root_alone placed bound trees) where
   -- the trees between changes have directories
-  folders_at : (more count : ℕ) → count ≤ more → (tree : Tree) → slice_get trees count ≡ Some tree → HasFolders tree
-  folders_at more zero low tree at =
+  directories_at : (more count : ℕ) → count ≤ more → (tree : Tree) → slice_get trees count ≡ Some tree → HasDirectories tree
+  directories_at more zero low tree at =
       let same : root_alone ≡ tree = (let both : Some root_alone ≡ Some tree = sym runs.start ∙ at in cc) in
-      subst (λ t. HasFolders t) same root_folders
-  folders_at zero (suc count) low tree at = absurd (omega arith)
-  folders_at (suc more) (suc count) low tree at =
+      subst (λ t. HasDirectories t) same root_directories
+  directories_at zero (suc count) low tree at = absurd (omega arith)
+  directories_at (suc more) (suc count) low tree at =
       let s = runs.each count tree at in
-      subst (λ o. IfSome o HasFolders) s.leads
+      subst (λ o. IfSome o HasDirectories) s.leads
       (step_keeps s.history
       (λ number old is. let early = s.earlier number old is in
-      folders_at more (end_of placed number) (omega arith) old (s.found number old is))
-      s.before s.at.change (folders_at more count (omega arith) s.before s.was))
+      directories_at more (end_of placed number) (omega arith) old (s.found number old is))
+      s.before s.at.change (directories_at more count (omega arith) s.before s.was))
 
   -- each name that exists is one of these, if no more than this many changes are followed
   abbrev Lists : ℕ → Type 0
@@ -199,7 +199,7 @@ module _ (placed : List Placed) (bound : ℕ) (trees : List Tree) (runs : Runs r
               → Has name (names_from (names_within more placed) placed place path (left_by d))
           sides true some = absurd (let bad : false ≡ true = some in cc)
           sides false some = from_before some
-      made_below (Some Made.NewFolder) is [] at touched some = sides s.at.change.deletes refl some
+      made_below (Some Made.NewDirectory) is [] at touched some = sides s.at.change.deletes refl some
         where
           sides : (d : Bool) → s.at.change.deletes ≡ d
               → is_some (origin_in s.history (s.before (path ++ name ∷ [])) (left_by d)) ≡ true → Has name []
@@ -207,10 +207,10 @@ module _ (placed : List Placed) (bound : ℕ) (trees : List Tree) (runs : Runs r
           sides false stays some =
               absurd (both_ways (is_some (s.before (path ++ name ∷ [])))
               (ap is_some
-              (clear_below s.before (folders_at more place low s.before s.was) path
+              (clear_below s.before (directories_at more place low s.before s.was) path
               (ap s.before (below_rest s.at.change.path path [] at ∙ append-nil s.at.change.path)
               ∙ new_needs_none s.history s.before after s.at.change stays (inl is) s.leads) (name ∷ []))) some)
-      made_below (Some Made.NewFolder) is (first ∷ rest) at touched some =
+      made_below (Some Made.NewDirectory) is (first ∷ rest) at touched some =
           absurd (gone (s.at.change.deletes)
           (elim (or_cases s.at.change.deletes (is_copied s.at.change.made) touched) [
             | inl deletes ↦ deletes
@@ -229,7 +229,7 @@ module _ (placed : List Placed) (bound : ℕ) (trees : List Tree) (runs : Runs r
           sides false stays some =
               absurd (both_ways (is_some (s.before (path ++ name ∷ [])))
               (ap is_some
-              (clear_below s.before (folders_at more place low s.before s.was) path
+              (clear_below s.before (directories_at more place low s.before s.was) path
               (ap s.before (below_rest s.at.change.path path [] at ∙ append-nil s.at.change.path)
               ∙ new_needs_none s.history s.before after s.at.change stays (inr is) s.leads) (name ∷ []))) some)
       made_below (Some Made.NewFile) is (first ∷ rest) at touched some =

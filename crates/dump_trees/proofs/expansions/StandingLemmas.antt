@@ -1,5 +1,5 @@
 -- What one change leaves at a path.
-use Rattle.dump_trees.proofs.Prelude.{◌≡◌, cond, ◌||◌, refl, sym, ap, ◌∙◌, subst, append-nil, option_map, IfSome, or_parts, NodePath, below, parent_of, Node, Tree, at_or_below, grafted, at_top, put, empty_tree, Made, PropertyChange, TextChange, Change, History, has_folder, is_copied, copied, deleted, made_in, with_props, with_text, props_put, props_set, text_set, step}
+use Rattle.dump_trees.proofs.Prelude.{◌≡◌, cond, ◌||◌, refl, sym, ap, ◌∙◌, subst, append-nil, option_map, IfSome, or_parts, NodePath, below, parent_of, Node, Tree, at_or_below, grafted, at_top, put, empty_tree, Made, PropertyChange, TextChange, Change, History, has_directory, is_copied, copied, deleted, made_in, with_props, with_text, props_put, props_set, text_set, step}
 use Rattle.std.proofs.Common.{ℕ, Bool, true, false, ◌&&◌, [], ◌∷◌, ◌++◌, Option, Some, None, option_and_then, is_some, is_none}
 use Rattle.dump_trees.specs.Looking.{touches_rest, touches_path, Origin, left_by, origin_of, node_with_props, node_with_text, set_by}
 use Rattle.dump_trees.proofs.changes.TreeLemmas.{below_rest}
@@ -20,8 +20,8 @@ kept_by false old = old
 -- what a change makes at this rest of a path
 abbrev made_at : History → Option Made → NodePath → Option Node → Option Node
 made_at history None rest old = old
-made_at history (Some Made.NewFolder) [] old = Some (Node.Folder [])
-made_at history (Some Made.NewFolder) (name ∷ rest) old = old
+made_at history (Some Made.NewDirectory) [] old = Some (Node.Directory [])
+made_at history (Some Made.NewDirectory) (name ∷ rest) old = old
 made_at history (Some Made.NewFile) [] old = Some (Node.File [] [])
 made_at history (Some Made.NewFile) (name ∷ rest) old = old
 made_at history (Some (Made.Copied number source)) rest old =
@@ -45,8 +45,8 @@ same_left history false old = refl
 same_origin : (history : History) (deletes : Bool) (made : Option Made) (rest : NodePath) (old : Option Node)
     → made_at history made rest (kept_by deletes old) ≡ origin_in history old (origin_of deletes made rest)
 same_origin history deletes None rest old = same_left history deletes old
-same_origin history deletes (Some Made.NewFolder) [] old = refl
-same_origin history deletes (Some Made.NewFolder) (name ∷ rest) old = same_left history deletes old
+same_origin history deletes (Some Made.NewDirectory) [] old = refl
+same_origin history deletes (Some Made.NewDirectory) (name ∷ rest) old = same_left history deletes old
 same_origin history deletes (Some Made.NewFile) [] old = refl
 same_origin history deletes (Some Made.NewFile) (name ∷ rest) old = same_left history deletes old
 same_origin history deletes (Some (Made.Copied number source)) rest old = refl
@@ -90,10 +90,10 @@ module _ (path top rest : NodePath) (at : below top path ≡ Some rest) where
       → Has path (at_top (Some rest) n (tree path)) (cond b (Some (put top n tree)) None)
   new_has n tree b = has_if path b (put top n tree) (at_top (Some rest) n (tree path)) (put_has n tree)
 
-same_folder_made : (history : History) (rest : NodePath) (old : Option Node)
-    → at_top (Some rest) (Node.Folder []) old ≡ made_at history (Some Made.NewFolder) rest old
-same_folder_made history [] old = refl
-same_folder_made history (name ∷ rest) old = refl
+same_directory_made : (history : History) (rest : NodePath) (old : Option Node)
+    → at_top (Some rest) (Node.Directory []) old ≡ made_at history (Some Made.NewDirectory) rest old
+same_directory_made history [] old = refl
+same_directory_made history (name ∷ rest) old = refl
 
 same_file_made : (history : History) (rest : NodePath) (old : Option Node)
     → at_top (Some rest) (Node.File [] []) old ≡ made_at history (Some Made.NewFile) rest old
@@ -103,21 +103,21 @@ same_file_made history (name ∷ rest) old = refl
 made_has : (path top rest : NodePath) → below top path ≡ Some rest → (history : History) (made : Option Made)
     (tree : Tree) → Has path (made_at history made rest (tree path)) (made_in history made top tree)
 made_has path top rest at history None tree = refl
-made_has path top rest at history (Some Made.NewFolder) tree =
-    subst (λ node. Has path node (made_in history (Some Made.NewFolder) top tree))
-    (same_folder_made history rest (tree path))
-    (new_has path top rest at (Node.Folder []) tree (is_none (tree top) && has_folder tree top))
+made_has path top rest at history (Some Made.NewDirectory) tree =
+    subst (λ node. Has path node (made_in history (Some Made.NewDirectory) top tree))
+    (same_directory_made history rest (tree path))
+    (new_has path top rest at (Node.Directory []) tree (is_none (tree top) && has_directory tree top))
 made_has path top rest at history (Some Made.NewFile) tree =
     subst (λ node. Has path node (made_in history (Some Made.NewFile) top tree))
     (same_file_made history rest (tree path))
-    (new_has path top rest at (Node.File [] []) tree (is_none (tree top) && has_folder tree top))
+    (new_has path top rest at (Node.File [] []) tree (is_none (tree top) && has_directory tree top))
 made_has path top rest at history (Some (Made.Copied number source)) tree = cases (history number)
   where
     cases : (a : Option Tree) → Has path (option_and_then (λ old. old (source ++ rest)) a)
         (option_and_then (λ old. copied source top tree old) a)
     cases None = tt
     cases (Some old) =
-        has_if path (is_some (old source) && has_folder tree top) (grafted top (λ more. old (source ++ more)) tree)
+        has_if path (is_some (old source) && has_directory tree top) (grafted top (λ more. old (source ++ more)) tree)
         (old (source ++ rest)) (graft_has path top rest at (λ more. old (source ++ more)) tree)
 
 -- what exists at the top exists at the path, if the path is the top
@@ -142,7 +142,7 @@ puts_has path top (name ∷ rest) at change tree = cases (tree top)
 
 no_edit : (o : Option Node) → o ≡ option_map (with_props (PropertyChange.Edited [])) o
 no_edit None = refl
-no_edit (Some (Node.Folder props)) = refl
+no_edit (Some (Node.Directory props)) = refl
 no_edit (Some (Node.File props text)) = refl
 
 no_edit_at : (rest : NodePath) (o : Option Node) → o ≡ props_at (Some (PropertyChange.Edited [])) rest o

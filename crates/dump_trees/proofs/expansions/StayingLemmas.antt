@@ -4,7 +4,7 @@ use Rattle.std.proofs.Common.{ℕ, Bool, true, false, not, ◌&&◌, ◌||◌, L
 use Rattle.dump_trees.specs.Expansions.{AllExpand, SeparatedRevisionsExpand}
 use Rattle.dump_trees.specs.ExpansionCases.{ExcludedChangeStays}
 use Rattle.dump_trees.proofs.quiet.QuietLemmas.{quiet_separates}
-use Rattle.dump_trees.proofs.expansions.BranchLemmas.{IsSameOutside, same_folder}
+use Rattle.dump_trees.proofs.expansions.BranchLemmas.{IsSameOutside, same_directory}
 use Rattle.dump_trees.proofs.expansions.DeletionLemmas.{graft_same}
 use Rattle.dump_trees.proofs.expansions.CaseLemmas.{separated_expands}
 
@@ -42,7 +42,7 @@ copied_same history number source top before after same = cases (history number)
         → option_and_then (λ old. copied source top after old) o
         ≡ option_and_then (λ old. copied source top before old) o
     cases None = refl
-    cases (Some old) = λ i. cond (is_some (old source) && same_folder top before after same i)
+    cases (Some old) = λ i. cond (is_some (old source) && same_directory top before after same i)
         (Some (graft_same top (λ rest. old (source ++ rest)) before after same i)) None
 
 -- if prefixes are excluded, nothing at a path that isn't kept is needed

@@ -1,12 +1,12 @@
 -- Copies with deletions after them.
-use Rattle.dump_trees.proofs.Prelude.{◌≡◌, zero, suc, ◌<◌, ◌||◌, ◌⊎◌, arith, cond, option_map, refl, sym, ap, ◌∙◌, subst, append-nil, append_assoc, list_all, list_any, both_ways, and_parts, and_from, or_parts, or_left, or_right, inl, inr, not-true, not_from_false, Exclude, Settings, NodePath, keeps, below, Node, Tree, at_or_below, grafted, at_top, put, empty_tree, Made, PropertyChange, TextChange, Change, History, has_folder, copied, deleted, made_in, with_props, with_text, props_put, props_set, text_set, step, steps, NewProperty, NewNumber, KeepsEntries, IsNewNode, AreNewProps, IsNewMade, IsRestricted, sets_whole, IsMade, IsRenumbered}
+use Rattle.dump_trees.proofs.Prelude.{◌≡◌, zero, suc, ◌<◌, ◌||◌, ◌⊎◌, arith, cond, option_map, refl, sym, ap, ◌∙◌, subst, append-nil, append_assoc, list_all, list_any, both_ways, and_parts, and_from, or_parts, or_left, or_right, inl, inr, not-true, not_from_false, Exclude, Settings, NodePath, keeps, below, Node, Tree, at_or_below, grafted, at_top, put, empty_tree, Made, PropertyChange, TextChange, Change, History, has_directory, copied, deleted, made_in, with_props, with_text, props_put, props_set, text_set, step, steps, NewProperty, NewNumber, KeepsEntries, IsNewNode, AreNewProps, IsNewMade, IsRestricted, sets_whole, IsMade, IsRenumbered}
 use Rattle.std.proofs.Common.{ℕ, Bool, true, false, not, ◌&&◌, List, [], ◌∷◌, ◌++◌, Option, Some, None, option_and_then, is_some, is_none, length, Contains}
 use Rattle.dump_trees.specs.ExpansionCases.{deletions, none_is_below}
 use Rattle.dump_trees.specs.Branches.{tree_of}
 use Rattle.dump_trees.specs.ComingBack.{coming_back}
 use Rattle.dump_trees.specs.Trimming.{CoverTaken, topmost_from, TakenTopsCover, TrimmedCopyRestricts, EachTrimmedCopyRestricts}
 use Rattle.dump_trees.proofs.paths.KeptPaths.{gives_nothing, keeps_nothing}
-use Rattle.dump_trees.proofs.changes.TreeLemmas.{below_rest, below_found, below_top, same_presence, RestrictedAt, nothing_restricted, graft_restricts, folder_restricted}
+use Rattle.dump_trees.proofs.changes.TreeLemmas.{below_rest, below_found, below_top, same_presence, RestrictedAt, nothing_restricted, graft_restricts, directory_restricted}
 use Rattle.dump_trees.proofs.changes.StageLemmas.{Follows, follows_then, follows_if, deleted_follows, props_follow, text_follows}
 use Rattle.dump_trees.proofs.changes.StepLemmas.{followed}
 use Rattle.dump_trees.proofs.expansions.BranchLemmas.{below_joined, graft_outside}
@@ -231,16 +231,16 @@ module _ (settings : Settings) (IsNew : NewProperty) (exclude : settings.side �
       → Follows settings IsNew (copied source top u old) (option_map (without top rests) (copied source top v other_old))
   copy_follows u v s =
       subst (λ o. Follows settings IsNew (copied source top u old) o)
-      (sym (cond_map (is_some (other_old source) && has_folder v top)
-      ∙ ap (λ t. cond (is_some (other_old source) && has_folder v top) (Some t) None)
+      (sym (cond_map (is_some (other_old source) && has_directory v top)
+      ∙ ap (λ t. cond (is_some (other_old source) && has_directory v top) (Some t) None)
       (without_graft top rests (λ rest. other_old (source ++ rest)) v)))
-      (follows_if settings IsNew (is_some (old source) && has_folder u top)
-      (is_some (other_old source) && has_folder v top)
+      (follows_if settings IsNew (is_some (old source) && has_directory u top)
+      (is_some (other_old source) && has_directory v top)
       (grafted top (λ rest. old (source ++ rest)) u) (grafted top taken v)
-      (λ both. let parts = and_parts (is_some (old source)) (has_folder u top) both in
-      and_from (is_some (other_old source)) (has_folder v top)
+      (λ both. let parts = and_parts (is_some (old source)) (has_directory u top) both in
+      and_from (is_some (other_old source)) (has_directory v top)
       (sym (same_presence IsNew (old source) (other_old source) (r.kept source kept_source)) ∙ parts.0)
-      (folder_restricted settings IsNew u v s top kept parts.1))
+      (directory_restricted settings IsNew u v s top kept parts.1))
       (graft_restricts settings IsNew top (λ rest. old (source ++ rest)) taken u v s taken_restricted))
     where
       cond_map : (b : Bool)
@@ -380,7 +380,7 @@ stays_copy : (settings : Settings) (IsNumber : NewNumber) (whole : Bool) (number
     → IsNewMade settings IsNumber whole (Some (Made.Copied number source)) made
     → (written : ℕ) × IsNumber number written × (made ≡ Some (Made.Copied written source))
 stays_copy settings IsNumber whole number source None kept is = absurd is
-stays_copy settings IsNumber whole number source (Some Made.NewFolder) kept is = absurd is
+stays_copy settings IsNumber whole number source (Some Made.NewDirectory) kept is = absurd is
 stays_copy settings IsNumber whole number source (Some Made.NewFile) kept is =
     absurd (both_ways (keeps settings source) is.0 kept)
 stays_copy settings IsNumber whole number source (Some (Made.Copied written same)) kept is =

@@ -1,12 +1,12 @@
 -- Trimmed histories that are renumbered.
-use Rattle.dump_trees.proofs.Prelude.{◌≡◌, zero, suc, refl, sym, ap, ◌∙◌, subst, inl, arith, append-nil, slice_get, list_any, or_parts, MatchBool, MatchBool-at_true, MatchBool-at_false, Exclude, Settings, KeptRevisions, image, keeps, Tree, HasFolders, root_alone, Change, History, steps, NewProperty, NewNumber, KeepsEntries, IsRestricted, AllHaveFolders, IsMade, loaded, EmptyRule, keeps_revision, kept_from, kept_of, IsWrittenNumber, ImagesRestrict}
+use Rattle.dump_trees.proofs.Prelude.{◌≡◌, zero, suc, refl, sym, ap, ◌∙◌, subst, inl, arith, append-nil, slice_get, list_any, or_parts, MatchBool, MatchBool-at_true, MatchBool-at_false, Exclude, Settings, KeptRevisions, image, keeps, Tree, HasDirectories, root_alone, Change, History, steps, NewProperty, NewNumber, KeepsEntries, IsRestricted, AllHaveDirectories, IsMade, loaded, EmptyRule, keeps_revision, kept_from, kept_of, IsWrittenNumber, ImagesRestrict}
 use Rattle.std.proofs.Common.{ℕ, Bool, true, false, List, [], ◌∷◌, ◌++◌, Option, Some, None, option_and_then}
 use Rattle.dump_trees.specs.Trimming.{AreTrimmedChanges, AreTrimmedFiltered, TrimmedFilteredRestricts, EachTrimmedFilteredRestricts}
-use Rattle.dump_trees.proofs.changes.FolderLemmas.{KeepsFolders}
+use Rattle.dump_trees.proofs.changes.DirectoryLemmas.{KeepsDirectories}
 use Rattle.dump_trees.proofs.changes.RevisionLemmas.{steps_keep}
 use Rattle.dump_trees.proofs.changes.CutLemmas.{gives_root}
 use Rattle.dump_trees.proofs.histories.KeptNumbers.{kept_above, image_kept}
-use Rattle.dump_trees.proofs.histories.HistoryLemmas.{root_folders, start_restricts, Ongoing, renumbered_restrict, next_kept, next_dropped, Ends, ended}
+use Rattle.dump_trees.proofs.histories.HistoryLemmas.{root_directories, start_restricts, Ongoing, renumbered_restrict, next_kept, next_dropped, Ends, ended}
 use Rattle.dump_trees.proofs.expansions.TrimmedHistories.{trimmed_revision}
 
 -- nothing is written of changes of which none is kept
@@ -51,7 +51,7 @@ module _ (settings : Settings) (IsNew : NewProperty) (entries : KeepsEntries IsN
       → (other : Tree) × (steps (slice_get others) from written ≡ Some other) × IsRestricted settings IsNew tree other
   revision_leads number trees others youngest restricted changes revisions o tree at written trimmed from r =
       trimmed_revision settings IsNew (IsWrittenNumber settings kept) entries (slice_get trees) (slice_get others) youngest
-      tree from changes written exclude o.folders
+      tree from changes written exclude o.directories
       (renumbered_restrict settings IsNew entries rule kept zero_first begun [] renumber trees others o.images) o.has r at
       trimmed
 
@@ -61,9 +61,9 @@ module _ (settings : Settings) (IsNew : NewProperty) (entries : KeepsEntries IsN
       (ended settings IsNew entries rule kept zero_first begun [] number trees others youngest restricted o final at)
   revisions_end (changes ∷ revisions) written number trees others youngest restricted o trimmed final at =
       cases (revisions_end revisions) (steps (slice_get trees) youngest changes) refl
-      (steps_keep (slice_get trees) o.folders changes youngest o.has) at
+      (steps_keep (slice_get trees) o.directories changes youngest o.has) at
     where
-      sides : Further revisions → (tree : Tree) → steps (slice_get trees) youngest changes ≡ Some tree → HasFolders tree
+      sides : Further revisions → (tree : Tree) → steps (slice_get trees) youngest changes ≡ Some tree → HasDirectories tree
           → loaded (trees ++ tree ∷ []) tree revisions ≡ Some final
           → (b : Bool) → keeps_revision settings rule changes ≡ b → AtEnd final (loaded others restricted written)
       sides further tree stepped has more true is =
@@ -90,7 +90,7 @@ module _ (settings : Settings) (IsNew : NewProperty) (entries : KeepsEntries IsN
           (sym (let both : Some other ≡ Some same = leads in let one : other ≡ same = cc in one)) restricts))
           (MatchBool-at_false _ _ is trimmed tree stepped) final more
 
-      cases : Further revisions → (a : Option Tree) → steps (slice_get trees) youngest changes ≡ a → KeepsFolders a
+      cases : Further revisions → (a : Option Tree) → steps (slice_get trees) youngest changes ≡ a → KeepsDirectories a
           → option_and_then (λ tree. loaded (trees ++ tree ∷ []) tree revisions) a ≡ Some final
           → AtEnd final (loaded others restricted written)
       cases further None stepped has bad = absurd (let worse : None ≡ Some final = bad in cc)
@@ -110,9 +110,9 @@ trimmed_filtered settings IsNew entries rule revisions written trees exclude ren
     start_tree = subst (λ t. IsRestricted settings IsNew root_alone t) (gives_root settings exclude)
         (start_restricts settings IsNew entries)
 
-    start_folders : AllHaveFolders (slice_get (root_alone ∷ []))
-    start_folders zero tree is = subst HasFolders (let both : Some root_alone ≡ Some tree = is in cc) root_folders
-    start_folders (suc n) tree is = absurd (let bad : None ≡ Some tree = is in cc)
+    start_directories : AllHaveDirectories (slice_get (root_alone ∷ []))
+    start_directories zero tree is = subst HasDirectories (let both : Some root_alone ≡ Some tree = is in cc) root_directories
+    start_directories (suc n) tree is = absurd (let bad : None ≡ Some tree = is in cc)
 
     all_numbers : (kept_of settings rule revisions).numbers ≡ 0 ∷ kept_from settings rule 1 (revisions ++ [])
     all_numbers = ap (λ rs. 0 ∷ kept_from settings rule 1 rs) (sym (append-nil revisions))
@@ -137,8 +137,8 @@ trimmed_filtered settings IsNew entries rule revisions written trees exclude ren
     start : Ongoing settings IsNew entries rule (kept_of settings rule revisions) refl
         (0 ∷ kept_from settings rule 1 revisions) [] 0 (root_alone ∷ []) (root_alone ∷ []) root_alone root_alone revisions
     start = record {
-      folders = start_folders;
-      has = root_folders;
+      directories = start_directories;
+      has = root_directories;
       restricts = start_tree;
       size = refl;
       last = refl;

@@ -1,38 +1,38 @@
 -- Changes that write a branch out make it, and the cut separates them.
-use Rattle.dump_trees.proofs.Prelude.{◌≡◌, not, cond, bytes_eq, refl, sym, ap, ◌∙◌, subst, inl, inr, ◌⊎◌, append-nil, append_assoc, option_map, both_ways, and_parts, and_from, or_left, or_right, not-true, bytes_eq-Decides, Property, Settings, NodePath, keeps, below, Node, Tree, is_folder, at_or_below, grafted, at_top, put, Made, PropertyChange, TextChange, Change, History, has_folder, edited_with, with_props, with_text, text_set, props_set, copied, step, Separates, LeavesKept}
+use Rattle.dump_trees.proofs.Prelude.{◌≡◌, not, cond, bytes_eq, refl, sym, ap, ◌∙◌, subst, inl, inr, ◌⊎◌, append-nil, append_assoc, option_map, both_ways, and_parts, and_from, or_left, or_right, not-true, bytes_eq-Decides, Property, Settings, NodePath, keeps, below, Node, Tree, is_directory_node, at_or_below, grafted, at_top, put, Made, PropertyChange, TextChange, Change, History, has_directory, edited_with, with_props, with_text, text_set, props_set, copied, step, Separates, LeavesKept}
 use Rattle.std.proofs.Common.{ℕ, Bool, true, false, ◌&&◌, List, [], ◌∷◌, ◌++◌, Option, Some, None, option_and_then, is_some, is_none}
 use Rattle.dump_trees.specs.Branches.{Branch, Branches, tree_of, has_name, is_distinct, are_distinct, HasBranch}
-use Rattle.dump_trees.specs.WritingOut.{copy_of, folder_of, file_of, IsCutAlike, IsLeftOut, IsCopied, WritesOut, WritesInside}
+use Rattle.dump_trees.specs.WritingOut.{copy_of, directory_of, file_of, IsCutAlike, IsLeftOut, IsCopied, WritesOut, WritesInside}
 use Rattle.dump_trees.specs.Leading.{Leads}
 use Rattle.dump_trees.proofs.changes.TreeLemmas.{below_rest, below_found}
 use Rattle.dump_trees.proofs.expansions.LeadLemmas.{leads_nowhere, leads_first, leads_one, leads_then}
-use Rattle.dump_trees.proofs.expansions.BranchLemmas.{graft_outside, put_at, put_twice, child_folder, child_apart, below_joined, IsClear, root_stands, laid, laid_none, laid_first, laid_folder, file_grafted}
+use Rattle.dump_trees.proofs.expansions.BranchLemmas.{graft_outside, put_at, put_twice, child_directory, child_apart, below_joined, IsClear, root_stands, laid, laid_none, laid_first, laid_directory, file_grafted}
 
 -- single changes
 
 -- if nothing exists at the path and the parent is a directory, something may be put there
-free_there : (tree : Tree) (path : NodePath) → tree path ≡ None → has_folder tree path ≡ true
-    → (is_none (tree path) && has_folder tree path) ≡ true
-free_there tree path none some = and_from (is_none (tree path)) (has_folder tree path) (ap is_none none) some
+free_there : (tree : Tree) (path : NodePath) → tree path ≡ None → has_directory tree path ≡ true
+    → (is_none (tree path) && has_directory tree path) ≡ true
+free_there tree path none some = and_from (is_none (tree path)) (has_directory tree path) (ap is_none none) some
 
 -- a new directory with its properties
-folder_step : (history : History) (path : NodePath) (entries : List Property) (tree : Tree) → tree path ≡ None
-    → has_folder tree path ≡ true
-    → step history tree (folder_of path entries)
-    ≡ Some (put path (Node.Folder (edited_with entries [])) tree)
-folder_step history path entries tree none some =
+directory_step : (history : History) (path : NodePath) (entries : List Property) (tree : Tree) → tree path ≡ None
+    → has_directory tree path ≡ true
+    → step history tree (directory_of path entries)
+    ≡ Some (put path (Node.Directory (edited_with entries [])) tree)
+directory_step history path entries tree none some =
     ap (λ b. option_and_then (λ t. text_set None path t)
     (option_and_then (λ t. props_set (Some (PropertyChange.Replaced entries)) path t)
-    (cond b (Some (put path (Node.Folder []) tree)) None)))
+    (cond b (Some (put path (Node.Directory []) tree)) None)))
     (free_there tree path none some)
     ∙ (ap (λ o. option_and_then (λ t. text_set None path t)
-    (option_map (λ node. put path (with_props (PropertyChange.Replaced entries) node) (put path (Node.Folder []) tree))
-    o)) (put_at path (Node.Folder []) tree)
-    ∙ ap Some (put_twice path (Node.Folder (edited_with entries [])) (Node.Folder []) tree))
+    (option_map (λ node. put path (with_props (PropertyChange.Replaced entries) node) (put path (Node.Directory []) tree))
+    o)) (put_at path (Node.Directory []) tree)
+    ∙ ap Some (put_twice path (Node.Directory (edited_with entries [])) (Node.Directory []) tree))
 
 -- a new file with its properties and its text
 file_step : (history : History) (path : NodePath) (entries : List Property) (text : List ℕ) (tree : Tree)
-    → tree path ≡ None → has_folder tree path ≡ true
+    → tree path ≡ None → has_directory tree path ≡ true
     → step history tree (file_of path entries text)
     ≡ Some (put path (Node.File (edited_with entries []) text) tree)
 file_step history path entries text tree none some =
@@ -69,13 +69,13 @@ module _ (settings : Settings) (history : History) where
           absurd (both_ways (keeps settings p)
           (ap (λ q. keeps settings q) (below_rest path p [] at ∙ append-nil path) ∙ left) kept)
 
-  folder_apart : (path : NodePath) (entries : List Property) (node : Node) (tree : Tree)
-      → Separates settings history tree (folder_of path entries) (put path node tree)
-  folder_apart path entries node tree = record {
+  directory_apart : (path : NodePath) (entries : List Property) (node : Node) (tree : Tree)
+      → Separates settings history tree (directory_of path entries) (put path node tree)
+  directory_apart path entries node tree = record {
     copy =
-        λ kept number source is. absurd (let bad : Some Made.NewFolder ≡ Some (Made.Copied number source) = is in cc);
+        λ kept number source is. absurd (let bad : Some Made.NewDirectory ≡ Some (Made.Copied number source) = is in cc);
     plain =
-        λ kept number source is. absurd (let bad : Some Made.NewFolder ≡ Some (Made.Copied number source) = is in cc);
+        λ kept number source is. absurd (let bad : Some Made.NewDirectory ≡ Some (Made.Copied number source) = is in cc);
     dropped = put_leaves path node tree;
   }
 
@@ -92,7 +92,7 @@ module _ (settings : Settings) (history : History) where
   -- a copy of a place with the branch
   module _ (path : NodePath) (branch : Branch) (number : ℕ) (source : NodePath) (old : Tree)
       (there : history number ≡ Some old) (stands : HasBranch old source branch) (tree : Tree) where
-    copy_step : has_folder tree path ≡ true
+    copy_step : has_directory tree path ≡ true
         → step history tree (copy_of number source path) ≡ Some (grafted path (tree_of branch) tree)
     copy_step some =
         ap (λ o. option_and_then (λ t. text_set None path t)
@@ -100,7 +100,7 @@ module _ (settings : Settings) (history : History) where
         ∙ (ap (λ b. option_and_then (λ t. text_set None path t)
         (option_and_then (λ t. props_set None path t)
         (cond b (Some (grafted path (λ rest. old (source ++ rest)) tree)) None)))
-        (and_from (is_some (old source)) (has_folder tree path)
+        (and_from (is_some (old source)) (has_directory tree path)
         (ap is_some (sym (ap old (append-nil source)) ∙ (stands [] ∙ (root_stands branch).1))) some)
         ∙ λ i. Some (grafted path (λ rest. stands rest i) tree))
 
@@ -144,7 +144,7 @@ module _ (settings : Settings) (history : History) where
         cases p kept (Some rest) at = node_there p rest kept (below_rest path p rest at) (tree_of branch rest) refl
 
   copied_leads : (path : NodePath) (branch : Branch) (changes : List Change) (tree : Tree) → IsClear tree path
-      → has_folder tree path ≡ true → IsCopied settings history path branch changes
+      → has_directory tree path ≡ true → IsCopied settings history path branch changes
       → Leads settings history tree changes (grafted path (tree_of branch) tree)
   copied_leads path branch changes tree clear some is =
       subst (λ cs. Leads settings history tree cs (grafted path (tree_of branch) tree)) (sym is.one)
@@ -153,30 +153,30 @@ module _ (settings : Settings) (history : History) where
       (copy_apart path branch is.number is.source is.old is.there is.stands tree clear is.apart))
 
   -- the root of a directory is made, and after that what is in it
-  folder_leads : (path : NodePath) (props : List Property) (inside : Branches) (entries : List Property)
-      (rest : List Change) (tree : Tree) → IsClear tree path → has_folder tree path ≡ true
+  directory_leads : (path : NodePath) (props : List Property) (inside : Branches) (entries : List Property)
+      (rest : List Change) (tree : Tree) → IsClear tree path → has_directory tree path ≡ true
       → edited_with entries [] ≡ props
-      → ((t : Tree) → is_folder (t path) ≡ true
+      → ((t : Tree) → is_directory_node (t path) ≡ true
       → ((name : List ℕ) → has_name name inside ≡ true → IsClear t (path ++ name ∷ []))
       → Leads settings history t rest (laid path inside t))
-      → Leads settings history tree (folder_of path entries ∷ rest)
-      (grafted path (tree_of (Branch.Folder props inside)) tree)
-  folder_leads path props inside entries rest tree clear some makes further =
-      subst (λ t. Leads settings history tree (folder_of path entries ∷ rest) t)
-      (laid_folder path props inside tree clear)
-      (leads_first settings history tree made (laid path inside made) (folder_of path entries) rest
-      (folder_step history path entries tree (ap tree (sym (append-nil path)) ∙ clear []) some
-      ∙ ap (λ ps. Some (put path (Node.Folder ps) tree)) makes)
-      (folder_apart path entries (Node.Folder props) tree)
-      (further made (ap is_folder (put_at path (Node.Folder props) tree)) free))
+      → Leads settings history tree (directory_of path entries ∷ rest)
+      (grafted path (tree_of (Branch.Directory props inside)) tree)
+  directory_leads path props inside entries rest tree clear some makes further =
+      subst (λ t. Leads settings history tree (directory_of path entries ∷ rest) t)
+      (laid_directory path props inside tree clear)
+      (leads_first settings history tree made (laid path inside made) (directory_of path entries) rest
+      (directory_step history path entries tree (ap tree (sym (append-nil path)) ∙ clear []) some
+      ∙ ap (λ ps. Some (put path (Node.Directory ps) tree)) makes)
+      (directory_apart path entries (Node.Directory props) tree)
+      (further made (ap is_directory_node (put_at path (Node.Directory props) tree)) free))
     where
       made : Tree
-      made = put path (Node.Folder props) tree
+      made = put path (Node.Directory props) tree
 
       free : (name : List ℕ) → has_name name inside ≡ true → IsClear made (path ++ name ∷ [])
       free name is more =
           ap made (append_assoc path (name ∷ []) more)
-          ∙ (ap (λ o. at_top o (Node.Folder props) (tree (path ++ name ∷ more))) (below_found path (name ∷ more))
+          ∙ (ap (λ o. at_top o (Node.Directory props) (tree (path ++ name ∷ more))) (below_found path (name ∷ more))
           ∙ clear (name ∷ more))
 
   -- other names stay free when a branch is made
@@ -201,14 +201,14 @@ module _ (settings : Settings) (history : History) where
 
   mutual
     pub branch_leads : (branch : Branch) (path : NodePath) (changes : List Change) (tree : Tree)
-        → is_distinct branch ≡ true → IsClear tree path → has_folder tree path ≡ true
+        → is_distinct branch ≡ true → IsClear tree path → has_directory tree path ≡ true
         → WritesOut settings history path branch changes
         → Leads settings history tree changes (grafted path (tree_of branch) tree)
-    branch_leads (Branch.Folder props inside) path changes tree apart clear some (inl is) =
-        copied_leads path (Branch.Folder props inside) changes tree clear some is
-    branch_leads (Branch.Folder props inside) path changes tree apart clear some (inr (entries, rest, same, makes, more)) =
-        subst (λ cs. Leads settings history tree cs (grafted path (tree_of (Branch.Folder props inside)) tree)) (sym same)
-        (folder_leads path props inside entries rest tree clear some makes
+    branch_leads (Branch.Directory props inside) path changes tree apart clear some (inl is) =
+        copied_leads path (Branch.Directory props inside) changes tree clear some is
+    branch_leads (Branch.Directory props inside) path changes tree apart clear some (inr (entries, rest, same, makes, more)) =
+        subst (λ cs. Leads settings history tree cs (grafted path (tree_of (Branch.Directory props inside)) tree)) (sym same)
+        (directory_leads path props inside entries rest tree clear some makes
         (λ t is free. inside_leads inside path rest t apart is free more))
     branch_leads (Branch.File props text) path changes tree apart clear some (inl is) =
         copied_leads path (Branch.File props text) changes tree clear some is
@@ -222,7 +222,7 @@ module _ (settings : Settings) (history : History) where
         (file_apart path entries text (Node.File props text) tree)))
 
     inside_leads : (branches : Branches) (path : NodePath) (changes : List Change) (tree : Tree)
-        → are_distinct branches ≡ true → is_folder (tree path) ≡ true
+        → are_distinct branches ≡ true → is_directory_node (tree path) ≡ true
         → ((name : List ℕ) → has_name name branches ≡ true → IsClear tree (path ++ name ∷ []))
         → WritesInside settings history path branches changes
         → Leads settings history tree changes (laid path branches tree)
@@ -239,9 +239,9 @@ module _ (settings : Settings) (history : History) where
         (leads_then settings history first rest tree between (laid path others between)
         (branch_leads branch (path ++ name ∷ []) first tree more.1
         (free name (or_left (bytes_eq name name) (has_name name others) ((bytes_eq-Decides name name).1 refl)))
-        (child_folder tree path name is) here)
+        (child_directory tree path name is) here)
         (inside_leads others path rest between parts.1
-        (ap is_folder (graft_outside (path ++ name ∷ []) (tree_of branch) tree path (child_apart path name)) ∙ is)
+        (ap is_directory_node (graft_outside (path ++ name ∷ []) (tree_of branch) tree path (child_apart path name)) ∙ is)
         (stays_free path name branch others tree none
         (λ other named. free other (or_right (bytes_eq name other) (has_name other others) named)))
         there)))

@@ -1,9 +1,9 @@
 -- Loading after other revisions, when the load sets new properties. To the changes it is like a filter that keeps
 -- everything.
-use Rattle.dump_trees.proofs.Prelude.{◌≡◌, ◌+◌, cond, refl, sym, ap, ◌∙◌, subst, inl, inr, append_assoc, slice_get, AllZip, Property, Exclude, Pad, Settings, Node, Tree, HasFolders, Made, Change, History, steps, given, is_given, NewProperty, KeepsEntries, NewNumber, IsNewNode, IsRestricted, sets_whole, IsNewMade, IsNewChange, AllHaveFolders, AreRestricted, IsMade, loaded, AreNewChanges, AllSeparate, made_behind, IsChangeBehind, AreRevisionsBehind, AreAlike, AllAreAlike, LoadsAlike, EachLoadsAlike}
+use Rattle.dump_trees.proofs.Prelude.{◌≡◌, ◌+◌, cond, refl, sym, ap, ◌∙◌, subst, inl, inr, append_assoc, slice_get, AllZip, Property, Exclude, Pad, Settings, Node, Tree, HasDirectories, Made, Change, History, steps, given, is_given, NewProperty, KeepsEntries, NewNumber, IsNewNode, IsRestricted, sets_whole, IsNewMade, IsNewChange, AllHaveDirectories, AreRestricted, IsMade, loaded, AreNewChanges, AllSeparate, made_behind, IsChangeBehind, AreRevisionsBehind, AreAlike, AllAreAlike, LoadsAlike, EachLoadsAlike}
 use Rattle.std.proofs.Common.{ℕ, Bool, true, false, List, [], ◌∷◌, ◌++◌, length, Option, Some, None, option_and_then}
 use Rattle.dump_trees.proofs.changes.StepLemmas.{followed}
-use Rattle.dump_trees.proofs.changes.FolderLemmas.{KeepsFolders}
+use Rattle.dump_trees.proofs.changes.DirectoryLemmas.{KeepsDirectories}
 use Rattle.dump_trees.proofs.changes.RevisionLemmas.{steps_keep, steps_follow}
 use Rattle.dump_trees.proofs.histories.KeptNumbers.{length_push, get_last, get_before, get_pushed}
 use Rattle.dump_trees.proofs.histories.MovedLemmas.{get_behind}
@@ -48,7 +48,7 @@ IsHigher count = λ old new. new ≡ count + old
 made_new : (count : ℕ) (is_whole : Bool) (made : Option Made)
     → IsNewMade none_excluded (IsHigher count) is_whole made (made_behind count made)
 made_new count is_whole None = tt
-made_new count is_whole (Some Made.NewFolder) = tt
+made_new count is_whole (Some Made.NewDirectory) = tt
 made_new count is_whole (Some Made.NewFile) = tt
 made_new count is_whole (Some (Made.Copied number source)) = (refl, refl, refl)
 
@@ -75,7 +75,7 @@ changes_new IsNew count (c ∷ changes) (d ∷ moved) (b, more) =
 module _ (IsNew : NewProperty) (entries : KeepsEntries IsNew) (older : List Tree) where
   -- the two lists of trees, so far
   record Beside (trees others : List Tree) : Type 0 where
-    folders : AllHaveFolders (slice_get trees)
+    directories : AllHaveDirectories (slice_get trees)
     size : length others ≡ length trees
     alike : AllAreAlike IsNew trees others
 
@@ -90,12 +90,12 @@ module _ (IsNew : NewProperty) (entries : KeepsEntries IsNew) (older : List Tree
       )
 
   -- one more tree in both
-  pushed : (trees others : List Tree) (tree other : Tree) → Beside trees others → HasFolders tree
+  pushed : (trees others : List Tree) (tree other : Tree) → Beside trees others → HasDirectories tree
       → AreAlike IsNew tree other → Beside (trees ++ tree ∷ []) (others ++ other ∷ [])
   pushed trees others tree other b has same = record {
-    folders = λ number t at. elim (get_pushed trees tree number t at) [
-      | inl before ↦ b.folders number t before
-      | inr last ↦ subst (λ u. HasFolders u) last.1 has
+    directories = λ number t at. elim (get_pushed trees tree number t at) [
+      | inl before ↦ b.directories number t before
+      | inr last ↦ subst (λ u. HasDirectories u) last.1 has
     ];
     size = length_push others other ∙ (ap (λ n. Rattle.std.specs.Prelude.suc n) b.size ∙ sym (length_push trees tree));
     alike = λ number t at. elim (get_pushed trees tree number t at) [
@@ -111,7 +111,7 @@ module _ (IsNew : NewProperty) (entries : KeepsEntries IsNew) (older : List Tree
 
   -- what both loads come to
   abbrev Comes : List (List Change) → List (List Change) → Type 0
-  Comes revisions moved = (trees others : List Tree) (youngest other : Tree) → HasFolders youngest
+  Comes revisions moved = (trees others : List Tree) (youngest other : Tree) → HasDirectories youngest
       → Beside trees others → AreAlike IsNew youngest other → (all : List Tree)
       → loaded trees youngest revisions ≡ Some all
       → (more : List Tree) × (loaded (older ++ others) other moved ≡ Some (older ++ more)) × Beside all more
@@ -126,22 +126,22 @@ module _ (IsNew : NewProperty) (entries : KeepsEntries IsNew) (older : List Tree
   comes (changes ∷ revisions) [] behind trees others youngest other has b same all at = absurd behind
   comes (changes ∷ revisions) (ds ∷ moved) (first, behind) trees others youngest other has b same all at =
       cases (comes revisions moved behind) (steps (slice_get trees) youngest changes) refl
-      (steps_keep (slice_get trees) b.folders changes youngest has) at
+      (steps_keep (slice_get trees) b.directories changes youngest has) at
     where
       cases : Comes revisions moved → (o : Option Tree) → steps (slice_get trees) youngest changes ≡ o
-          → KeepsFolders o → option_and_then (λ t. loaded (trees ++ t ∷ []) t revisions) o ≡ Some all
+          → KeepsDirectories o → option_and_then (λ t. loaded (trees ++ t ∷ []) t revisions) o ≡ Some all
           → (more : List Tree) × (loaded (older ++ others) other (ds ∷ moved) ≡ Some (older ++ more)) × Beside all more
-      cases further None is folders rest = absurd (let bad : None ≡ Some all = rest in cc)
-      cases further (Some tree) is folders rest =
+      cases further None is directories rest = absurd (let bad : None ≡ Some all = rest in cc)
+      cases further (Some tree) is directories rest =
           let (new, steps_are, r) = followed none_excluded IsNew (steps (slice_get trees) youngest changes)
           (steps (slice_get (older ++ others)) other ds)
           (steps_follow none_excluded IsNew (IsHigher (length older)) entries (slice_get trees)
-          (slice_get (older ++ others)) b.folders (copies_alike trees others b) changes ds youngest other has
+          (slice_get (older ++ others)) b.directories (copies_alike trees others b) changes ds youngest other has
           (restricted IsNew youngest other same) (all_separate (slice_get trees) youngest changes)
           (changes_new IsNew (length older) changes ds first)) tree is in
           let now : AreAlike IsNew tree new = (λ path. r.kept path refl) in
-          let (more, loads, beside) = further (trees ++ tree ∷ []) (others ++ new ∷ []) tree new folders
-          (pushed trees others tree new b folders now) now all rest in (
+          let (more, loads, beside) = further (trees ++ tree ∷ []) (others ++ new ∷ []) tree new directories
+          (pushed trees others tree new b directories now) now all rest in (
             more,
             ap (option_and_then (λ t. loaded ((older ++ others) ++ t ∷ []) t moved)) steps_are
                 ∙ (ap (λ ts. loaded ts new moved) (append_assoc older others (new ∷ [])) ∙ loads),
@@ -151,16 +151,16 @@ module _ (IsNew : NewProperty) (entries : KeepsEntries IsNew) (older : List Tree
 -- after older revisions a dump makes trees that differ only in new properties, for each relation of these that keeps
 -- entries
 pub loads_alike : (IsNew : NewProperty) → KeepsEntries IsNew → LoadsAlike IsNew
-loads_alike IsNew entries older first revisions moved trees folders alike behind at =
+loads_alike IsNew entries older first revisions moved trees directories alike behind at =
     let (others, loads, beside) = comes IsNew entries older revisions moved behind (first ∷ []) (first ∷ []) first first
-    folders begun alike trees at in
+    directories begun alike trees at in
     (others, loads, beside.size, beside.alike)
   where
     begun : Beside IsNew entries older (first ∷ []) (first ∷ [])
     begun = record {
-      folders = λ number t at. elim (get_pushed [] first number t at) [
+      directories = λ number t at. elim (get_pushed [] first number t at) [
         | inl before ↦ absurd (let bad : None ≡ Some t = before in cc)
-        | inr last ↦ subst (λ u. HasFolders u) last.1 folders
+        | inr last ↦ subst (λ u. HasDirectories u) last.1 directories
       ];
       size = refl;
       alike = λ number t at. elim (get_pushed [] first number t at) [
@@ -178,7 +178,7 @@ pub given_alike : (settings : Settings) (IsNew : NewProperty) → AreAlike IsNew
 given_alike settings IsNew path = cases (is_given settings path)
   where
     cases : (b : Bool)
-        → IsNewNode IsNew (cond b (Some (Node.Folder [])) None) (cond b (Some (Node.Folder [])) None)
+        → IsNewNode IsNew (cond b (Some (Node.Directory [])) None) (cond b (Some (Node.Directory [])) None)
     cases true = tt
     cases false = tt
 
@@ -203,16 +203,16 @@ module _ (First Second : NewProperty) where
   both_nodes None None None first second = tt
   both_nodes None None (Some n) first second = absurd second
   both_nodes None (Some m) new first second = absurd first
-  both_nodes (Some (Node.Folder ps)) None new first second = absurd first
+  both_nodes (Some (Node.Directory ps)) None new first second = absurd first
   both_nodes (Some (Node.File ps text)) None new first second = absurd first
-  both_nodes (Some (Node.Folder ps)) (Some (Node.File qs text)) new first second = absurd first
-  both_nodes (Some (Node.File ps text)) (Some (Node.Folder qs)) new first second = absurd first
-  both_nodes (Some (Node.Folder ps)) (Some (Node.Folder qs)) None first second = absurd second
-  both_nodes (Some (Node.Folder ps)) (Some (Node.Folder qs)) (Some (Node.File rs text)) first second = absurd second
-  both_nodes (Some (Node.Folder ps)) (Some (Node.Folder qs)) (Some (Node.Folder rs)) first second =
+  both_nodes (Some (Node.Directory ps)) (Some (Node.File qs text)) new first second = absurd first
+  both_nodes (Some (Node.File ps text)) (Some (Node.Directory qs)) new first second = absurd first
+  both_nodes (Some (Node.Directory ps)) (Some (Node.Directory qs)) None first second = absurd second
+  both_nodes (Some (Node.Directory ps)) (Some (Node.Directory qs)) (Some (Node.File rs text)) first second = absurd second
+  both_nodes (Some (Node.Directory ps)) (Some (Node.Directory qs)) (Some (Node.Directory rs)) first second =
       both_lists ps qs rs first second
   both_nodes (Some (Node.File ps text)) (Some (Node.File qs same)) None first second = absurd second
-  both_nodes (Some (Node.File ps text)) (Some (Node.File qs same)) (Some (Node.Folder rs)) first second = absurd second
+  both_nodes (Some (Node.File ps text)) (Some (Node.File qs same)) (Some (Node.Directory rs)) first second = absurd second
   both_nodes (Some (Node.File ps text)) (Some (Node.File qs same)) (Some (Node.File rs again)) first second =
       (both_lists ps qs rs first.0 second.0, second.1 ∙ first.1)
 
@@ -225,11 +225,11 @@ module _ (First Second : NewProperty) where
         (subst (λ o. IsNewNode Second o (new path)) (r.left path left) (alike path));
   }
     where
-      stays : (b : Bool) (o : Option Node) → IsNewNode Second (cond b (Some (Node.Folder [])) None) o
-          → o ≡ cond b (Some (Node.Folder [])) None
+      stays : (b : Bool) (o : Option Node) → IsNewNode Second (cond b (Some (Node.Directory [])) None) o
+          → o ≡ cond b (Some (Node.Directory [])) None
       stays true None new = absurd new
-      stays true (Some (Node.Folder [])) new = refl
-      stays true (Some (Node.Folder (p ∷ ps))) new = absurd new
+      stays true (Some (Node.Directory [])) new = refl
+      stays true (Some (Node.Directory (p ∷ ps))) new = absurd new
       stays true (Some (Node.File ps text)) new = absurd new
       stays false None new = refl
       stays false (Some n) new = absurd new

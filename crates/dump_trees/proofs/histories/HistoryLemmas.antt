@@ -1,17 +1,17 @@
 -- A whole history: what is true after each revision, and so at the end.
-use Rattle.dump_trees.proofs.Prelude.{◌≡◌, zero, suc, cond, IsTrue, ◌⊎◌, refl, sym, ap, ◌∙◌, subst, inl, inr, not, arith, append-nil, append_assoc, slice_get, list_any, MatchBool-at_true, MatchBool-at_false, both_ways, and_parts, or_parts, or_cases, not-true, Settings, KeptRevisions, image, NodePath, keeps, Node, Tree, HasFolders, root_alone, is_copied, Change, steps, is_above_some, given, NewProperty, NewNumber, KeepsEntries, IsNewNode, IsRestricted, AllHaveFolders, AreRestricted, IsMade, loaded, loaded_over, AreNewChanges, EmptyRule, keeps_revision, names_kept, names_none, names_none_behind, stays_numbered, AreNewRevisions, kept_from, kept_of, IsWrittenNumber, AllRevisionsSeparate, ImagesRestrict, HistoryRestricts, EachHistoryRestricts}
+use Rattle.dump_trees.proofs.Prelude.{◌≡◌, zero, suc, cond, IsTrue, ◌⊎◌, refl, sym, ap, ◌∙◌, subst, inl, inr, not, arith, append-nil, append_assoc, slice_get, list_any, MatchBool-at_true, MatchBool-at_false, both_ways, and_parts, or_parts, or_cases, not-true, Settings, KeptRevisions, image, NodePath, keeps, Node, Tree, HasDirectories, root_alone, is_copied, Change, steps, is_above_some, given, NewProperty, NewNumber, KeepsEntries, IsNewNode, IsRestricted, AllHaveDirectories, AreRestricted, IsMade, loaded, loaded_over, AreNewChanges, EmptyRule, keeps_revision, names_kept, names_none, names_none_behind, stays_numbered, AreNewRevisions, kept_from, kept_of, IsWrittenNumber, AllRevisionsSeparate, ImagesRestrict, HistoryRestricts, EachHistoryRestricts}
 use Rattle.std.proofs.Common.{ℕ, Bool, true, false, ◌&&◌, List, [], ◌∷◌, ◌++◌, length, Option, Some, None, option_and_then}
 use Rattle.dump_trees.proofs.changes.StageLemmas.{Follows}
-use Rattle.dump_trees.proofs.changes.FolderLemmas.{KeepsFolders}
+use Rattle.dump_trees.proofs.changes.DirectoryLemmas.{KeepsDirectories}
 use Rattle.dump_trees.proofs.changes.RevisionLemmas.{steps_keep, steps_follow, none_written}
 use Rattle.dump_trees.proofs.histories.NamingLemmas.{other_changes}
 use Rattle.dump_trees.proofs.histories.KeptNumbers.{length_push, get_last, get_before, get_pushed, AreBelow, below_next, below_pushed, kept_above, image_kept, image_dropped}
 
 -- the start
 
-pub root_folders : HasFolders root_alone
-root_folders [] name rest node at = absurd (let bad : None ≡ Some node = at in cc)
-root_folders (first ∷ path) name rest node at = absurd (let bad : None ≡ Some node = at in cc)
+pub root_directories : HasDirectories root_alone
+root_directories [] name rest node at = absurd (let bad : None ≡ Some node = at in cc)
+root_directories (first ∷ path) name rest node at = absurd (let bad : None ≡ Some node = at in cc)
 
 -- the parent directories are the restricted tree of a new repository
 pub start_restricts : (settings : Settings) (IsNew : NewProperty) → KeepsEntries IsNew
@@ -22,7 +22,7 @@ start_restricts settings IsNew entries = record { kept = kept; left = λ path le
     kept [] is = tt
     kept (name ∷ path) is =
         subst (λ b. IsNewNode IsNew None
-        (cond (not b && is_above_some settings.side settings.prefixes (name ∷ path)) (Some (Node.Folder [])) None))
+        (cond (not b && is_above_some settings.side settings.prefixes (name ∷ path)) (Some (Node.Directory [])) None))
         (sym is) tt
 
 module _ (settings : Settings) (IsNew : NewProperty) (entries : KeepsEntries IsNew) (rule : EmptyRule)
@@ -51,8 +51,8 @@ module _ (settings : Settings) (IsNew : NewProperty) (entries : KeepsEntries IsN
   -- that aren't loaded. When all are loaded, the kept numbers of the loaded ones are those that begun lists.
   pub record Ongoing (number : ℕ) (trees others : List Tree) (youngest restricted : Tree) (revisions : List (List Change))
       : Type 0 where
-    pub folders : AllHaveFolders (slice_get trees)
-    pub has : HasFolders youngest
+    pub directories : AllHaveDirectories (slice_get trees)
+    pub has : HasDirectories youngest
     pub restricts : IsRestricted settings IsNew youngest restricted
     pub size : length trees ≡ suc number
     pub last : slice_get trees number ≡ Some youngest
@@ -85,12 +85,12 @@ module _ (settings : Settings) (IsNew : NewProperty) (entries : KeepsEntries IsN
       subst (λ m. (other : Tree) × (slice_get others m ≡ Some other) × IsRestricted settings IsNew tree other)
       (let one : new ≡ written = cc in one) (other, stands, restricted)
 
-  folders_more : (trees : List Tree) (tree : Tree) → AllHaveFolders (slice_get trees) → HasFolders tree
-      → AllHaveFolders (slice_get (trees ++ tree ∷ []))
-  folders_more trees tree all has n t at =
+  directories_more : (trees : List Tree) (tree : Tree) → AllHaveDirectories (slice_get trees) → HasDirectories tree
+      → AllHaveDirectories (slice_get (trees ++ tree ∷ []))
+  directories_more trees tree all has n t at =
       elim (get_pushed trees tree n t at) [
         | inl before ↦ all n t before
-        | inr last ↦ subst HasFolders last.1 has
+        | inr last ↦ subst HasDirectories last.1 has
       ]
 
   last_tree : (number : ℕ) (trees : List Tree) (tree : Tree) → length trees ≡ suc number
@@ -100,11 +100,11 @@ module _ (settings : Settings) (IsNew : NewProperty) (entries : KeepsEntries IsN
   -- a kept revision
   pub next_kept : (number : ℕ) (trees others : List Tree) (youngest restricted : Tree) (changes : List Change)
       (revisions : List (List Change)) → Ongoing number trees others youngest restricted (changes ∷ revisions)
-      → keeps_revision settings rule changes ≡ true → (tree other : Tree) → HasFolders tree
+      → keeps_revision settings rule changes ≡ true → (tree other : Tree) → HasDirectories tree
       → IsRestricted settings IsNew tree other
       → Ongoing (suc number) (trees ++ tree ∷ []) (others ++ other ∷ []) tree other revisions
   next_kept number trees others youngest restricted changes revisions o is tree other has r = record {
-    folders = folders_more trees tree o.folders has;
+    directories = directories_more trees tree o.directories has;
     has = has;
     restricts = r;
     size = length_push trees tree ∙ ap suc o.size;
@@ -180,11 +180,11 @@ module _ (settings : Settings) (IsNew : NewProperty) (entries : KeepsEntries IsN
   -- a dropped revision
   pub next_dropped : (number : ℕ) (trees others : List Tree) (youngest restricted : Tree) (changes : List Change)
       (revisions : List (List Change)) → Ongoing number trees others youngest restricted (changes ∷ revisions)
-      → keeps_revision settings rule changes ≡ false → (tree : Tree) → HasFolders tree
+      → keeps_revision settings rule changes ≡ false → (tree : Tree) → HasDirectories tree
       → ((other : Tree) → IsRestricted settings IsNew youngest other → IsRestricted settings IsNew tree other)
       → Ongoing (suc number) (trees ++ tree ∷ []) others tree restricted revisions
   next_dropped number trees others youngest restricted changes revisions o is tree has same = record {
-    folders = folders_more trees tree o.folders has;
+    directories = directories_more trees tree o.directories has;
     has = has;
     restricts = same restricted o.restricts;
     size = length_push trees tree ∙ ap suc o.size;
@@ -265,7 +265,7 @@ module _ (settings : Settings) (IsNew : NewProperty) (entries : KeepsEntries IsN
       (trees others : List Tree) (youngest restricted : Tree)
       (o : Ongoing number trees others youngest restricted (changes ∷ revisions))
       (apart : AllRevisionsSeparate settings trees youngest (changes ∷ revisions)) (final : List Tree) (tree : Tree)
-      (at : steps (slice_get trees) youngest changes ≡ Some tree) (has : HasFolders tree)
+      (at : steps (slice_get trees) youngest changes ≡ Some tree) (has : HasDirectories tree)
       (rest_loaded : loaded (trees ++ tree ∷ []) tree revisions ≡ Some final) where
     follow_by : (IsNumber : NewNumber)
         → AreRestricted settings IsNew IsNumber (slice_get trees) (slice_get others) → (written : List Change)
@@ -274,7 +274,7 @@ module _ (settings : Settings) (IsNew : NewProperty) (entries : KeepsEntries IsN
         → Follows settings IsNew (Some tree) (steps (slice_get others) other written)
     follow_by IsNumber same written new other r =
         subst (λ a. Follows settings IsNew a (steps (slice_get others) other written)) at
-        (steps_follow settings IsNew IsNumber entries (slice_get trees) (slice_get others) o.folders same changes
+        (steps_follow settings IsNew IsNumber entries (slice_get trees) (slice_get others) o.directories same changes
         written youngest other o.has r apart.0 new)
 
     -- the changes of the revision, whatever is written of them
@@ -345,9 +345,9 @@ module _ (settings : Settings) (IsNew : NewProperty) (entries : KeepsEntries IsN
       (ended number trees others youngest restricted o final at)
   history_follows (changes ∷ revisions) written number trees others youngest restricted o apart new final at =
       cases (history_follows revisions) (steps (slice_get trees) youngest changes) refl
-      (steps_keep (slice_get trees) o.folders changes youngest o.has) at
+      (steps_keep (slice_get trees) o.directories changes youngest o.has) at
     where
-      cases : Further revisions → (a : Option Tree) → steps (slice_get trees) youngest changes ≡ a → KeepsFolders a
+      cases : Further revisions → (a : Option Tree) → steps (slice_get trees) youngest changes ≡ a → KeepsDirectories a
           → option_and_then (λ tree. loaded (trees ++ tree ∷ []) tree revisions) a ≡ Some final
           → Ends final (loaded others restricted written)
       cases further None is has bad = absurd (let worse : None ≡ Some final = bad in cc)
@@ -374,9 +374,9 @@ front_follows settings IsNew entries rule kept zero_first revisions rest written
     (0 ∷ kept_from settings rule 1 revisions) rest revisions written 0
     (root_alone ∷ []) (given settings ∷ []) root_alone (given settings) start apart new trees at
   where
-    start_folders : AllHaveFolders (slice_get (root_alone ∷ []))
-    start_folders zero tree is = subst HasFolders (let both : Some root_alone ≡ Some tree = is in cc) root_folders
-    start_folders (suc n) tree is = absurd (let bad : None ≡ Some tree = is in cc)
+    start_directories : AllHaveDirectories (slice_get (root_alone ∷ []))
+    start_directories zero tree is = subst HasDirectories (let both : Some root_alone ≡ Some tree = is in cc) root_directories
+    start_directories (suc n) tree is = absurd (let bad : None ≡ Some tree = is in cc)
 
     zero_image : image kept 0 ≡ Some 0
     zero_image = image_kept kept zero_first 0 [] (kept_from settings rule 1 (revisions ++ rest)) all_numbers refl
@@ -407,8 +407,8 @@ front_follows settings IsNew entries rule kept zero_first revisions rest written
     start : Ongoing settings IsNew entries rule kept zero_first (0 ∷ kept_from settings rule 1 revisions) rest 0
         (root_alone ∷ []) (given settings ∷ []) root_alone (given settings) revisions
     start = record {
-      folders = start_folders;
-      has = root_folders;
+      directories = start_directories;
+      has = root_directories;
       restricts = start_restricts settings IsNew entries;
       size = refl;
       last = refl;

@@ -10,12 +10,12 @@ module _ (settings : Settings) (IsNew : NewProperty) (IsNumber IsOther : NewNumb
       → IsNewMade settings IsNumber is_whole old new → IsNewMade settings IsOther is_whole old new
   other_made is_whole None None plain is = tt
   other_made is_whole None (Some made) plain is = absurd is
-  other_made is_whole (Some Made.NewFolder) None plain is = absurd is
-  other_made is_whole (Some Made.NewFolder) (Some Made.NewFolder) plain is = tt
-  other_made is_whole (Some Made.NewFolder) (Some Made.NewFile) plain is = absurd is
-  other_made is_whole (Some Made.NewFolder) (Some (Made.Copied number source)) plain is = absurd is
+  other_made is_whole (Some Made.NewDirectory) None plain is = absurd is
+  other_made is_whole (Some Made.NewDirectory) (Some Made.NewDirectory) plain is = tt
+  other_made is_whole (Some Made.NewDirectory) (Some Made.NewFile) plain is = absurd is
+  other_made is_whole (Some Made.NewDirectory) (Some (Made.Copied number source)) plain is = absurd is
   other_made is_whole (Some Made.NewFile) None plain is = absurd is
-  other_made is_whole (Some Made.NewFile) (Some Made.NewFolder) plain is = absurd is
+  other_made is_whole (Some Made.NewFile) (Some Made.NewDirectory) plain is = absurd is
   other_made is_whole (Some Made.NewFile) (Some Made.NewFile) plain is = tt
   other_made is_whole (Some Made.NewFile) (Some (Made.Copied number source)) plain is = absurd is
   other_made is_whole (Some (Made.Copied old from)) new plain is = absurd (let bad : true ≡ false = plain in cc)

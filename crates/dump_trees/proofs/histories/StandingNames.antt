@@ -1,12 +1,12 @@
 -- The trees of loaded revisions: each node is in directories, and has names of nodes if the changes' paths have.
-use Rattle.dump_trees.proofs.Prelude.{◌≡◌, refl, sym, ap, ◌∙◌, subst, inl, inr, IfSome, list_all, slice_get, and_parts, NodePath, below, Node, Tree, HasFolders, root_alone, Made, PropertyChange, TextChange, Change, History, step, steps, AllHaveFolders, loaded, loaded_over}
+use Rattle.dump_trees.proofs.Prelude.{◌≡◌, refl, sym, ap, ◌∙◌, subst, inl, inr, IfSome, list_all, slice_get, and_parts, NodePath, below, Node, Tree, HasDirectories, root_alone, Made, PropertyChange, TextChange, Change, History, step, steps, AllHaveDirectories, loaded, loaded_over}
 use Rattle.std.proofs.Common.{ℕ, Bool, true, false, List, [], ◌∷◌, ◌++◌, Option, Some, None, option_and_then, is_some}
 use Rattle.dump_trees.specs.Looking.{left_by, origin_of, node_with_props, node_with_text, set_by}
-use Rattle.dump_trees.specs.Siblings.{has_node_names, HasNames, have_node_names, LoadedTreesHaveFolders, LoadedTreesHaveNames}
+use Rattle.dump_trees.specs.Siblings.{has_node_names, HasNames, have_node_names, LoadedTreesHaveDirectories, LoadedTreesHaveNames}
 use Rattle.dump_trees.proofs.paths.SiblingLemmas.{rest_names, both_names}
 use Rattle.dump_trees.proofs.changes.TreeLemmas.{below_rest}
 use Rattle.dump_trees.proofs.changes.RevisionLemmas.{steps_keep}
-use Rattle.dump_trees.proofs.histories.HistoryLemmas.{root_folders}
+use Rattle.dump_trees.proofs.histories.HistoryLemmas.{root_directories}
 use Rattle.dump_trees.proofs.histories.KeptNumbers.{get_pushed}
 use Rattle.dump_trees.proofs.quiet.LeavingLemmas.{step_leaves}
 use Rattle.dump_trees.proofs.expansions.StandingLemmas.{origin_in, step_has}
@@ -64,21 +64,21 @@ module _ (Holds : Tree → Type 0) (Plain : List Change → Type 0) (start : Hol
 
 -- directories
 
-folders_each : (history : History) (before after : Tree) (changes : List Change)
-    → AllHaveFolders history → HasFolders before → Rattle.std.specs.Prelude.⊤
-    → steps history before changes ≡ Some after → HasFolders after
-folders_each history before after changes all folders plain is =
-    subst (λ o. IfSome o HasFolders) is (steps_keep history all changes before folders)
+directories_each : (history : History) (before after : Tree) (changes : List Change)
+    → AllHaveDirectories history → HasDirectories before → Rattle.std.specs.Prelude.⊤
+    → steps history before changes ≡ Some after → HasDirectories after
+directories_each history before after changes all directories plain is =
+    subst (λ o. IfSome o HasDirectories) is (steps_keep history all changes before directories)
 
 all_plain : (revisions : List (List Change))
-    → ArePlain HasFolders (λ changes. Rattle.std.specs.Prelude.⊤) root_folders folders_each revisions
+    → ArePlain HasDirectories (λ changes. Rattle.std.specs.Prelude.⊤) root_directories directories_each revisions
 all_plain [] = tt
 all_plain (changes ∷ revisions) = (tt, all_plain revisions)
 
 -- the trees of loaded revisions have directories
-pub loaded_folders : LoadedTreesHaveFolders
-loaded_folders revisions trees number tree is at =
-    holds_of_each HasFolders (λ changes. Rattle.std.specs.Prelude.⊤) root_folders folders_each revisions
+pub loaded_directories : LoadedTreesHaveDirectories
+loaded_directories revisions trees number tree is at =
+    holds_of_each HasDirectories (λ changes. Rattle.std.specs.Prelude.⊤) root_directories directories_each revisions
     (all_plain revisions) trees is number tree at
 
 -- names
@@ -113,8 +113,8 @@ module _ (history : History) (all : (number : ℕ) (tree : Tree) → history num
       → has_node_names top ≡ true → (is_some old ≡ true → has_node_names (top ++ rest) ≡ true)
       → is_some (origin_in history old (origin_of deletes made rest)) ≡ true → has_node_names (top ++ rest) ≡ true
   origin_names deletes None top rest old tops names some = left_names deletes (top ++ rest) old names some
-  origin_names deletes (Some Made.NewFolder) top [] old tops names some = both_names top [] tops refl
-  origin_names deletes (Some Made.NewFolder) top (name ∷ rest) old tops names some =
+  origin_names deletes (Some Made.NewDirectory) top [] old tops names some = both_names top [] tops refl
+  origin_names deletes (Some Made.NewDirectory) top (name ∷ rest) old tops names some =
       left_names deletes (top ++ name ∷ rest) old names some
   origin_names deletes (Some Made.NewFile) top [] old tops names some = both_names top [] tops refl
   origin_names deletes (Some Made.NewFile) top (name ∷ rest) old tops names some =

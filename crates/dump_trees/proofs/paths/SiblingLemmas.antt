@@ -1,10 +1,10 @@
 -- What the siblings exclude of a tree.
-use Rattle.dump_trees.proofs.Prelude.{◌≡◌, not, ◌||◌, ◌⊎◌, bytes_eq, refl, sym, ap, ap₂, ◌∙◌, inl, inr, subst, append-nil, append_assoc, map, both_ways, list_any, list_all, list_all-append, slice_get, nat_lt, bare_path, names_of, and_parts, and_from, or_cases, or_left, or_right, not-true, not_from_false, matches_path, Settings, side_keeps, NodePath, path_text, path_of, is_name, keeps, below, parent_of, Tree, HasFolders, is_folder}
+use Rattle.dump_trees.proofs.Prelude.{◌≡◌, not, ◌||◌, ◌⊎◌, bytes_eq, refl, sym, ap, ap₂, ◌∙◌, inl, inr, subst, append-nil, append_assoc, map, both_ways, list_any, list_all, list_all-append, slice_get, nat_lt, bare_path, names_of, and_parts, and_from, or_cases, or_left, or_right, not-true, not_from_false, matches_path, Settings, side_keeps, NodePath, path_text, path_of, is_name, keeps, below, parent_of, Tree, HasDirectories, is_directory_node}
 use Rattle.std.proofs.Common.{ℕ, Bool, true, false, ◌&&◌, List, [], ◌∷◌, ◌++◌, length, Option, Some, None, is_some}
 use Rattle.std.proofs.lemmas.List.Folds.{list_any_at}
 use Rattle.dump_trees.specs.Siblings.{is_within, has_name_behind, is_above_included, is_in_cut, is_parent_above, is_node_name, has_node_names, is_sibling, AreSiblings, ExcludesPaths, SiblingsLeaveCut, NamedPathsLeaveCut, ShortPathsHaveNames}
 use Rattle.dump_trees.proofs.changes.TreeLemmas.{below_rest, below_found}
-use Rattle.dump_trees.proofs.changes.FolderLemmas.{parent_behind}
+use Rattle.dump_trees.proofs.changes.DirectoryLemmas.{parent_behind}
 use Rattle.dump_trees.proofs.paths.PrefixPaths.{has_no_slash, split_names, matches_names, text_names}
 
 -- names
@@ -225,21 +225,21 @@ is_sibling_there included path are l =
     (not_from_false _ l.outside)
 
 -- something exists at the path, if something exists below it
-stands_there : (tree : Tree) → HasFolders tree → (top : NodePath) (name : List ℕ) (rest : NodePath)
+stands_there : (tree : Tree) → HasDirectories tree → (top : NodePath) (name : List ℕ) (rest : NodePath)
     → is_some (tree (top ++ name ∷ rest)) ≡ true → is_some (tree (top ++ name ∷ [])) ≡ true
-stands_there tree folders top name [] some = some
-stands_there tree folders top name (next ∷ rest) some = cases (tree (top ++ name ∷ next ∷ rest)) refl some
+stands_there tree directories top name [] some = some
+stands_there tree directories top name (next ∷ rest) some = cases (tree (top ++ name ∷ next ∷ rest)) refl some
   where
-    folder_some : (o : Option _) → is_folder o ≡ true → is_some o ≡ true
-    folder_some None is = is
-    folder_some (Some node) is = refl
+    directory_some : (o : Option _) → is_directory_node o ≡ true → is_some o ≡ true
+    directory_some None is = is
+    directory_some (Some node) is = refl
 
     cases : (o : Option _) → tree (top ++ name ∷ next ∷ rest) ≡ o → is_some o ≡ true
         → is_some (tree (top ++ name ∷ [])) ≡ true
     cases None at some = absurd (let bad : false ≡ true = some in cc)
     cases (Some node) at some =
-        folder_some (tree (top ++ name ∷ []))
-        (folders (top ++ name ∷ []) next rest node (ap tree (append_assoc top (name ∷ []) (next ∷ rest)) ∙ at))
+        directory_some (tree (top ++ name ∷ []))
+        (directories (top ++ name ∷ []) next rest node (ap tree (append_assoc top (name ∷ []) (next ∷ rest)) ∙ at))
 
 -- what the siblings match
 
@@ -289,16 +289,16 @@ sibling_out included (top ∷ siblings) path are some =
 
 -- the path is excluded if it isn't in the cut
 siblings_match : (included siblings : List NodePath) (trees : List Tree) (number : ℕ) (tree : Tree) (path : NodePath)
-    → AreSiblings included trees siblings → slice_get trees number ≡ Some tree → HasFolders tree
+    → AreSiblings included trees siblings → slice_get trees number ≡ Some tree → HasDirectories tree
     → has_node_names path ≡ true → is_some (tree path) ≡ true
     → list_any (λ top. is_within top path) siblings ≡ not (is_in_cut included path)
-siblings_match included siblings trees number tree path all at folders are some =
+siblings_match included siblings trees number tree path all at directories are some =
     cases (list_any (λ top. is_within top path) siblings) (is_in_cut included path) refl refl
   where
     found : is_in_cut included path ≡ false → list_any (λ top. is_within top path) siblings ≡ true
     found out =
         let l = leaves_cut included path out in
-        let there = stands_there tree folders l.top l.name l.rest (subst (λ p. is_some (tree p) ≡ true) l.at some) in
+        let there = stands_there tree directories l.top l.name l.rest (subst (λ p. is_some (tree p) ≡ true) l.at some) in
         let (place, low, is) = all.all number tree (l.top ++ l.name ∷ []) at there
         (is_sibling_there included path are l) in
         list_any_at (λ top. is_within top path) siblings place (l.top ++ l.name ∷ []) low
@@ -324,9 +324,9 @@ excluded_match settings paths path excludes names are =
 
 -- if the siblings are excluded, what exists is kept exactly if it is in the cut
 pub siblings_leave_cut : SiblingsLeaveCut
-siblings_leave_cut settings included siblings trees number tree path excludes all at folders names some =
+siblings_leave_cut settings included siblings trees number tree path excludes all at directories names some =
     excluded_match settings siblings path excludes (sibling_names included siblings all.each) (names path some)
-    ∙ (ap not (siblings_match included siblings trees number tree path all at folders (names path some) some)
+    ∙ (ap not (siblings_match included siblings trees number tree path all at directories (names path some) some)
     ∙ twice (is_in_cut included path))
   where
     twice : (b : Bool) → not (not b) ≡ b

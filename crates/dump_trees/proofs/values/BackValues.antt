@@ -4,16 +4,16 @@ use Rattle.std.proofs.Common.{true, false, List, [], ◌∷◌, ◌++◌, Some, 
 use Rattle.std.proofs.lemmas.List.Elements.{All-head, All-tail}
 use Rattle.dump_trees.specs.Branches.{Branch, Branches, HasBranch}
 use Rattle.dump_trees.specs.ComingBack.{ComesBack, NoneComesBack, NothingComesBack, coming_back, MakesText, IsMadeByKept, SetsProperty}
-use Rattle.dump_trees.proofs.values.ValueParts.{change, folder, file, copy, excluding, property, setting, patching}
+use Rattle.dump_trees.proofs.values.ValueParts.{change, directory, file, copy, excluding, property, setting, patching}
 
 -- when something comes back
 
 -- a directory with an excluded file, and later without it
 abbrev with_it : Tree
-with_it = put (path_of (codes "a/s")) (Node.File [] (codes "1")) (put (path_of (codes "a")) (Node.Folder []) root_alone)
+with_it = put (path_of (codes "a/s")) (Node.File [] (codes "1")) (put (path_of (codes "a")) (Node.Directory []) root_alone)
 
 abbrev without_it : Tree
-without_it = put (path_of (codes "a")) (Node.Folder []) root_alone
+without_it = put (path_of (codes "a")) (Node.Directory []) root_alone
 
 abbrev history : History
 history zero = Some root_alone
@@ -59,21 +59,21 @@ not_by_adding b = let bad : Some Made.NewFile ≡ Some (Made.Copied b.number b.s
 
 -- each change of a revision counts, and so does each revision
 
-second_change : NoneComesBack (excluding (codes "a/s")) history (folder (codes "c") ∷ copy 1 (codes "a") (codes "b") ∷ [])
+second_change : NoneComesBack (excluding (codes "a/s")) history (directory (codes "c") ∷ copy 1 (codes "a") (codes "b") ∷ [])
     → ⊥
 second_change none =
     All-head Never (copy 1 (codes "a") (codes "b")) []
-    (All-tail Never (folder (codes "c")) (copy 1 (codes "a") (codes "b") ∷ []) none) of_the_past
+    (All-tail Never (directory (codes "c")) (copy 1 (codes "a") (codes "b") ∷ []) none) of_the_past
   where
     Never : Change → Type 0
     Never c = ComesBack (excluding (codes "a/s")) history c → ⊥
 
 second_revision : NothingComesBack (excluding (codes "a/s")) (root_alone ∷ with_it ∷ [])
-    ((folder (codes "c") ∷ []) ∷ (copy 1 (codes "a") (codes "b") ∷ []) ∷ []) → ⊥
+    ((directory (codes "c") ∷ []) ∷ (copy 1 (codes "a") (codes "b") ∷ []) ∷ []) → ⊥
 second_revision none =
     All-head Never (copy 1 (codes "a") (codes "b")) []
     (All-head Nothing (copy 1 (codes "a") (codes "b") ∷ []) []
-    (All-tail Nothing (folder (codes "c") ∷ []) ((copy 1 (codes "a") (codes "b") ∷ []) ∷ []) none))
+    (All-tail Nothing (directory (codes "c") ∷ []) ((copy 1 (codes "a") (codes "b") ∷ []) ∷ []) none))
     (record {
       number = 1;
       source = path_of (codes "a");
@@ -104,12 +104,12 @@ not_found_there : coming_back (excluding (codes "b")) (path_of (codes "b")) (pat
 not_found_there = refl
 
 -- the tree has more than the branch
-more_stands : HasBranch with_it (path_of (codes "a")) (Branch.Folder [] Branches.NoMore) → ⊥
+more_stands : HasBranch with_it (path_of (codes "a")) (Branch.Directory [] Branches.NoMore) → ⊥
 more_stands has = absurd (let bad : Some (Node.File [] (codes "1")) ≡ None = has (path_of (codes "s")) in cc)
 
 -- a directory with a file
 abbrev with_file : Branch
-with_file = Branch.Folder [] (Branches.Named (codes "s") (Branch.File [] (codes "1")) Branches.NoMore)
+with_file = Branch.Directory [] (Branches.Named (codes "s") (Branch.File [] (codes "1")) Branches.NoMore)
 
 -- if the file is excluded only at the source, it comes back
 loses_file : coming_back (excluding (codes "b/s")) (path_of (codes "a")) (path_of (codes "b")) with_file
@@ -177,7 +177,7 @@ secret_left (suc count, does) = revision does.among does.there
             (ap (λ (c : Change). keeps leaving c.path) (sym at)) does.kept
 
 -- a change that sets no text makes none
-makes_no_text : MakesText [] (codes "1") (folder (codes "a")) → ⊥
+makes_no_text : MakesText [] (codes "1") (directory (codes "a")) → ⊥
 makes_no_text (text, is, makes) = let bad : None ≡ Some text = is in cc
 
 -- a change makes no other text than it sets

@@ -2,7 +2,7 @@
 use Rattle.dump_trees.proofs.Prelude.{◌≡◌, codes, refl, inr, both_ways, Property, Settings, path_of, Node, root_alone, Change, History, steps}
 use Rattle.std.proofs.Common.{ℕ, true, false, List, [], ◌∷◌, Option, Some, None, option_and_then, is_none}
 use Rattle.dump_trees.specs.Branches.{Branch, Branches, tree_of, is_distinct}
-use Rattle.dump_trees.specs.WritingOut.{folder_of, file_of, IsCutAlike, IsLeftOut, WritesOut}
+use Rattle.dump_trees.specs.WritingOut.{directory_of, file_of, IsCutAlike, IsLeftOut, WritesOut}
 use Rattle.dump_trees.specs.ExpansionCases.{branch_made, cleared, deletions, none_is_below}
 use Rattle.dump_trees.proofs.values.ValueParts.{including, excluding, copy, deletion, setting, editing, writing, property, removal}
 
@@ -13,13 +13,13 @@ one = property (codes "p") (codes "1")
 
 -- a directory with a file, and in it a directory with another file
 abbrev worked : Branch
-worked = Branch.Folder (one ∷ [])
+worked = Branch.Directory (one ∷ [])
     (Branches.Named (codes "f") (Branch.File [] (codes "1"))
     (Branches.Named (codes "g")
-    (Branch.Folder [] (Branches.Named (codes "h") (Branch.File (one ∷ []) (codes "2")) Branches.NoMore))
+    (Branch.Directory [] (Branches.Named (codes "h") (Branch.File (one ∷ []) (codes "2")) Branches.NoMore))
     Branches.NoMore))
 
-its_root : tree_of worked [] ≡ Some (Node.Folder (one ∷ []))
+its_root : tree_of worked [] ≡ Some (Node.Directory (one ∷ []))
 its_root = refl
 
 its_file : tree_of worked (path_of (codes "f")) ≡ Some (Node.File [] (codes "1"))
@@ -39,7 +39,7 @@ names_differ = refl
 
 -- two files with one name in one directory
 abbrev doubled : Branch
-doubled = Branch.Folder []
+doubled = Branch.Directory []
     (Branches.Named (codes "f") (Branch.File [] (codes "1"))
     (Branches.Named (codes "f") (Branch.File [] (codes "2")) Branches.NoMore))
 
@@ -48,12 +48,12 @@ not_distinct = refl
 
 -- one name in two directories doesn't occur twice
 again_deeper : is_distinct
-    (Branch.Folder []
-    (Branches.Named (codes "f") (Branch.Folder [] (Branches.Named (codes "f") (Branch.File [] []) Branches.NoMore))
+    (Branch.Directory []
+    (Branches.Named (codes "f") (Branch.Directory [] (Branches.Named (codes "f") (Branch.File [] []) Branches.NoMore))
     Branches.NoMore)) ≡ true
 again_deeper = refl
 
-doubled_deeper : is_distinct (Branch.Folder [] (Branches.Named (codes "d") doubled Branches.NoMore)) ≡ false
+doubled_deeper : is_distinct (Branch.Directory [] (Branches.Named (codes "d") doubled Branches.NoMore)) ≡ false
 doubled_deeper = refl
 
 -- changes that write a branch out
@@ -63,9 +63,9 @@ nowhere number = None
 
 -- each part is made by itself
 abbrev made_alone : List Change
-made_alone = folder_of (path_of (codes "a")) (one ∷ [])
+made_alone = directory_of (path_of (codes "a")) (one ∷ [])
     ∷ file_of (path_of (codes "a/f")) [] (codes "1")
-    ∷ folder_of (path_of (codes "a/g")) []
+    ∷ directory_of (path_of (codes "a/g")) []
     ∷ file_of (path_of (codes "a/g/h")) (one ∷ []) (codes "2") ∷ []
 
 all_alone : (settings : Settings) → WritesOut settings nowhere (path_of (codes "a")) worked made_alone
@@ -73,18 +73,18 @@ all_alone settings =
     inr (
       one ∷ [],
       file_of (path_of (codes "a/f")) [] (codes "1")
-          ∷ folder_of (path_of (codes "a/g")) []
+          ∷ directory_of (path_of (codes "a/g")) []
           ∷ file_of (path_of (codes "a/g/h")) (one ∷ []) (codes "2") ∷ [],
       refl,
       refl,
       (
         file_of (path_of (codes "a/f")) [] (codes "1") ∷ [],
-        folder_of (path_of (codes "a/g")) []
+        directory_of (path_of (codes "a/g")) []
             ∷ file_of (path_of (codes "a/g/h")) (one ∷ []) (codes "2") ∷ [],
         refl,
         inr ([], refl, refl),
         (
-          folder_of (path_of (codes "a/g")) []
+          directory_of (path_of (codes "a/g")) []
               ∷ file_of (path_of (codes "a/g/h")) (one ∷ []) (codes "2") ∷ [],
           [],
           refl,
@@ -113,17 +113,17 @@ made_there changes path = option_and_then (λ tree. tree (path_of path)) (steps 
 made_deeper : made_there made_alone (codes "a/g/h") ≡ Some (Node.File (one ∷ []) (codes "2"))
 made_deeper = refl
 
-made_root : made_there made_alone (codes "a") ≡ Some (Node.Folder (one ∷ []))
+made_root : made_there made_alone (codes "a") ≡ Some (Node.Directory (one ∷ []))
 made_root = refl
 
 -- a branch with two files of one name isn't made: the second file is rejected
 refused_twice : is_none (steps nowhere root_alone
-    (folder_of (path_of (codes "a")) [] ∷ file_of (path_of (codes "a/f")) [] (codes "1")
+    (directory_of (path_of (codes "a")) [] ∷ file_of (path_of (codes "a/f")) [] (codes "1")
     ∷ file_of (path_of (codes "a/f")) [] (codes "2") ∷ [])) ≡ true
 refused_twice = refl
 
 -- a branch isn't made over something either
-refused_over : is_none (steps nowhere root_alone (folder_of (path_of (codes "a")) [] ∷ made_alone)) ≡ true
+refused_over : is_none (steps nowhere root_alone (directory_of (path_of (codes "a")) [] ∷ made_alone)) ≡ true
 refused_over = refl
 
 -- copies of branches
@@ -139,8 +139,8 @@ cut_otherwise (kept, source, alike) =
 
 -- what a change makes of its branch
 
-sets_root : branch_made (setting [] (copy 1 (codes "c") (codes "a"))) (Branch.Folder (one ∷ []) Branches.NoMore)
-    ≡ Some (Branch.Folder [] Branches.NoMore)
+sets_root : branch_made (setting [] (copy 1 (codes "c") (codes "a"))) (Branch.Directory (one ∷ []) Branches.NoMore)
+    ≡ Some (Branch.Directory [] Branches.NoMore)
 sets_root = refl
 
 edits_root : branch_made (editing (removal (codes "p") ∷ []) (copy 1 (codes "c") (codes "a")))
@@ -152,9 +152,9 @@ writes_root : branch_made (writing (codes "2") (copy 1 (codes "c") (codes "a")))
     ≡ Some (Branch.File (one ∷ []) (codes "2"))
 writes_root = refl
 
-no_text_of_a_folder : branch_made (writing (codes "2") (copy 1 (codes "c") (codes "a")))
-    (Branch.Folder [] Branches.NoMore) ≡ None
-no_text_of_a_folder = refl
+no_text_of_a_directory : branch_made (writing (codes "2") (copy 1 (codes "c") (codes "a")))
+    (Branch.Directory [] Branches.NoMore) ≡ None
+no_text_of_a_directory = refl
 
 -- deletions
 

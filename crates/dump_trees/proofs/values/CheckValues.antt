@@ -5,7 +5,7 @@ use Rattle.dump_trees.specs.Looking.{Placed, placed_from, look}
 use Rattle.dump_trees.specs.LoadCheck.{patches_text, HasSameKinds, IsRefusedAt, Kind, kind_of_node, Kinds, kinds_allow, kinds_before, node_set, delta_applies, ToldKinds, TellsKinds, allowed_there, all_allowed, all_apply}
 use Rattle.dump_trees.proofs.cuts.CheckedLoads.{first_refusal_is_there}
 use Rattle.dump_trees.proofs.cuts.PlainLooks.{plain_looks_tell_kinds}
-use Rattle.dump_trees.proofs.values.ValueParts.{change, folder, file, copy, deletion, replacing, setting, editing, writing, patching, property}
+use Rattle.dump_trees.proofs.values.ValueParts.{change, directory, file, copy, deletion, replacing, setting, editing, writing, patching, property}
 
 -- one change
 
@@ -19,13 +19,13 @@ dir = Some Kind.Directory
 abbrev reg : Option Kind
 reg = Some Kind.File
 
-new_over_nothing : kinds_allow (folder (codes "a")) (where_is None dir None) ≡ true
+new_over_nothing : kinds_allow (directory (codes "a")) (where_is None dir None) ≡ true
 new_over_nothing = refl
 
-not_over_something : kinds_allow (folder (codes "a")) (where_is dir dir None) ≡ false
+not_over_something : kinds_allow (directory (codes "a")) (where_is dir dir None) ≡ false
 not_over_something = refl
 
-over_what_it_deletes : kinds_allow (replacing (folder (codes "a"))) (where_is reg dir None) ≡ true
+over_what_it_deletes : kinds_allow (replacing (directory (codes "a"))) (where_is reg dir None) ≡ true
 over_what_it_deletes = refl
 
 not_in_a_file : kinds_allow (file (codes "a/f") (codes "1")) (where_is None reg None) ≡ false
@@ -34,7 +34,7 @@ not_in_a_file = refl
 not_in_nothing : kinds_allow (file (codes "a/f") (codes "1")) (where_is None None None) ≡ false
 not_in_nothing = refl
 
-no_new_root : kinds_allow (folder []) (where_is None None None) ≡ false
+no_new_root : kinds_allow (directory []) (where_is None None None) ≡ false
 no_new_root = refl
 
 deletes_what_exists : kinds_allow (deletion (codes "a")) (where_is reg dir None) ≡ true
@@ -121,7 +121,7 @@ the_first_applies = refl
 -- a directory is deleted, and then copied from a revision that still has it; then a copy of it from one that doesn't
 abbrev whole : List (List Change)
 whole =
-    (folder (codes "a") ∷ file (codes "a/f") (codes "1") ∷ [])
+    (directory (codes "a") ∷ file (codes "a/f") (codes "1") ∷ [])
     ∷ (deletion (codes "a") ∷ [])
     ∷ (copy 1 (codes "a") (codes "b") ∷ writing (codes "2") (change (codes "b/f")) ∷ copy 2 (codes "a") (codes "c") ∷ [])
     ∷ (deletion (codes "b") ∷ [])
@@ -152,8 +152,8 @@ where_it_was = refl
 -- a copy of its own revision is rejected
 own_revision : all_allowed
     (λ count path. option_map kind_of_node (look root_alone
-    (placed_from 1 ((folder (codes "a") ∷ copy 1 (codes "a") (codes "b") ∷ []) ∷ [])) count path))
-    (placed_from 1 ((folder (codes "a") ∷ copy 1 (codes "a") (codes "b") ∷ []) ∷ [])) 2 ≡ false
+    (placed_from 1 ((directory (codes "a") ∷ copy 1 (codes "a") (codes "b") ∷ []) ∷ [])) count path))
+    (placed_from 1 ((directory (codes "a") ∷ copy 1 (codes "a") (codes "b") ∷ []) ∷ [])) 2 ≡ false
 own_revision = refl
 
 -- a function that finds a directory at each path doesn't find what exists
@@ -168,7 +168,7 @@ everywhere_is_wrong tells =
 -- the same changes, with no properties and with other texts
 abbrev plain : List Placed
 plain = placed_from 1
-    ((folder (codes "a") ∷ file (codes "a/f") [] ∷ [])
+    ((directory (codes "a") ∷ file (codes "a/f") [] ∷ [])
     ∷ (deletion (codes "a") ∷ [])
     ∷ (copy 1 (codes "a") (codes "b") ∷ writing [] (change (codes "b/f")) ∷ copy 2 (codes "a") (codes "c") ∷ [])
     ∷ (deletion (codes "b") ∷ [])
@@ -189,7 +189,7 @@ same number c d path deletes made props text is_whole = record {
 
 are_plain : AllZip HasSameKinds placed plain
 are_plain = (
-  same 1 (folder (codes "a")) (folder (codes "a")) refl refl refl refl refl refl,
+  same 1 (directory (codes "a")) (directory (codes "a")) refl refl refl refl refl refl,
   (
     same 1 (file (codes "a/f") (codes "1")) (file (codes "a/f") []) refl refl refl refl refl refl,
     (
@@ -214,8 +214,8 @@ plain_tells : TellsKinds (λ count path. option_map kind_of_node (look root_alon
 plain_tells = plain_looks_tell_kinds root_alone placed plain are_plain
 
 -- a change that makes a directory has another effect than one that makes a file
-another_kind : HasSameKinds record { revision = 1; change = folder (codes "a") }
-    record { revision = 1; change = writing [] (folder (codes "a")) } → ⊥
+another_kind : HasSameKinds record { revision = 1; change = directory (codes "a") }
+    record { revision = 1; change = writing [] (directory (codes "a")) } → ⊥
 another_kind s = absurd (let bad : true ≡ false = s.text in cc)
 
 -- and a delta may be rejected
@@ -229,5 +229,5 @@ sixth_refused =
     5 (record { revision = 3; change = copy 2 (codes "a") (codes "c") }) refl refl plain_tells refl refl refl
 
 -- no change of a dump that loads is rejected
-none_is_refused : IsRefusedAt root_alone ((folder (codes "a") ∷ []) ∷ []) 0 (folder (codes "a")) → ⊥
+none_is_refused : IsRefusedAt root_alone ((directory (codes "a") ∷ []) ∷ []) 0 (directory (codes "a")) → ⊥
 none_is_refused r = absurd (let bad : true ≡ false = ap (λ o. is_some o) r.none in cc)

@@ -8,7 +8,7 @@ use Rattle.dump_trees.specs.FindingSiblings.{all_above, CanStandBelow}
 use Rattle.dump_trees.proofs.expansions.FoundSiblings.{above_are_listed, siblings_are_found}
 use Rattle.dump_trees.specs.ComingBack.{ComesBack, coming_back, NoneComesBack, NothingComesBack, AgreeWhereKept}
 use Rattle.dump_trees.proofs.expansions.ComingLemmas.{kept_changes_tell_all}
-use Rattle.dump_trees.proofs.values.ValueParts.{including_all, excluding, folder, file, copy, property, node_at}
+use Rattle.dump_trees.proofs.values.ValueParts.{including_all, excluding, directory, file, copy, property, node_at}
 use Rattle.dump_trees.proofs.paths.KeptPaths.{keeps_nothing}
 
 -- the cut
@@ -85,7 +85,7 @@ abbrev tree : Tree
 tree = put (path_of (codes "b")) (Node.File [] (codes "3"))
     (put (path_of (codes "a/x")) (Node.File [] (codes "2"))
     (put (path_of (codes "a/b")) (Node.File [] (codes "1"))
-    (put (path_of (codes "a")) (Node.Folder (property (codes "p") (codes "1") ∷ [])) root_alone)))
+    (put (path_of (codes "a")) (Node.Directory (property (codes "p") (codes "1") ∷ [])) root_alone)))
 
 -- the sibling next to the included path has to be among them
 missing : AreSiblings included (tree ∷ []) (path_of (codes "b") ∷ []) → ⊥
@@ -120,7 +120,7 @@ left_in_the_root = refl
 
 -- a directory with an excluded file
 abbrev old : Tree
-old = put (path_of (codes "a/s")) (Node.File [] (codes "1")) (put (path_of (codes "a")) (Node.Folder []) root_alone)
+old = put (path_of (codes "a/s")) (Node.File [] (codes "1")) (put (path_of (codes "a")) (Node.Directory []) root_alone)
 
 abbrev history : History
 history number = Some old
@@ -162,7 +162,7 @@ not_kept_alone b =
 
 -- a history with an excluded text, and a copy of another one
 abbrev whole : List ℕ → List (List Change)
-whole text = (folder (codes "a") ∷ file (codes "a/f") (codes "1") ∷ file (codes "s") text ∷ [])
+whole text = (directory (codes "a") ∷ file (codes "a/f") (codes "1") ∷ file (codes "s") text ∷ [])
     ∷ (copy 1 (codes "a/f") (codes "a/g") ∷ []) ∷ []
 
 abbrev trees : List ℕ → List Tree
@@ -174,10 +174,10 @@ its_text text = refl
 nothing_back : (text : List ℕ) → NothingComesBack (excluding (codes "s")) (trees text) (whole text)
 nothing_back text =
     All-cons (NoneComesBack (excluding (codes "s")) (slice_get (trees text)))
-    (folder (codes "a") ∷ file (codes "a/f") (codes "1") ∷ file (codes "s") text ∷ [])
+    (directory (codes "a") ∷ file (codes "a/f") (codes "1") ∷ file (codes "s") text ∷ [])
     ((copy 1 (codes "a/f") (codes "a/g") ∷ []) ∷ [])
-    (All-cons Never (folder (codes "a")) (file (codes "a/f") (codes "1") ∷ file (codes "s") text ∷ [])
-    (λ b. let bad : Some Made.NewFolder ≡ Some (Made.Copied b.number b.source) = b.copies in cc)
+    (All-cons Never (directory (codes "a")) (file (codes "a/f") (codes "1") ∷ file (codes "s") text ∷ [])
+    (λ b. let bad : Some Made.NewDirectory ≡ Some (Made.Copied b.number b.source) = b.copies in cc)
     (All-cons Never (file (codes "a/f") (codes "1")) (file (codes "s") text ∷ [])
     (λ b. let bad : Some Made.NewFile ≡ Some (Made.Copied b.number b.source) = b.copies in cc)
     (All-cons Never (file (codes "s") text) []
@@ -207,9 +207,9 @@ no_part text other =
 
 -- a directory with a file, and one in it with another
 abbrev worked : Branch
-worked = Branch.Folder []
+worked = Branch.Directory []
     (Branches.Named (codes "s") (Branch.File [] (codes "1"))
-    (Branches.Named (codes "d") (Branch.Folder [] (Branches.Named (codes "s") (Branch.File [] []) Branches.NoMore))
+    (Branches.Named (codes "d") (Branch.Directory [] (Branches.Named (codes "s") (Branch.File [] []) Branches.NoMore))
     Branches.NoMore))
 
 found_file : coming_back (excluding (codes "a/s")) (path_of (codes "b")) (path_of (codes "a")) worked
@@ -237,7 +237,7 @@ listed_above = refl
 
 -- what is included, and siblings next to it and in the root
 abbrev grown : List (List Change)
-grown = (folder (codes "a") ∷ file (codes "a/b") (codes "1") ∷ file (codes "a/x") (codes "2")
+grown = (directory (codes "a") ∷ file (codes "a/b") (codes "1") ∷ file (codes "a/x") (codes "2")
     ∷ file (codes "c") (codes "3") ∷ []) ∷ []
 
 abbrev grown_trees : List Tree

@@ -5,13 +5,13 @@ use Rattle.dump_trees.specs.ExpansionCases.{deletion_of, deletions}
 use Rattle.dump_trees.specs.Returns.{IsCopyOver}
 use Rattle.dump_trees.specs.Following.{Way, followed}
 use Rattle.dump_trees.specs.Trimming.{CoverTaken}
-use Rattle.dump_trees.proofs.histories.StandingNames.{loaded_folders, loaded_names}
+use Rattle.dump_trees.proofs.histories.StandingNames.{loaded_directories, loaded_names}
 use Rattle.dump_trees.proofs.cuts.DeleteLemmas.{deletes_are_found}
-use Rattle.dump_trees.proofs.values.ValueParts.{including_all, folder, file, copy}
+use Rattle.dump_trees.proofs.values.ValueParts.{including_all, directory, file, copy}
 
 -- a directory with a file, and one in it with another file
 abbrev whole : List (List Change)
-whole = (folder (codes "a") ∷ file (codes "a/s") (codes "1") ∷ folder (codes "a/d") ∷ file (codes "a/d/s") (codes "2") ∷ [])
+whole = (directory (codes "a") ∷ file (codes "a/s") (codes "1") ∷ directory (codes "a/d") ∷ file (codes "a/d/s") (codes "2") ∷ [])
     ∷ []
 
 abbrev trees : List Tree
@@ -40,7 +40,7 @@ over = record {
   names = refl;
   copies = refl;
   there = refl;
-  folders = loaded_folders whole trees 1 old refl refl;
+  directories = loaded_directories whole trees 1 old refl refl;
   named = loaded_names whole trees 1 old refl refl refl;
   path = refl;
 }
@@ -75,7 +75,7 @@ behind path = option_and_then (λ t. t (path_of path))
     (steps (slice_get trees) old
     (copy 1 (codes "a") (codes "b") ∷ deletions b (path_of (codes "d") ∷ path_of (codes "s") ∷ [])))
 
-the_copy_stays : behind (codes "b") ≡ Some (Node.Folder [])
+the_copy_stays : behind (codes "b") ≡ Some (Node.Directory [])
 the_copy_stays = refl
 
 the_file_is_gone : behind (codes "b/s") ≡ None

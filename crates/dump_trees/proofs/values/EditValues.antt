@@ -1,7 +1,7 @@
 -- Examples of property deltas and text deltas, as svnadmin load takes them.
 use Rattle.dump_trees.proofs.Prelude.{◌≡◌, codes, refl, Property, Node, Change}
 use Rattle.std.proofs.Common.{ℕ, true, List, [], ◌∷◌, ◌++◌, Option, Some, None}
-use Rattle.dump_trees.proofs.values.ValueParts.{change, folder, file, copy, deletion, replacing, setting, editing, writing, patching, property, removal, stands, is_refused}
+use Rattle.dump_trees.proofs.values.ValueParts.{change, directory, file, copy, deletion, replacing, setting, editing, writing, patching, property, removal, stands, is_refused}
 
 abbrev p : Property
 p = property (codes "p") (codes "1")
@@ -11,7 +11,7 @@ q = property (codes "q") (codes "2")
 
 -- a directory, and a file with two properties
 abbrev begun : List (List Change)
-begun = (folder (codes "a") ∷ setting (p ∷ q ∷ []) (file (codes "f") (codes "old")) ∷ []) ∷ []
+begun = (directory (codes "a") ∷ setting (p ∷ q ∷ []) (file (codes "f") (codes "old")) ∷ []) ∷ []
 
 -- what exists at the path after one more change is loaded
 abbrev then : Change → List ℕ → Option Node
@@ -54,8 +54,8 @@ taken_and_set = refl
 edits_none : edited [] ≡ with (p ∷ q ∷ [])
 edits_none = refl
 
-edits_folder : then (editing (p ∷ []) (change (codes "a"))) (codes "a") ≡ Some (Node.Folder (p ∷ []))
-edits_folder = refl
+edits_directory : then (editing (p ∷ []) (change (codes "a"))) (codes "a") ≡ Some (Node.Directory (p ∷ []))
+edits_directory = refl
 
 -- the copy has the properties of its source, edited
 edits_copy : then (editing (removal (codes "p") ∷ []) (copy 1 (codes "f") (codes "g"))) (codes "g") ≡ with (q ∷ [])
@@ -118,8 +118,8 @@ patched_copy = refl
 patch_refused : is_refused begun (patching refused (change (codes "f"))) ≡ true
 patch_refused = refl
 
-patched_folder : is_refused begun (patching behind (change (codes "a"))) ≡ true
-patched_folder = refl
+patched_directory : is_refused begun (patching behind (change (codes "a"))) ≡ true
+patched_directory = refl
 
 patched_nothing : is_refused begun (patching behind (change (codes "n"))) ≡ true
 patched_nothing = refl

@@ -11,7 +11,7 @@ use Rattle.dump_trees.proofs.changes.TreeLemmas.{below_rest}
 use Rattle.dump_trees.proofs.expansions.FoundSiblings.{above_are_listed}
 use Rattle.dump_trees.proofs.cuts.CoveredPaths.{all_has, contains_first, contains_later}
 use Rattle.dump_trees.proofs.cuts.EverSiblings.{ever_siblings_are_found}
-use Rattle.dump_trees.proofs.values.ValueParts.{including_all, property, change, folder, file, copy, deletion, setting, editing, writing}
+use Rattle.dump_trees.proofs.values.ValueParts.{including_all, property, change, directory, file, copy, deletion, setting, editing, writing}
 
 -- one path is included
 abbrev included : List NodePath
@@ -19,8 +19,8 @@ included = path_of (codes "b/q") ∷ []
 
 -- a directory with a file is copied above the included path, and deleted and made again in the same revision
 abbrev within : List (List Change)
-within = (folder (codes "s") ∷ file (codes "s/x") (codes "1") ∷ [])
-    ∷ (copy 1 (codes "s") (codes "b") ∷ deletion (codes "b") ∷ folder (codes "b") ∷ []) ∷ []
+within = (directory (codes "s") ∷ file (codes "s/x") (codes "1") ∷ [])
+    ∷ (copy 1 (codes "s") (codes "b") ∷ deletion (codes "b") ∷ directory (codes "b") ∷ []) ∷ []
 
 it_loads : is_some (loaded_over root_alone within) ≡ true
 it_loads = refl
@@ -41,11 +41,11 @@ not_at_the_end can = absurd (let bad : false ≡ true = can in cc)
 
 -- siblings without it aren't the siblings of every tree
 left_out : AreEverSiblings included within (path_of (codes "s") ∷ []) → ⊥
-left_out are = none ((are (front ∷ []) (copy 1 (codes "s") (codes "b") ∷ []) (deletion (codes "b") ∷ folder (codes "b") ∷ []) []
+left_out are = none ((are (front ∷ []) (copy 1 (codes "s") (codes "b") ∷ []) (deletion (codes "b") ∷ directory (codes "b") ∷ []) []
     cut_short refl refl).all 2 (unwrap_or (slice_get cut_short 2) root_alone) (path_of (codes "b/x")) refl refl refl)
   where
     front : List Change
-    front = folder (codes "s") ∷ file (codes "s/x") (codes "1") ∷ []
+    front = directory (codes "s") ∷ file (codes "s/x") (codes "1") ∷ []
 
     cut_short : List Tree
     cut_short = unwrap_or (loaded_over root_alone (front ∷ (copy 1 (codes "s") (codes "b") ∷ []) ∷ [])) []
@@ -140,7 +140,7 @@ with_it = ever_listed within siblings refl all
 
 -- of a directory a file is deleted, and then the directory is copied to above the included path
 abbrev deleted_before : List (List Change)
-deleted_before = (folder (codes "a") ∷ file (codes "a/x") (codes "1") ∷ []) ∷ (deletion (codes "a/x") ∷ [])
+deleted_before = (directory (codes "a") ∷ file (codes "a/x") (codes "1") ∷ []) ∷ (deletion (codes "a/x") ∷ [])
     ∷ (copy 2 (codes "a") (codes "b") ∷ []) ∷ []
 
 -- its name is one that can exist there, but nothing with that name exists
@@ -161,7 +161,7 @@ idle_edit = refl
 deletes : does_something (deletion (codes "x")) ≡ true
 deletes = refl
 
-makes : does_something (folder (codes "x")) ≡ true
+makes : does_something (directory (codes "x")) ≡ true
 makes = refl
 
 copies : does_something (copy 1 (codes "a") (codes "x")) ≡ true

@@ -8,7 +8,7 @@ use Rattle.dump_trees.specs.LoadCheck.{ToldKinds, kind_of_node}
 use Rattle.dump_trees.specs.FollowedRests.{all_rests}
 use Rattle.dump_trees.proofs.cuts.CoveredPaths.{contains_first, contains_cases, contains_none}
 use Rattle.dump_trees.proofs.cuts.FollowLemmas.{following_is_least}
-use Rattle.dump_trees.proofs.values.ValueParts.{folder, file, copy, deletion}
+use Rattle.dump_trees.proofs.values.ValueParts.{directory, file, copy, deletion}
 
 -- a directory with two files, a copy of it, and a copy of the copy
 abbrev new_files : List Change
@@ -18,7 +18,7 @@ abbrev two_copies : List (List Change)
 two_copies = (copy 1 (codes "a") (codes "b") ∷ []) ∷ (copy 2 (codes "b") (codes "c") ∷ []) ∷ []
 
 abbrev whole : List (List Change)
-whole = (folder (codes "a") ∷ new_files) ∷ two_copies
+whole = (directory (codes "a") ∷ new_files) ∷ two_copies
 
 abbrev trees : List Tree
 trees = unwrap_or (loaded_over root_alone whole) []
@@ -160,15 +160,15 @@ may_not_stay g = sizes g.front g.behind g.others g.joined
 only_two : (path source : NodePath) (old : Tree) → Copies trees whole path source old
     → ((path_of (codes "b") ≡ path) × (path_of (codes "a") ≡ source) × (tree_at 1 ≡ old))
     ⊎ ((path_of (codes "c") ≡ path) × (path_of (codes "b") ≡ source) × (tree_at 2 ≡ old))
-only_two path source old copied = by_revision (contains_cases (folder (codes "a") ∷ new_files) two_copies copied.changes copied.among)
+only_two path source old copied = by_revision (contains_cases (directory (codes "a") ∷ new_files) two_copies copied.changes copied.among)
   where
     Which : Type 0
     Which = ((path_of (codes "b") ≡ path) × (path_of (codes "a") ≡ source) × (tree_at 1 ≡ old))
         ⊎ ((path_of (codes "c") ≡ path) × (path_of (codes "b") ≡ source) × (tree_at 2 ≡ old))
 
-    no_copy : (c : Change) → c ≡ copied.change → c.made ≡ Some Made.NewFolder → ⊥
+    no_copy : (c : Change) → c ≡ copied.change → c.made ≡ Some Made.NewDirectory → ⊥
     no_copy c same made =
-        let bad : Some Made.NewFolder ≡ Some (Made.Copied copied.number source) =
+        let bad : Some Made.NewDirectory ≡ Some (Made.Copied copied.number source) =
         sym made ∙ (ap (λ (d : Change). d.made) same ∙ copied.copies) in cc
 
     no_copy_file : (c : Change) → c ≡ copied.change → c.made ≡ Some Made.NewFile → ⊥
@@ -187,10 +187,10 @@ only_two path source old copied = by_revision (contains_cases (folder (codes "a"
     tree_is : (number : ℕ) (tree : Tree) → number ≡ copied.number → slice_get trees number ≡ Some tree → tree ≡ old
     tree_is number tree same at = same_Some tree old (sym at ∙ (ap (slice_get trees) same ∙ copied.tree))
 
-    by_revision : ((folder (codes "a") ∷ new_files) ≡ copied.changes) ⊎ Contains two_copies copied.changes → Which
+    by_revision : ((directory (codes "a") ∷ new_files) ≡ copied.changes) ⊎ Contains two_copies copied.changes → Which
     by_revision (inl made) =
-        elim (contains_cases (folder (codes "a")) new_files copied.change (subst (λ cs. Contains cs copied.change) (sym made) copied.there)) [
-          | inl same ↦ absurd (no_copy (folder (codes "a")) same refl)
+        elim (contains_cases (directory (codes "a")) new_files copied.change (subst (λ cs. Contains cs copied.change) (sym made) copied.there)) [
+          | inl same ↦ absurd (no_copy (directory (codes "a")) same refl)
           | inr later ↦ elim (contains_cases (file (codes "a/s") (codes "1")) (file (codes "a/t") (codes "2") ∷ []) copied.change later) [
             | inl same ↦ absurd (no_copy_file (file (codes "a/s") (codes "1")) same refl)
             | inr last ↦ elim (contains_cases (file (codes "a/t") (codes "2")) [] copied.change last) [
@@ -300,7 +300,7 @@ not_there c =
 -- a file is deleted, and then copied with its directory from a revision that still has it
 abbrev later_on : List (List Change)
 later_on =
-    (folder (codes "a") ∷ file (codes "a/s") (codes "1") ∷ [])
+    (directory (codes "a") ∷ file (codes "a/s") (codes "1") ∷ [])
     ∷ (deletion (codes "a/s") ∷ [])
     ∷ (copy 1 (codes "a") (codes "b") ∷ file (codes "b/t") (codes "2") ∷ deletion (codes "b/t") ∷ [])
     ∷ []
@@ -320,7 +320,7 @@ not_where_it_is = refl
 -- what is deleted in its own revision exists once
 once : ExistsOnce later_on (path_of (codes "b/t"))
 once = record {
-  front = (folder (codes "a") ∷ file (codes "a/s") (codes "1") ∷ []) ∷ (deletion (codes "a/s") ∷ []) ∷ [];
+  front = (directory (codes "a") ∷ file (codes "a/s") (codes "1") ∷ []) ∷ (deletion (codes "a/s") ∷ []) ∷ [];
   changes = copy 1 (codes "a") (codes "b") ∷ file (codes "b/t") (codes "2") ∷ [];
   more = deletion (codes "b/t") ∷ [];
   rest = [];
@@ -334,7 +334,7 @@ once = record {
   where
     cut_short : List (List Change)
     cut_short =
-        (folder (codes "a") ∷ file (codes "a/s") (codes "1") ∷ [])
+        (directory (codes "a") ∷ file (codes "a/s") (codes "1") ∷ [])
         ∷ (deletion (codes "a/s") ∷ [])
         ∷ (copy 1 (codes "a") (codes "b") ∷ file (codes "b/t") (codes "2") ∷ [])
         ∷ []

@@ -5,12 +5,12 @@ use Rattle.std.proofs.Common.{ℕ, true, false, List, [], ◌∷◌, ◌++◌, S
 use Rattle.std.specs.Prelude.{◌&&◌, is_some}
 use Rattle.dump_trees.proofs.histories.FrontLemmas.{front_history}
 use Rattle.dump_trees.proofs.quiet.QuietLemmas.{all_quiet}
-use Rattle.dump_trees.proofs.values.ValueParts.{including, excluding, none_more, as_it_was, entries_stay, change, folder, file, copy, writing, same_folder, same_file, same_copy, node_at}
+use Rattle.dump_trees.proofs.values.ValueParts.{including, excluding, none_more, as_it_was, entries_stay, change, directory, file, copy, writing, same_directory, same_file, same_copy, node_at}
 
 -- numbers: of six revisions the first, the third and the fourth have no kept change
 
 abbrev six : List (List Change)
-six = (folder (codes "c") ∷ []) ∷ (folder (codes "a") ∷ []) ∷ [] ∷ (change (codes "c") ∷ []) ∷ (change (codes "a") ∷ [])
+six = (directory (codes "c") ∷ []) ∷ (directory (codes "a") ∷ []) ∷ [] ∷ (change (codes "c") ∷ []) ∷ (change (codes "a") ∷ [])
     ∷ (change (codes "c") ∷ change (codes "a/b") ∷ []) ∷ []
 
 abbrev kept : KeptRevisions
@@ -59,12 +59,12 @@ numbers_left_out = refl
 
 -- a copy before the first dropped revision finds its own
 numbers_before : stays_numbered left_numbers none_more
-    ((folder (codes "a") ∷ []) ∷ (copy 1 (codes "a") (codes "a/c") ∷ []) ∷ six) ≡ true
+    ((directory (codes "a") ∷ []) ∷ (copy 1 (codes "a") (codes "a/c") ∷ []) ∷ six) ≡ true
 numbers_before = refl
 
 -- a copy after it counts, even if there are more kept revisions between
 numbers_behind : stays_numbered left_numbers none_more
-    ((folder (codes "a") ∷ []) ∷ [] ∷ (change (codes "a") ∷ []) ∷ (change (codes "a") ∷ copy 1 (codes "a") (codes "a/c") ∷ []) ∷ [])
+    ((directory (codes "a") ∷ []) ∷ [] ∷ (change (codes "a") ∷ []) ∷ (change (codes "a") ∷ copy 1 (codes "a") (codes "a/c") ∷ []) ∷ [])
     ≡ false
 numbers_behind = refl
 
@@ -104,7 +104,7 @@ abbrev settings : Settings
 settings = excluding (codes "trunk/big")
 
 abbrev front : List (List Change)
-front = (folder (codes "trunk") ∷ file (codes "trunk/f") (codes "1") ∷ file (codes "trunk/big") (codes "b") ∷ [])
+front = (directory (codes "trunk") ∷ file (codes "trunk/f") (codes "1") ∷ file (codes "trunk/big") (codes "b") ∷ [])
     ∷ (writing (codes "2") (change (codes "trunk/f")) ∷ [])
     ∷ []
 
@@ -112,7 +112,7 @@ abbrev rest : List (List Change)
 rest = (copy 1 (codes "trunk") (codes "branch") ∷ []) ∷ (file (codes "branch/g") (codes "3") ∷ []) ∷ []
 
 abbrev first : List (List Change)
-first = (folder (codes "trunk") ∷ file (codes "trunk/f") (codes "1") ∷ [])
+first = (directory (codes "trunk") ∷ file (codes "trunk/f") (codes "1") ∷ [])
     ∷ (writing (codes "2") (change (codes "trunk/f")) ∷ [])
     ∷ []
 
@@ -155,14 +155,14 @@ first_is_written : (number : ℕ → ℕ → Type 0) (behind more : List (List C
     → AreNewRevisions settings as_it_was number none_more behind more
     → AreNewRevisions settings as_it_was number none_more (front ++ behind) (first ++ more)
 first_is_written number behind more new = (
-  folder (codes "trunk") ∷ file (codes "trunk/f") (codes "1") ∷ [],
+  directory (codes "trunk") ∷ file (codes "trunk/f") (codes "1") ∷ [],
   _,
   refl,
   (
-    folder (codes "trunk"),
+    directory (codes "trunk"),
     _,
     refl,
-    same_folder _ number (codes "trunk"),
+    same_directory _ number (codes "trunk"),
     (file (codes "trunk/f") (codes "1"), [], refl, same_file _ number (codes "trunk/f") (codes "1"), refl),
   ),
   (

@@ -5,13 +5,13 @@ use Rattle.std.proofs.Common.{ℕ, true, false, List, [], ◌∷◌, ◌++◌, l
 use Rattle.dump_trees.specs.Listing.{names_look}
 use Rattle.dump_trees.specs.steps.LookingBack.{copies_back}
 use Rattle.dump_trees.specs.Looking.{placed_from, end_of, touches_path, latest, look}
-use Rattle.dump_trees.proofs.values.ValueParts.{change, folder, file, copy, deletion, replacing, setting, writing, property, stands}
+use Rattle.dump_trees.proofs.values.ValueParts.{change, directory, file, copy, deletion, replacing, setting, writing, property, stands}
 
 -- A directory has a file. In a copy of it another file replaces the file. Then the file itself gets a text, and the
 -- copy is copied as it was. At the end the first directory is deleted.
 abbrev whole : List (List Change)
 whole =
-    (folder (codes "a") ∷ file (codes "a/f") (codes "1") ∷ folder (codes "c") ∷ [])
+    (directory (codes "a") ∷ file (codes "a/f") (codes "1") ∷ directory (codes "c") ∷ [])
     ∷ (copy 1 (codes "a") (codes "b")
     ∷ replacing (setting (property (codes "p") (codes "v") ∷ []) (file (codes "b/f") (codes "2"))) ∷ [])
     ∷ (writing (codes "3") (change (codes "a/f")) ∷ copy 2 (codes "b") (codes "c/d") ∷ [])
@@ -26,7 +26,7 @@ found_in revisions count path = look root_alone (placed_from 1 revisions) count 
 abbrev found_last : List (List Change) → List ℕ → Option Node
 found_last revisions path = found_in revisions (length (placed_from 1 revisions)) path
 
-the_root : found_last whole (codes "") ≡ Some (Node.Folder [])
+the_root : found_last whole (codes "") ≡ Some (Node.Directory [])
 the_root = refl
 
 nothing_there : found_last whole (codes "x") ≡ None
@@ -76,13 +76,13 @@ its_own = refl
 nothing_done : touches_path (path_of (codes "a/f")) (change (codes "a/f")) ≡ false
 nothing_done = refl
 
-folder_above : touches_path (path_of (codes "a/f")) (setting [] (change (codes "a"))) ≡ false
-folder_above = refl
+directory_above : touches_path (path_of (codes "a/f")) (setting [] (change (codes "a"))) ≡ false
+directory_above = refl
 
 its_properties : touches_path (path_of (codes "a/f")) (setting [] (change (codes "a/f"))) ≡ true
 its_properties = refl
 
-made_above : touches_path (path_of (codes "a/f")) (folder (codes "a")) ≡ false
+made_above : touches_path (path_of (codes "a/f")) (directory (codes "a")) ≡ false
 made_above = refl
 
 deleted_above : touches_path (path_of (codes "a/f")) (deletion (codes "a")) ≡ true
@@ -127,7 +127,7 @@ none_in_a_file = refl
 
 -- a directory that was copied keeps its names if its properties are set
 abbrev set_later : List (List Change)
-set_later = (folder (codes "a") ∷ file (codes "a/f") (codes "1") ∷ []) ∷ (copy 1 (codes "a") (codes "b") ∷ [])
+set_later = (directory (codes "a") ∷ file (codes "a/f") (codes "1") ∷ []) ∷ (copy 1 (codes "a") (codes "b") ∷ [])
     ∷ (setting [] (change (codes "b")) ∷ []) ∷ []
 
 still_named : names_look (placed_from 1 set_later) 4 (path_of (codes "b")) ≡ codes "f" ∷ []
@@ -135,7 +135,7 @@ still_named = refl
 
 -- it has those of its source at the revision that it names, and no later ones
 abbrev grown_later : List (List Change)
-grown_later = (folder (codes "a") ∷ file (codes "a/f") (codes "1") ∷ []) ∷ (file (codes "a/g") (codes "2") ∷ [])
+grown_later = (directory (codes "a") ∷ file (codes "a/f") (codes "1") ∷ []) ∷ (file (codes "a/g") (codes "2") ∷ [])
     ∷ (copy 1 (codes "a") (codes "b") ∷ []) ∷ []
 
 not_the_later : names_look (placed_from 1 grown_later) 4 (path_of (codes "b")) ≡ codes "f" ∷ []

@@ -1,9 +1,9 @@
 -- Examples of a load after other revisions.
 use Rattle.dump_trees.proofs.Prelude.{◌≡◌, ◌==◌, not, option_map, unwrap_or, bytes_eq, codes, refl, ap, ◌∙◌, Property, path_of, path_text, Node, Tree, put, root_alone, Made, Change, given, KeepsEntries, IsMade, loaded, loaded_over, change_behind, revisions_behind, IsChangeBehind, AreRevisionsBehind, AreAlike, AllAreAlike}
 use Rattle.std.proofs.Common.{ℕ, Bool, true, false, List, [], ◌∷◌, ◌++◌, length, Option, Some, None, is_some, is_none}
-use Rattle.dump_trees.proofs.paths.GivenFolders.{given_folders}
+use Rattle.dump_trees.proofs.paths.GivenDirectories.{given_directories}
 use Rattle.dump_trees.proofs.histories.AlikeLemmas.{loads_alike, given_alike}
-use Rattle.dump_trees.proofs.values.ValueParts.{including, as_it_was, change, folder, file, copy, deletion, setting, property, node_at}
+use Rattle.dump_trees.proofs.values.ValueParts.{including, as_it_was, change, directory, file, copy, deletion, setting, property, node_at}
 
 -- a dump after other revisions: an administrator makes the directory `a` in a revision of its own, so the number of
 -- the copy source is higher by one
@@ -13,7 +13,7 @@ number_behind = refl
 
 abbrev copying : List (List Change)
 copying =
-    (folder (codes "a/b") ∷ []) ∷ (file (codes "a/b/f") (codes "1") ∷ []) ∷
+    (directory (codes "a/b") ∷ []) ∷ (file (codes "a/b/f") (codes "1") ∷ []) ∷
     (copy 2 (codes "a/b/f") (codes "a/b/g") ∷ []) ∷ []
 
 abbrev made : Tree
@@ -43,11 +43,11 @@ entries old new same =
     kept (Some v) = refl
 
 abbrev with_property : List (List Change)
-with_property = (setting (one ∷ []) (folder (codes "a/b")) ∷ []) ∷ (copy 1 (codes "a/b") (codes "a/b/c") ∷ []) ∷ []
+with_property = (setting (one ∷ []) (directory (codes "a/b")) ∷ []) ∷ (copy 1 (codes "a/b") (codes "a/b/c") ∷ []) ∷ []
 
 abbrev behind_one : List (List Change)
 behind_one =
-    (setting (marked one ∷ []) (folder (codes "a/b")) ∷ []) ∷ (copy 2 (codes "a/b") (codes "a/b/c") ∷ []) ∷ []
+    (setting (marked one ∷ []) (directory (codes "a/b")) ∷ []) ∷ (copy 2 (codes "a/b") (codes "a/b/c") ∷ []) ∷ []
 
 is_behind : AreRevisionsBehind (IsMade marked) 1 with_property behind_one
 is_behind = (
@@ -60,10 +60,10 @@ the_law : (trees : List Tree) → loaded_over made with_property ≡ Some trees
     → (others : List Tree) × (loaded (root_alone ∷ made ∷ []) made behind_one ≡ Some (root_alone ∷ others))
     × (length others ≡ length trees) × AllAreAlike (IsMade marked) trees others
 the_law trees at = loads_alike (IsMade marked) entries (root_alone ∷ []) made with_property behind_one trees
-    (given_folders (including (codes "a/b"))) (given_alike (including (codes "a/b")) (IsMade marked)) is_behind at
+    (given_directories (including (codes "a/b"))) (given_alike (including (codes "a/b")) (IsMade marked)) is_behind at
 
 their_copy : node_at (loaded (root_alone ∷ made ∷ []) made behind_one) 3 (codes "a/b/c")
-    ≡ Some (Node.Folder (marked one ∷ []))
+    ≡ Some (Node.Directory (marked one ∷ []))
 their_copy = refl
 
 -- what isn't a change after one revision
@@ -73,7 +73,7 @@ number_stays b = let bad : true ≡ false = ap (λ o. is_other o) b.made in cc
   where
     is_other : Option Made → Bool
     is_other None = false
-    is_other (Some Made.NewFolder) = false
+    is_other (Some Made.NewDirectory) = false
     is_other (Some Made.NewFile) = false
     is_other (Some (Made.Copied number source)) = not (number == 3)
 

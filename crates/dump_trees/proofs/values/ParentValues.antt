@@ -6,7 +6,7 @@ use Rattle.dump_trees.specs.Returns.{is_covered}
 use Rattle.dump_trees.specs.Following.{Way, followed}
 use Rattle.dump_trees.specs.EverSiblings.{AreEverSiblings}
 use Rattle.dump_trees.proofs.cuts.CoveredPaths.{contains_none}
-use Rattle.dump_trees.proofs.values.ValueParts.{folder, file, deletion}
+use Rattle.dump_trees.proofs.values.ValueParts.{directory, file, deletion}
 
 -- one path is included
 abbrev included : List NodePath
@@ -17,13 +17,13 @@ abbrev tree_after : List Change → Tree
 tree_after changes = unwrap_or (slice_get (unwrap_or (loaded_over root_alone (changes ∷ [])) []) 1) root_alone
 
 -- if the source doesn't have the included path, nothing is followed, and only the directory comes back
-nothing_followed : followed Way.ToSources included (tree_after (folder (codes "z") ∷ file (codes "z/x") (codes "1") ∷ []))
+nothing_followed : followed Way.ToSources included (tree_after (directory (codes "z") ∷ file (codes "z/x") (codes "1") ∷ []))
     (path_of (codes "c")) (path_of (codes "z")) ≡ []
 nothing_followed = refl
 
 -- if the source has it, it is followed, and no directory above it
 followed_source : followed Way.ToSources included
-    (tree_after (folder (codes "z") ∷ file (codes "z/b") (codes "1") ∷ [])) (path_of (codes "c")) (path_of (codes "z"))
+    (tree_after (directory (codes "z") ∷ file (codes "z/b") (codes "1") ∷ [])) (path_of (codes "c")) (path_of (codes "z"))
     ≡ path_of (codes "b") ∷ []
 followed_source = refl
 

@@ -4,7 +4,7 @@ use Rattle.dump_trees.proofs.Prelude.{◌≡◌, codes, refl, sym, ap, subst, �
 use Rattle.std.proofs.Common.{ℕ, Bool, true, false, List, [], ◌∷◌, length, Option, Some, None, option_and_then, is_some}
 use Rattle.dump_trees.proofs.histories.HistoryLemmas.{history}
 use Rattle.dump_trees.proofs.quiet.QuietLemmas.{all_quiet}
-use Rattle.dump_trees.proofs.values.ValueParts.{including, excluding, none_more, as_it_was, entries_stay, folder, file, copy, deletion, setting, writing, property, same_folder, same_file, same_copy}
+use Rattle.dump_trees.proofs.values.ValueParts.{including, excluding, none_more, as_it_was, entries_stay, directory, file, copy, deletion, setting, writing, property, same_directory, same_file, same_copy}
 
 -- the premises of a dump: its revisions stay numbered, it loads, no change gives an alarm, and no copy that loses its
 -- source is made over something
@@ -68,14 +68,14 @@ both_load settings whole part there law = by_load (loaded_over root_alone whole)
 -- the whole dump is rejected, since its directory is in none; so is what is written of it
 
 abbrev misses : List (List Change)
-misses = (folder (codes "a/b") ∷ []) ∷ []
+misses = (directory (codes "a/b") ∷ []) ∷ []
 
 misses_is_part : AreFiltered (including (codes "a")) as_it_was none_more misses misses
 misses_is_part = (
-  folder (codes "a/b") ∷ [],
+  directory (codes "a/b") ∷ [],
   [],
   refl,
-  (folder (codes "a/b"), [], refl, same_folder _ _ (codes "a/b"), refl),
+  (directory (codes "a/b"), [], refl, same_directory _ _ (codes "a/b"), refl),
   refl,
 )
 
@@ -91,28 +91,28 @@ abbrev left_numbers : Settings
 left_numbers = record (including (codes "a")) { renumber = false }
 
 abbrev behind_dropped : List (List Change)
-behind_dropped = (folder (codes "a") ∷ file (codes "a/f") (codes "1") ∷ [])
-    ∷ (folder (codes "c") ∷ [])
+behind_dropped = (directory (codes "a") ∷ file (codes "a/f") (codes "1") ∷ [])
+    ∷ (directory (codes "c") ∷ [])
     ∷ (file (codes "a/g") (codes "2") ∷ [])
     ∷ (copy 3 (codes "a/g") (codes "a/h") ∷ [])
     ∷ []
 
 abbrev behind_dropped_part : List (List Change)
-behind_dropped_part = (folder (codes "a") ∷ file (codes "a/f") (codes "1") ∷ [])
+behind_dropped_part = (directory (codes "a") ∷ file (codes "a/f") (codes "1") ∷ [])
     ∷ (file (codes "a/g") (codes "2") ∷ [])
     ∷ (copy 3 (codes "a/g") (codes "a/h") ∷ [])
     ∷ []
 
 behind_dropped_is_part : AreFiltered left_numbers as_it_was none_more behind_dropped behind_dropped_part
 behind_dropped_is_part = (
-  folder (codes "a") ∷ file (codes "a/f") (codes "1") ∷ [],
+  directory (codes "a") ∷ file (codes "a/f") (codes "1") ∷ [],
   _,
   refl,
   (
-    folder (codes "a"),
+    directory (codes "a"),
     _,
     refl,
-    same_folder _ _ (codes "a"),
+    same_directory _ _ (codes "a"),
     (file (codes "a/f") (codes "1"), [], refl, same_file _ _ (codes "a/f") (codes "1"), refl),
   ),
   (
@@ -146,27 +146,27 @@ numbers_are_needed law =
 -- if the only copy after the dropped revision is excluded, the law is true without new numbers
 
 abbrev plain_behind : List (List Change)
-plain_behind = (folder (codes "a") ∷ file (codes "a/f") (codes "1") ∷ [])
-    ∷ (folder (codes "c") ∷ [])
+plain_behind = (directory (codes "a") ∷ file (codes "a/f") (codes "1") ∷ [])
+    ∷ (directory (codes "c") ∷ [])
     ∷ (file (codes "a/g") (codes "2") ∷ [])
     ∷ (copy 3 (codes "a/g") (codes "c/g") ∷ [])
     ∷ []
 
 abbrev plain_behind_part : List (List Change)
-plain_behind_part = (folder (codes "a") ∷ file (codes "a/f") (codes "1") ∷ [])
+plain_behind_part = (directory (codes "a") ∷ file (codes "a/f") (codes "1") ∷ [])
     ∷ (file (codes "a/g") (codes "2") ∷ [])
     ∷ []
 
 plain_behind_is_part : AreFiltered left_numbers as_it_was none_more plain_behind plain_behind_part
 plain_behind_is_part = (
-  folder (codes "a") ∷ file (codes "a/f") (codes "1") ∷ [],
+  directory (codes "a") ∷ file (codes "a/f") (codes "1") ∷ [],
   _,
   refl,
   (
-    folder (codes "a"),
+    directory (codes "a"),
     _,
     refl,
-    same_folder _ _ (codes "a"),
+    same_directory _ _ (codes "a"),
     (file (codes "a/f") (codes "1"), [], refl, same_file _ _ (codes "a/f") (codes "1"), refl),
   ),
   (
@@ -185,19 +185,19 @@ gap_has_law trees at = history left_numbers as_it_was entries_stay none_more pla
 -- a copy of trunk, below which something is excluded: branch lacks it, though it is kept there
 
 abbrev loses : List (List Change)
-loses = (folder (codes "trunk") ∷ file (codes "trunk/big") (codes "1") ∷ [])
+loses = (directory (codes "trunk") ∷ file (codes "trunk/big") (codes "1") ∷ [])
     ∷ (copy 1 (codes "trunk") (codes "branch") ∷ [])
     ∷ []
 
 abbrev loses_part : List (List Change)
-loses_part = (folder (codes "trunk") ∷ []) ∷ (copy 1 (codes "trunk") (codes "branch") ∷ []) ∷ []
+loses_part = (directory (codes "trunk") ∷ []) ∷ (copy 1 (codes "trunk") (codes "branch") ∷ []) ∷ []
 
 loses_is_part : AreFiltered (excluding (codes "trunk/big")) as_it_was none_more loses loses_part
 loses_is_part = (
-  folder (codes "trunk") ∷ [],
+  directory (codes "trunk") ∷ [],
   _,
   refl,
-  (folder (codes "trunk"), [], refl, same_folder _ _ (codes "trunk"), refl),
+  (directory (codes "trunk"), [], refl, same_directory _ _ (codes "trunk"), refl),
   (
     copy 1 (codes "trunk") (codes "branch") ∷ [],
     [],
@@ -223,20 +223,20 @@ copy_loses law = (at_image (excluding (codes "trunk/big")) loses loses_part 2 2 
 -- a copy to tag, below which something is excluded: it comes in there
 
 abbrev lets_in : List (List Change)
-lets_in = (folder (codes "trunk") ∷ file (codes "trunk/secret") (codes "s") ∷ [])
+lets_in = (directory (codes "trunk") ∷ file (codes "trunk/secret") (codes "s") ∷ [])
     ∷ (copy 1 (codes "trunk") (codes "tag") ∷ [])
     ∷ []
 
 lets_in_is_part : AreFiltered (excluding (codes "tag/secret")) as_it_was none_more lets_in lets_in
 lets_in_is_part = (
-  folder (codes "trunk") ∷ file (codes "trunk/secret") (codes "s") ∷ [],
+  directory (codes "trunk") ∷ file (codes "trunk/secret") (codes "s") ∷ [],
   _,
   refl,
   (
-    folder (codes "trunk"),
+    directory (codes "trunk"),
     _,
     refl,
-    same_folder _ _ (codes "trunk"),
+    same_directory _ _ (codes "trunk"),
     (file (codes "trunk/secret") (codes "s"), [], refl, same_file _ _ (codes "trunk/secret") (codes "s"), refl),
   ),
   (
@@ -269,20 +269,20 @@ abbrev mode : Property
 mode = property (codes "svn:executable") (codes "*")
 
 abbrev bare_copy : List (List Change)
-bare_copy = (folder (codes "other") ∷ setting (mode ∷ []) (file (codes "other/f") (codes "1"))
-    ∷ folder (codes "trunk") ∷ [])
+bare_copy = (directory (codes "other") ∷ setting (mode ∷ []) (file (codes "other/f") (codes "1"))
+    ∷ directory (codes "trunk") ∷ [])
     ∷ (writing (codes "2") (copy 1 (codes "other/f") (codes "trunk/f")) ∷ [])
     ∷ []
 
 abbrev bare_copy_part : List (List Change)
-bare_copy_part = (folder (codes "trunk") ∷ []) ∷ (file (codes "trunk/f") (codes "2") ∷ []) ∷ []
+bare_copy_part = (directory (codes "trunk") ∷ []) ∷ (file (codes "trunk/f") (codes "2") ∷ []) ∷ []
 
 bare_copy_is_part : AreFiltered (including (codes "trunk")) as_it_was none_more bare_copy bare_copy_part
 bare_copy_is_part = (
-  folder (codes "trunk") ∷ [],
+  directory (codes "trunk") ∷ [],
   _,
   refl,
-  (folder (codes "trunk"), [], refl, same_folder _ _ (codes "trunk"), refl),
+  (directory (codes "trunk"), [], refl, same_directory _ _ (codes "trunk"), refl),
   (
     file (codes "trunk/f") (codes "2") ∷ [],
     [],
@@ -308,26 +308,26 @@ properties_are_lost law = ((at_image (including (codes "trunk")) bare_copy bare_
 -- a copy of an excluded file is made over an existing file: a new file is rejected there
 
 abbrev copy_over : List (List Change)
-copy_over = (folder (codes "other") ∷ file (codes "other/f") (codes "1") ∷ folder (codes "trunk")
+copy_over = (directory (codes "other") ∷ file (codes "other/f") (codes "1") ∷ directory (codes "trunk")
     ∷ file (codes "trunk/f") (codes "0") ∷ [])
     ∷ (setting [] (writing (codes "2") (copy 1 (codes "other/f") (codes "trunk/f"))) ∷ [])
     ∷ []
 
 abbrev copy_over_part : List (List Change)
-copy_over_part = (folder (codes "trunk") ∷ file (codes "trunk/f") (codes "0") ∷ [])
+copy_over_part = (directory (codes "trunk") ∷ file (codes "trunk/f") (codes "0") ∷ [])
     ∷ (setting [] (file (codes "trunk/f") (codes "2")) ∷ [])
     ∷ []
 
 copy_over_is_part : AreFiltered (including (codes "trunk")) as_it_was none_more copy_over copy_over_part
 copy_over_is_part = (
-  folder (codes "trunk") ∷ file (codes "trunk/f") (codes "0") ∷ [],
+  directory (codes "trunk") ∷ file (codes "trunk/f") (codes "0") ∷ [],
   _,
   refl,
   (
-    folder (codes "trunk"),
+    directory (codes "trunk"),
     _,
     refl,
-    same_folder _ _ (codes "trunk"),
+    same_directory _ _ (codes "trunk"),
     (file (codes "trunk/f") (codes "0"), [], refl, same_file _ _ (codes "trunk/f") (codes "0"), refl),
   ),
   (
@@ -355,31 +355,31 @@ new_file_is_refused law =
 -- an excluded directory above a prefix is deleted: what is kept below it stays
 
 abbrev takes : List (List Change)
-takes = (folder (codes "a") ∷ folder (codes "a/b") ∷ []) ∷ (deletion (codes "a") ∷ []) ∷ []
+takes = (directory (codes "a") ∷ directory (codes "a/b") ∷ []) ∷ (deletion (codes "a") ∷ []) ∷ []
 
 abbrev takes_part : List (List Change)
-takes_part = (folder (codes "a/b") ∷ []) ∷ []
+takes_part = (directory (codes "a/b") ∷ []) ∷ []
 
 takes_is_part : AreFiltered (including (codes "a/b")) as_it_was none_more takes takes_part
 takes_is_part = (
-  folder (codes "a/b") ∷ [],
+  directory (codes "a/b") ∷ [],
   [],
   refl,
-  (folder (codes "a/b"), [], refl, same_folder _ _ (codes "a/b"), refl),
+  (directory (codes "a/b"), [], refl, same_directory _ _ (codes "a/b"), refl),
   refl,
 )
 
 only_takes_fails : premises (including (codes "a/b")) takes ≡ true ∷ true ∷ false ∷ true ∷ []
 only_takes_fails = refl
 
-folder_stays : ¬ HasLaw (including (codes "a/b")) takes takes_part
-folder_stays law = (at_image (including (codes "a/b")) takes takes_part 2 1 refl refl law).kept
+directory_stays : ¬ HasLaw (including (codes "a/b")) takes takes_part
+directory_stays law = (at_image (including (codes "a/b")) takes takes_part 2 1 refl refl law).kept
     (path_of (codes "a/b")) refl
 
 -- an excluded directory above a prefix is a copy: what it brings isn't there
 
 abbrev brings : List (List Change)
-brings = (folder (codes "y") ∷ folder (codes "y/b") ∷ []) ∷ (copy 1 (codes "y") (codes "a") ∷ []) ∷ []
+brings = (directory (codes "y") ∷ directory (codes "y/b") ∷ []) ∷ (copy 1 (codes "y") (codes "a") ∷ []) ∷ []
 
 brings_is_part : AreFiltered (including (codes "a/b")) as_it_was none_more brings []
 brings_is_part = refl
@@ -387,6 +387,6 @@ brings_is_part = refl
 only_brings_fails : premises (including (codes "a/b")) brings ≡ true ∷ true ∷ false ∷ true ∷ []
 only_brings_fails = refl
 
-folder_is_missing : ¬ HasLaw (including (codes "a/b")) brings []
-folder_is_missing law = (at_image (including (codes "a/b")) brings [] 2 0 refl refl law).kept
+directory_is_missing : ¬ HasLaw (including (codes "a/b")) brings []
+directory_is_missing law = (at_image (including (codes "a/b")) brings [] 2 0 refl refl law).kept
     (path_of (codes "a/b")) refl

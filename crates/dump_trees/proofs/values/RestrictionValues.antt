@@ -2,7 +2,7 @@
 -- differs from a weaker or a stronger one.
 use Rattle.dump_trees.proofs.Prelude.{◌≡◌, bytes_eq, codes, refl, ap, Property, Exclude, Settings, path_of, path_text, is_short, Node, Tree, put, root_alone, Made, TextChange, Change, given, IsNewNode, IsRestricted, IsNewChange, AreNewChanges, AreNewRevisions}
 use Rattle.std.proofs.Common.{ℕ, true, false, List, [], ◌∷◌, Some, None, is_some}
-use Rattle.dump_trees.proofs.values.ValueParts.{including_all, including, excluding, none_more, as_it_was, change, folder, file, copy, deletion, setting, editing, writing, patching, property}
+use Rattle.dump_trees.proofs.values.ValueParts.{including_all, including, excluding, none_more, as_it_was, change, directory, file, copy, deletion, setting, editing, writing, patching, property}
 
 -- two texts differ, and so do two lists of properties
 differs : codes "1" ≡ codes "2" → ⊥
@@ -36,13 +36,13 @@ dot = refl
 
 -- the parent directories
 
-given_root : given (including (codes "a/b/c")) [] ≡ Some (Node.Folder [])
+given_root : given (including (codes "a/b/c")) [] ≡ Some (Node.Directory [])
 given_root = refl
 
-given_far : given (including (codes "a/b/c")) (path_of (codes "a")) ≡ Some (Node.Folder [])
+given_far : given (including (codes "a/b/c")) (path_of (codes "a")) ≡ Some (Node.Directory [])
 given_far = refl
 
-given_near : given (including (codes "a/b/c")) (path_of (codes "a/b")) ≡ Some (Node.Folder [])
+given_near : given (including (codes "a/b/c")) (path_of (codes "a/b")) ≡ Some (Node.Directory [])
 given_near = refl
 
 not_given_prefix : given (including (codes "a/b/c")) (path_of (codes "a/b/c")) ≡ None
@@ -60,7 +60,7 @@ not_given_longer = refl
 not_given_kept : given (including_all (codes "a" ∷ codes "a/b" ∷ [])) (path_of (codes "a")) ≡ None
 not_given_kept = refl
 
-given_exclude_root : given (excluding (codes "a/b")) [] ≡ Some (Node.Folder [])
+given_exclude_root : given (excluding (codes "a/b")) [] ≡ Some (Node.Directory [])
 given_exclude_root = refl
 
 not_given_exclude : given (excluding (codes "a/b/c")) (path_of (codes "a/b")) ≡ None
@@ -75,10 +75,10 @@ not_given_excluded = refl
 
 -- nodes of the two trees
 
-other_kind : IsNewNode as_it_was (Some (Node.Folder [])) (Some (Node.File [] [])) → ⊥
+other_kind : IsNewNode as_it_was (Some (Node.Directory [])) (Some (Node.File [] [])) → ⊥
 other_kind new = new
 
-kind_of_file : IsNewNode as_it_was (Some (Node.File [] [])) (Some (Node.Folder [])) → ⊥
+kind_of_file : IsNewNode as_it_was (Some (Node.File [] [])) (Some (Node.Directory [])) → ⊥
 kind_of_file new = new
 
 other_text : IsNewNode as_it_was (Some (Node.File [] (codes "2"))) (Some (Node.File [] (codes "1"))) → ⊥
@@ -90,13 +90,13 @@ file_properties new = new.0
 file_without : IsNewNode as_it_was (Some (Node.File (one ∷ []) (codes "1"))) (Some (Node.File [] (codes "1"))) → ⊥
 file_without new = new.0
 
-folder_properties : IsNewNode as_it_was (Some (Node.Folder [])) (Some (Node.Folder (one ∷ []))) → ⊥
-folder_properties new = new
+directory_properties : IsNewNode as_it_was (Some (Node.Directory [])) (Some (Node.Directory (one ∷ []))) → ⊥
+directory_properties new = new
 
-folder_without : IsNewNode as_it_was (Some (Node.Folder (one ∷ []))) (Some (Node.Folder [])) → ⊥
-folder_without new = new
+directory_without : IsNewNode as_it_was (Some (Node.Directory (one ∷ []))) (Some (Node.Directory [])) → ⊥
+directory_without new = new
 
-something_new : IsNewNode as_it_was None (Some (Node.Folder [])) → ⊥
+something_new : IsNewNode as_it_was None (Some (Node.Directory [])) → ⊥
 something_new new = new
 
 nothing_left : IsNewNode as_it_was (Some (Node.File [] [])) None → ⊥
@@ -123,10 +123,10 @@ not_taken r = r.kept (path_of (codes "f")) refl
 not_given : IsRestricted (including (codes "a/f")) as_it_was root_alone root_alone → ⊥
 not_given r = absurd (let bad : false ≡ true = ap (λ o. is_some o) (r.left (path_of (codes "a")) refl) in cc)
 
-given_with_properties : IsRestricted (including (codes "f")) as_it_was (put [] (Node.Folder (one ∷ [])) root_alone)
-    (put [] (Node.Folder (one ∷ [])) root_alone) → ⊥
+given_with_properties : IsRestricted (including (codes "f")) as_it_was (put [] (Node.Directory (one ∷ [])) root_alone)
+    (put [] (Node.Directory (one ∷ [])) root_alone) → ⊥
 given_with_properties r =
-    some_none [] one (let same : Some (Node.Folder (one ∷ [])) ≡ Some (Node.Folder []) = r.left [] refl in
+    some_none [] one (let same : Some (Node.Directory (one ∷ [])) ≡ Some (Node.Directory []) = r.left [] refl in
     let props : one ∷ [] ≡ [] = cc in props)
 
 -- what the filter writes of a change
@@ -170,11 +170,11 @@ other_edits : IsNew (including (codes "a")) (editing (one ∷ []) (change (codes
     (editing [] (change (codes "a"))) → ⊥
 other_edits new = new.props
 
-folder_of_file : IsNew (including (codes "a")) (record (change (codes "a")) { made = Some Made.NewFile })
-    (folder (codes "a")) → ⊥
-folder_of_file new = new.made
+directory_of_file : IsNew (including (codes "a")) (record (change (codes "a")) { made = Some Made.NewFile })
+    (directory (codes "a")) → ⊥
+directory_of_file new = new.made
 
-nothing_made : IsNew (including (codes "a")) (folder (codes "a")) (change (codes "a")) → ⊥
+nothing_made : IsNew (including (codes "a")) (directory (codes "a")) (change (codes "a")) → ⊥
 nothing_made new = new.made
 
 -- copies of what isn't kept, and of what is
@@ -203,9 +203,9 @@ plain_of_kept : IsNew (including (codes "a")) (writing (codes "1") (copy 1 (code
     → ⊥
 plain_of_kept new = absurd (let bad : true ≡ false = new.made.0 in cc)
 
-folder_of_lost : IsNew (including (codes "a")) (writing (codes "1") (copy 1 (codes "c/f") (codes "a/f")))
-    (writing (codes "1") (folder (codes "a/f"))) → ⊥
-folder_of_lost new = new.made
+directory_of_lost : IsNew (including (codes "a")) (writing (codes "1") (copy 1 (codes "c/f") (codes "a/f")))
+    (writing (codes "1") (directory (codes "a/f"))) → ⊥
+directory_of_lost new = new.made
 
 other_source : IsNew (including (codes "a")) (copy 1 (codes "a/g") (codes "a/f")) (copy 1 (codes "a/h") (codes "a/f"))
     → ⊥
@@ -221,20 +221,20 @@ plain_of_lost = record { path = refl; deletes = refl; made = (refl, refl); props
 
 -- what is written of the changes of a revision, and of revisions
 
-dropped_is_written : AreNewChanges (including (codes "a")) as_it_was any_number (folder (codes "c") ∷ [])
-    (folder (codes "c") ∷ []) → ⊥
-dropped_is_written new = absurd (let bad : folder (codes "c") ∷ [] ≡ [] = new in cc)
+dropped_is_written : AreNewChanges (including (codes "a")) as_it_was any_number (directory (codes "c") ∷ [])
+    (directory (codes "c") ∷ []) → ⊥
+dropped_is_written new = absurd (let bad : directory (codes "c") ∷ [] ≡ [] = new in cc)
 
-kept_is_left_out : AreNewChanges (including (codes "a")) as_it_was any_number (folder (codes "a") ∷ []) [] → ⊥
+kept_is_left_out : AreNewChanges (including (codes "a")) as_it_was any_number (directory (codes "a") ∷ []) [] → ⊥
 kept_is_left_out new = absurd (let bad : [] ≡ new.0 ∷ new.1 = new.2 in cc)
 
-more_is_written : AreNewChanges (including (codes "a")) as_it_was any_number [] (folder (codes "a") ∷ []) → ⊥
-more_is_written new = absurd (let bad : folder (codes "a") ∷ [] ≡ [] = new in cc)
+more_is_written : AreNewChanges (including (codes "a")) as_it_was any_number [] (directory (codes "a") ∷ []) → ⊥
+more_is_written new = absurd (let bad : directory (codes "a") ∷ [] ≡ [] = new in cc)
 
 empty_is_written : AreNewRevisions (including (codes "a")) as_it_was any_number none_more
-    ((folder (codes "c") ∷ []) ∷ []) ([] ∷ []) → ⊥
+    ((directory (codes "c") ∷ []) ∷ []) ([] ∷ []) → ⊥
 empty_is_written new = absurd (let bad : [] ∷ [] ≡ [] = new in cc)
 
 empty_is_kept : AreNewRevisions (including (codes "a")) as_it_was any_number (λ changes. true)
-    ((folder (codes "c") ∷ []) ∷ []) [] → ⊥
+    ((directory (codes "c") ∷ []) ∷ []) [] → ⊥
 empty_is_kept new = absurd (let bad : [] ≡ new.0 ∷ new.1 = new.2 in cc)

@@ -44,9 +44,9 @@ whole_rest = refl
 -- a directory, with a file and a directory with another file
 abbrev old : Tree
 old = put (path_of (codes "a/d/s")) (Node.File [] (codes "2"))
-    (put (path_of (codes "a/d")) (Node.Folder [])
+    (put (path_of (codes "a/d")) (Node.Directory [])
     (put (path_of (codes "a/s")) (Node.File [] (codes "1"))
-    (put (path_of (codes "a")) (Node.Folder []) root_alone)))
+    (put (path_of (codes "a")) (Node.Directory []) root_alone)))
 
 -- these are excluded, and a is copied to b
 abbrev returned : List NodePath → List NodePath

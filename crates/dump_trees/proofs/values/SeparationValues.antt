@@ -4,7 +4,7 @@ use Rattle.dump_trees.proofs.Prelude.{◌≡◌, codes, refl, sym, ap, subst, �
 use Rattle.std.proofs.Common.{ℕ, true, false, List, [], ◌∷◌, length, Option, Some, None, option_and_then, is_some, is_none}
 use Rattle.dump_trees.proofs.histories.HistoryLemmas.{history}
 use Rattle.dump_trees.proofs.quiet.QuietLemmas.{quiet_changes}
-use Rattle.dump_trees.proofs.values.ValueParts.{including, excluding, none_more, as_it_was, entries_stay, folder, file, copy, replacing, setting, writing, property, same_folder, same_file}
+use Rattle.dump_trees.proofs.values.ValueParts.{including, excluding, none_more, as_it_was, entries_stay, directory, file, copy, replacing, setting, writing, property, same_directory, same_file}
 
 abbrev one : Property
 one = property (codes "p") (codes "1")
@@ -18,11 +18,11 @@ always path node number = Some (put (path_of path) node root_alone)
 nothing_has_none : has_no_props None ≡ true
 nothing_has_none = refl
 
-folder_has_none : has_no_props (Some (Node.Folder [])) ≡ true
-folder_has_none = refl
+directory_has_none : has_no_props (Some (Node.Directory [])) ≡ true
+directory_has_none = refl
 
-folder_has_one : has_no_props (Some (Node.Folder (one ∷ []))) ≡ false
-folder_has_one = refl
+directory_has_one : has_no_props (Some (Node.Directory (one ∷ []))) ≡ false
+directory_has_one = refl
 
 file_has_none : has_no_props (Some (Node.File [] (codes "1"))) ≡ true
 file_has_none = refl
@@ -49,7 +49,7 @@ loses_properties apart =
     (put (path_of (codes "c")) (Node.File (one ∷ []) (codes "1")) root_alone) refl in cc)
 
 over_something : PlainSeparates (including (codes "a")) (always (codes "c") (Node.File [] (codes "1")))
-    (put (path_of (codes "a")) (Node.Folder []) root_alone) (setting [] lost_copy) → ⊥
+    (put (path_of (codes "a")) (Node.Directory []) root_alone) (setting [] lost_copy) → ⊥
 over_something apart = absurd (let bad : false ≡ true = (apart 1 (path_of (codes "c")) refl refl).1 in cc)
 
 sets_properties : PlainSeparates (including (codes "a"))
@@ -58,7 +58,7 @@ sets_properties : PlainSeparates (including (codes "a"))
 sets_properties number source made left = (λ old named. refl, refl)
 
 replaces : PlainSeparates (including (codes "a")) (always (codes "c") (Node.File [] (codes "1")))
-    (put (path_of (codes "a")) (Node.Folder []) root_alone) (replacing (setting [] lost_copy))
+    (put (path_of (codes "a")) (Node.Directory []) root_alone) (replacing (setting [] lost_copy))
 replaces number source made left = (λ old named. refl, refl)
 
 -- copies of kept paths
@@ -95,7 +95,7 @@ brings_a_kept_file leaves =
 -- what is made over something
 
 abbrev with_a : Tree
-with_a = put (path_of (codes "a")) (Node.Folder []) root_alone
+with_a = put (path_of (codes "a")) (Node.Directory []) root_alone
 
 lost_over : is_over (including (codes "a")) with_a lost_copy ≡ true
 lost_over = refl
@@ -109,17 +109,17 @@ lost_replaces = refl
 kept_over : is_over (including (codes "a")) with_a (copy 1 (codes "a/b") (codes "a")) ≡ false
 kept_over = refl
 
-new_over : is_over (including (codes "a")) with_a (folder (codes "a")) ≡ false
+new_over : is_over (including (codes "a")) with_a (directory (codes "a")) ≡ false
 new_over = refl
 
 dropped_over : is_over (including (codes "b")) with_a (copy 1 (codes "c") (codes "a")) ≡ false
 dropped_over = refl
 
 abbrev begun : List Change
-begun = folder (codes "a") ∷ file (codes "a/f") (codes "1") ∷ folder (codes "c") ∷ file (codes "c/f") (codes "1") ∷ []
+begun = directory (codes "a") ∷ file (codes "a/f") (codes "1") ∷ directory (codes "c") ∷ file (codes "c/f") (codes "1") ∷ []
 
 somewhere_over : nowhere_is_over (including (codes "a")) (root_alone ∷ []) root_alone
-    (begun ∷ (folder (codes "d") ∷ writing (codes "2") (copy 1 (codes "c/f") (codes "a/f")) ∷ []) ∷ []) ≡ false
+    (begun ∷ (directory (codes "d") ∷ writing (codes "2") (copy 1 (codes "c/f") (codes "a/f")) ∷ []) ∷ []) ≡ false
 somewhere_over = refl
 
 nowhere_over : nowhere_is_over (including (codes "a")) (root_alone ∷ []) root_alone
@@ -139,7 +139,7 @@ abbrev whole : List (List Change)
 whole = begun ∷ (edited_copy ∷ []) ∷ []
 
 abbrev part : List (List Change)
-part = (folder (codes "a") ∷ file (codes "a/f") (codes "1") ∷ []) ∷ (file (codes "a/g") (codes "2") ∷ []) ∷ []
+part = (directory (codes "a") ∷ file (codes "a/f") (codes "1") ∷ []) ∷ (file (codes "a/g") (codes "2") ∷ []) ∷ []
 
 not_quiet : is_quiet settings edited_copy ≡ false
 not_quiet = refl
@@ -165,7 +165,7 @@ module _ (tree : Tree) (at : steps (slice_get (root_alone ∷ [])) root_alone be
         where
           source_of : Option Made → Type 0
           source_of None = ⊥
-          source_of (Some Made.NewFolder) = ⊥
+          source_of (Some Made.NewDirectory) = ⊥
           source_of (Some Made.NewFile) = ⊥
           source_of (Some (Made.Copied m q)) = keeps settings q ≡ false
 
@@ -175,7 +175,7 @@ module _ (tree : Tree) (at : steps (slice_get (root_alone ∷ [])) root_alone be
         where
           bare_of : Option Made → Type 0
           bare_of None = ⊥
-          bare_of (Some Made.NewFolder) = ⊥
+          bare_of (Some Made.NewDirectory) = ⊥
           bare_of (Some Made.NewFile) = ⊥
           bare_of (Some (Made.Copied m q)) = (old : Tree) → slice_get (root_alone ∷ tree ∷ []) m ≡ Some old
               → has_no_props (old q) ≡ true
@@ -193,14 +193,14 @@ all_apart = (
 
 is_part : AreFiltered settings as_it_was none_more whole part
 is_part = (
-  folder (codes "a") ∷ file (codes "a/f") (codes "1") ∷ [],
+  directory (codes "a") ∷ file (codes "a/f") (codes "1") ∷ [],
   _,
   refl,
   (
-    folder (codes "a"),
+    directory (codes "a"),
     _,
     refl,
-    same_folder _ _ (codes "a"),
+    same_directory _ _ (codes "a"),
     (file (codes "a/f") (codes "1"), [], refl, same_file _ _ (codes "a/f") (codes "1"), refl),
   ),
   (

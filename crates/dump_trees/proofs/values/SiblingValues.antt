@@ -4,7 +4,7 @@ use Rattle.dump_trees.proofs.Prelude.{◌≡◌, codes, refl, sym, ap, ◌∙◌
 use Rattle.std.proofs.Common.{ℕ, Bool, true, false, List, [], ◌∷◌, Some, None, is_some, Contains}
 use Rattle.dump_trees.specs.Siblings.{is_within, is_above_included, is_in_cut, is_parent_above, is_sibling, has_node_names, HasNames, AreSiblings, ExcludesPaths, CoverNamed}
 use Rattle.dump_trees.specs.FindingSiblings.{CanStandBelow}
-use Rattle.dump_trees.proofs.values.ValueParts.{including_all, folder, file, copy}
+use Rattle.dump_trees.proofs.values.ValueParts.{including_all, directory, file, copy}
 
 -- one path is included
 abbrev included : List NodePath
@@ -55,7 +55,7 @@ none_below_included = refl
 
 -- a directory above the included path, and what is next to that
 abbrev above : Tree
-above = put (path_of (codes "a")) (Node.Folder []) root_alone
+above = put (path_of (codes "a")) (Node.Directory []) root_alone
 
 abbrev with_sibling : Tree
 with_sibling = put (path_of (codes "a/x")) (Node.File [] (codes "2")) above
@@ -151,7 +151,7 @@ no_other_path e = let bad : [] ≡ codes "/gone" ∷ [] = e.prefixes in cc
 
 -- a directory with something next to the included path, and a copy of it
 abbrev copied : List (List Change)
-copied = (folder (codes "c") ∷ file (codes "c/x") (codes "1") ∷ []) ∷ (copy 1 (codes "c") (codes "a") ∷ []) ∷ []
+copied = (directory (codes "c") ∷ file (codes "c/x") (codes "1") ∷ []) ∷ (copy 1 (codes "c") (codes "a") ∷ []) ∷ []
 
 not_yet : CanStandBelow copied 1 (path_of (codes "a")) (codes "x") → ⊥
 not_yet can = absurd (let bad : false ≡ true = can in cc)

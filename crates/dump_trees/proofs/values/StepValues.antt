@@ -1,12 +1,12 @@
 -- Examples of loading. Each shows that a definition of a change differs from one that svnadmin load doesn't have.
 use Rattle.dump_trees.proofs.Prelude.{◌≡◌, option_map, codes, refl, Property, Node, root_alone, Made, Change, loaded_over}
 use Rattle.std.proofs.Common.{true, List, [], ◌∷◌, ◌++◌, length, Some, None}
-use Rattle.dump_trees.proofs.values.ValueParts.{change, folder, file, copy, deletion, replacing, setting, writing, property, node_at, stands, is_refused}
+use Rattle.dump_trees.proofs.values.ValueParts.{change, directory, file, copy, deletion, replacing, setting, writing, property, node_at, stands, is_refused}
 
 -- two directories with a file in each
 abbrev begun : List (List Change)
 begun =
-    (folder (codes "a") ∷ file (codes "a/f") (codes "1") ∷ folder (codes "c") ∷ file (codes "c/x")
+    (directory (codes "a") ∷ file (codes "a/f") (codes "1") ∷ directory (codes "c") ∷ file (codes "c/x")
     (codes "x") ∷ []) ∷ []
 
 -- the same, and after them one more change
@@ -25,14 +25,14 @@ other = property (codes "q") (codes "2")
 
 -- the start
 
-revision_zero : node_at (loaded_over root_alone begun) 0 [] ≡ Some (Node.Folder [])
+revision_zero : node_at (loaded_over root_alone begun) 0 [] ≡ Some (Node.Directory [])
 revision_zero = refl
 
 nothing_yet : node_at (loaded_over root_alone begun) 0 (codes "a") ≡ None
 nothing_yet = refl
 
 one_tree_each : option_map (λ trees. length trees)
-    (loaded_over root_alone (then_both (deletion (codes "a")) (folder (codes "a"))))
+    (loaded_over root_alone (then_both (deletion (codes "a")) (directory (codes "a"))))
     ≡ Some 4
 one_tree_each = refl
 
@@ -42,10 +42,10 @@ properties_set : stands (then (setting (one ∷ []) (change (codes "a/f")))) (co
     (Node.File (one ∷ []) (codes "1"))
 properties_set = refl
 
-folder_properties : stands (then (setting (one ∷ []) (change (codes "a")))) (codes "a") ≡ Some (Node.Folder (one ∷ []))
-folder_properties = refl
+directory_properties : stands (then (setting (one ∷ []) (change (codes "a")))) (codes "a") ≡ Some (Node.Directory (one ∷ []))
+directory_properties = refl
 
-root_properties : stands (then (setting (one ∷ []) (change []))) [] ≡ Some (Node.Folder (one ∷ []))
+root_properties : stands (then (setting (one ∷ []) (change []))) [] ≡ Some (Node.Directory (one ∷ []))
 root_properties = refl
 
 below_stays : stands (then (setting (one ∷ []) (change (codes "a")))) (codes "a/f") ≡ Some (Node.File [] (codes "1"))
@@ -58,7 +58,7 @@ properties_replaced = refl
 
 properties_taken : stands (then_both (setting (one ∷ []) (change (codes "a"))) (setting [] (change (codes "a"))))
     (codes "a")
-    ≡ Some (Node.Folder [])
+    ≡ Some (Node.Directory [])
 properties_taken = refl
 
 properties_of_nothing : is_refused begun (setting (one ∷ []) (change (codes "n"))) ≡ true
@@ -78,11 +78,11 @@ properties_kept = refl
 text_of_nothing : is_refused begun (writing (codes "2") (change (codes "n"))) ≡ true
 text_of_nothing = refl
 
-text_of_folder : is_refused begun (writing (codes "2") (change (codes "a"))) ≡ true
-text_of_folder = refl
+text_of_directory : is_refused begun (writing (codes "2") (change (codes "a"))) ≡ true
+text_of_directory = refl
 
-empty_text_of_folder : is_refused begun (writing [] (change (codes "a"))) ≡ true
-empty_text_of_folder = refl
+empty_text_of_directory : is_refused begun (writing [] (change (codes "a"))) ≡ true
+empty_text_of_directory = refl
 
 both_set : stands (then (setting (one ∷ []) (writing (codes "2") (change (codes "a/f"))))) (codes "a/f")
     ≡ Some (Node.File (one ∷ []) (codes "2"))
@@ -93,7 +93,7 @@ both_set = refl
 deleted : stands (then (deletion (codes "a/f"))) (codes "a/f") ≡ None
 deleted = refl
 
-deleted_alone : stands (then (deletion (codes "a/f"))) (codes "a") ≡ Some (Node.Folder [])
+deleted_alone : stands (then (deletion (codes "a/f"))) (codes "a") ≡ Some (Node.Directory [])
 deleted_alone = refl
 
 deleted_below : stands (then (deletion (codes "a"))) (codes "a/f") ≡ None
@@ -114,10 +114,10 @@ properties_of_deleted = refl
 replaced : stands (then (replacing (file (codes "a") (codes "2")))) (codes "a") ≡ Some (Node.File [] (codes "2"))
 replaced = refl
 
-replaced_below : stands (then (replacing (folder (codes "a")))) (codes "a/f") ≡ None
+replaced_below : stands (then (replacing (directory (codes "a")))) (codes "a/f") ≡ None
 replaced_below = refl
 
-replaced_nothing : is_refused begun (replacing (folder (codes "n"))) ≡ true
+replaced_nothing : is_refused begun (replacing (directory (codes "n"))) ≡ true
 replaced_nothing = refl
 
 -- new nodes
@@ -125,23 +125,23 @@ replaced_nothing = refl
 no_text : stands (then (record (change (codes "n")) { made = Some Made.NewFile })) (codes "n") ≡ Some (Node.File [] [])
 no_text = refl
 
-new_properties : stands (then (setting (one ∷ []) (folder (codes "n")))) (codes "n") ≡ Some (Node.Folder (one ∷ []))
+new_properties : stands (then (setting (one ∷ []) (directory (codes "n")))) (codes "n") ≡ Some (Node.Directory (one ∷ []))
 new_properties = refl
 
-folder_over_folder : is_refused begun (folder (codes "a")) ≡ true
-folder_over_folder = refl
+directory_over_directory : is_refused begun (directory (codes "a")) ≡ true
+directory_over_directory = refl
 
 file_over_file : is_refused begun (file (codes "a/f") (codes "2")) ≡ true
 file_over_file = refl
 
-no_parent : is_refused begun (folder (codes "n/m")) ≡ true
+no_parent : is_refused begun (directory (codes "n/m")) ≡ true
 no_parent = refl
 
 file_as_parent : is_refused begun (file (codes "a/f/m") (codes "2")) ≡ true
 file_as_parent = refl
 
-text_of_new_folder : is_refused begun (writing (codes "2") (folder (codes "n"))) ≡ true
-text_of_new_folder = refl
+text_of_new_directory : is_refused begun (writing (codes "2") (directory (codes "n"))) ≡ true
+text_of_new_directory = refl
 
 -- copies
 
@@ -177,7 +177,7 @@ copy_of_present = refl
 copy_of_nothing : is_refused begun (copy 1 (codes "n") (codes "b")) ≡ true
 copy_of_nothing = refl
 
-copy_of_what_came_later : is_refused (then (folder (codes "n"))) (copy 1 (codes "n") (codes "b")) ≡ true
+copy_of_what_came_later : is_refused (then (directory (codes "n"))) (copy 1 (codes "n") (codes "b")) ≡ true
 copy_of_what_came_later = refl
 
 copy_over : stands (then (copy 1 (codes "a") (codes "c"))) (codes "c/f") ≡ Some (Node.File [] (codes "1"))
@@ -207,7 +207,7 @@ copy_edited = refl
 
 copy_with_properties : stands (then_both (setting (one ∷ []) (change (codes "a"))) (copy 2 (codes "a") (codes "b")))
     (codes "b")
-    ≡ Some (Node.Folder (one ∷ []))
+    ≡ Some (Node.Directory (one ∷ []))
 copy_with_properties = refl
 
 -- in one revision: the copy is of the tree before it, and what comes later is taken of what came first

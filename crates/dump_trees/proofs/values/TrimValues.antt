@@ -8,26 +8,26 @@ use Rattle.dump_trees.specs.Trimming.{CoverTaken, taken_tops, IsTrimmed, IsSameN
 use Rattle.dump_trees.proofs.quiet.QuietLemmas.{quiet_separates}
 use Rattle.dump_trees.proofs.expansions.TrimLemmas.{taken_tops_cover}
 use Rattle.dump_trees.proofs.expansions.TrimmedHistories.{trimmed_history}
-use Rattle.dump_trees.proofs.values.ValueParts.{as_it_was, entries_stay, folder, file, copy, deletion, excluding, same_folder, same_file, same_copy, node_at}
+use Rattle.dump_trees.proofs.values.ValueParts.{as_it_was, entries_stay, directory, file, copy, deletion, excluding, same_directory, same_file, same_copy, node_at}
 
 -- a directory with a file
 abbrev old : Tree
-old = put (path_of (codes "a/s")) (Node.File [] (codes "1")) (put (path_of (codes "a")) (Node.Folder []) root_alone)
+old = put (path_of (codes "a/s")) (Node.File [] (codes "1")) (put (path_of (codes "a")) (Node.Directory []) root_alone)
 
 abbrev history : History
 history number = Some old
 
 abbrev with_file : Branch
-with_file = Branch.Folder [] (Branches.Named (codes "s") (Branch.File [] (codes "1")) Branches.NoMore)
+with_file = Branch.Directory [] (Branches.Named (codes "s") (Branch.File [] (codes "1")) Branches.NoMore)
 
 -- a copy that the cut doesn't take whole is no expansion of itself, since it isn't separated
-not_itself : Expands (excluding (codes "b/s")) history (put (path_of (codes "a")) (Node.Folder []) root_alone)
+not_itself : Expands (excluding (codes "b/s")) history (put (path_of (codes "a")) (Node.Directory []) root_alone)
     (copy 1 (codes "a") (codes "b")) (copy 1 (codes "a") (codes "b") ∷ []) → ⊥
 not_itself expands =
     let leads = expands (grafted (path_of (codes "b")) (λ rest. old (path_of (codes "a") ++ rest))
-    (put (path_of (codes "a")) (Node.Folder []) root_alone)) refl in
+    (put (path_of (codes "a")) (Node.Directory []) root_alone)) refl in
     let apart = (leads.apart (grafted (path_of (codes "b")) (λ rest. old (path_of (codes "a") ++ rest))
-    (put (path_of (codes "a")) (Node.Folder []) root_alone)) refl).0 in
+    (put (path_of (codes "a")) (Node.Directory []) root_alone)) refl).0 in
     absurd (let bad : false ≡ true = apart.copy refl 1 (path_of (codes "a")) refl refl old refl (path_of (codes "s"))
     (Node.File [] (codes "1")) refl in cc)
 
@@ -79,7 +79,7 @@ not_taken cover = absurd (let bad : false ≡ true = cover.kept in cc)
 -- they are found in the branch: only the topmost ones
 
 abbrev deeper : Branch
-deeper = Branch.Folder [] (Branches.Named (codes "d") with_file Branches.NoMore)
+deeper = Branch.Directory [] (Branches.Named (codes "d") with_file Branches.NoMore)
 
 found_top : taken_tops (excluding (codes "b/d")) (path_of (codes "b")) (path_of (codes "a")) deeper
     ≡ path_of (codes "d") ∷ []
@@ -97,7 +97,7 @@ abbrev trimmed : List ℕ → Option Node
 trimmed path = option_and_then (λ tree. tree (path_of path))
     (steps history old (copy 1 (codes "a") (codes "b") ∷ deletion (codes "b/s") ∷ []))
 
-directory_stays : trimmed (codes "b") ≡ Some (Node.Folder [])
+directory_stays : trimmed (codes "b") ≡ Some (Node.Directory [])
 directory_stays = refl
 
 file_goes : trimmed (codes "b/s") ≡ None
@@ -114,16 +114,16 @@ not_before = refl
 
 -- a directory with a file, and a copy of it, in which the file is excluded
 abbrev whole : List (List Change)
-whole = (folder (codes "a") ∷ file (codes "a/s") (codes "1") ∷ []) ∷ (copy 1 (codes "a") (codes "b") ∷ []) ∷ []
+whole = (directory (codes "a") ∷ file (codes "a/s") (codes "1") ∷ []) ∷ (copy 1 (codes "a") (codes "b") ∷ []) ∷ []
 
 -- the copy stays, and the file is deleted after it
 abbrev written : List (List Change)
-written = (folder (codes "a") ∷ file (codes "a/s") (codes "1") ∷ [])
+written = (directory (codes "a") ∷ file (codes "a/s") (codes "1") ∷ [])
     ∷ (copy 1 (codes "a") (codes "b") ∷ deletion (codes "b/s") ∷ []) ∷ []
 
 abbrev first_tree : Tree
 first_tree = put (path_of (codes "a/s")) (Node.File [] (codes "1"))
-    (put (path_of (codes "a/s")) (Node.File [] []) (put (path_of (codes "a")) (Node.Folder []) root_alone))
+    (put (path_of (codes "a/s")) (Node.File [] []) (put (path_of (codes "a")) (Node.Directory []) root_alone))
 
 abbrev second_tree : Tree
 second_tree = grafted (path_of (codes "b")) (λ rest. first_tree (path_of (codes "a") ++ rest)) first_tree
@@ -155,16 +155,16 @@ stays_alone history before c quiet over =
 
 are_trimmed : AreTrimmedRevisions (excluding (codes "b/s")) as_it_was (root_alone ∷ []) root_alone whole written
 are_trimmed = (
-  folder (codes "a") ∷ file (codes "a/s") (codes "1") ∷ [],
+  directory (codes "a") ∷ file (codes "a/s") (codes "1") ∷ [],
   (copy 1 (codes "a") (codes "b") ∷ deletion (codes "b/s") ∷ []) ∷ [],
   refl,
   (
-    folder (codes "a"),
+    directory (codes "a"),
     [],
     file (codes "a/s") (codes "1") ∷ [],
     refl,
-    same_folder _ _ (codes "a"),
-    stays_alone (slice_get (root_alone ∷ [])) root_alone (folder (codes "a")) refl refl,
+    same_directory _ _ (codes "a"),
+    stays_alone (slice_get (root_alone ∷ [])) root_alone (directory (codes "a")) refl refl,
     λ after at. (
       file (codes "a/s") (codes "1"),
       [],
@@ -212,7 +212,7 @@ has_law = trimmed_history (excluding (codes "b/s")) as_it_was entries_stay whole
 file_is_gone : node_at (loaded_over root_alone written) 2 (codes "b/s") ≡ None
 file_is_gone = refl
 
-directory_is_there : node_at (loaded_over root_alone written) 2 (codes "b") ≡ Some (Node.Folder [])
+directory_is_there : node_at (loaded_over root_alone written) 2 (codes "b") ≡ Some (Node.Directory [])
 directory_is_there = refl
 
 -- a copy names its own revision again

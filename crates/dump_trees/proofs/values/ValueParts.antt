@@ -38,8 +38,8 @@ abbrev pub change : List ℕ → Change
 change path = record { path = path_of path; deletes = false; made = None; props = None; text = None }
 
 -- a new directory
-abbrev pub folder : List ℕ → Change
-folder path = record { path = path_of path; deletes = false; made = Some Made.NewFolder; props = None; text = None }
+abbrev pub directory : List ℕ → Change
+directory path = record { path = path_of path; deletes = false; made = Some Made.NewDirectory; props = None; text = None }
 
 -- a new file with a text
 abbrev pub file : List ℕ → List ℕ → Change
@@ -101,9 +101,9 @@ entries_stay old new same = (ap (λ (p : Property). p.name) same, ap (λ (p : Pr
 -- what is written of changes
 
 -- a new directory is written as it is
-pub same_folder : (settings : Settings) (number : ℕ → ℕ → Type 0) (path : List ℕ)
-    → IsNewChange settings as_it_was number (folder path) (folder path)
-same_folder settings number path = record { path = refl; deletes = refl; made = tt; props = tt; text = refl }
+pub same_directory : (settings : Settings) (number : ℕ → ℕ → Type 0) (path : List ℕ)
+    → IsNewChange settings as_it_was number (directory path) (directory path)
+same_directory settings number path = record { path = refl; deletes = refl; made = tt; props = tt; text = refl }
 
 -- so is a new file
 pub same_file : (settings : Settings) (number : ℕ → ℕ → Type 0) (path text : List ℕ)

@@ -3,7 +3,7 @@ use Rattle.dump_trees.proofs.Prelude.{◌≡◌, codes, refl, image, path_text, 
 use Rattle.std.proofs.Common.{true, false, List, [], ◌∷◌, Some, None, length}
 use Rattle.dump_trees.proofs.histories.HistoryLemmas.{history}
 use Rattle.dump_trees.proofs.quiet.QuietLemmas.{all_quiet}
-use Rattle.dump_trees.proofs.values.ValueParts.{including, excluding, none_more, as_it_was, entries_stay, folder, file, copy, deletion, same_folder, same_file, same_copy, node_at}
+use Rattle.dump_trees.proofs.values.ValueParts.{including, excluding, none_more, as_it_was, entries_stay, directory, file, copy, deletion, same_directory, same_file, same_copy, node_at}
 
 -- paths
 
@@ -31,14 +31,14 @@ parent = refl
 -- a history that is kept in part, with a dropped revision and a copy from after it
 
 abbrev pub whole : List (List Change)
-whole = (folder (codes "a") ∷ folder (codes "a/b") ∷ folder (codes "c") ∷ [])
+whole = (directory (codes "a") ∷ directory (codes "a/b") ∷ directory (codes "c") ∷ [])
     ∷ (file (codes "c/x") (codes "1") ∷ [])
     ∷ (file (codes "a/b/f") (codes "2") ∷ [])
     ∷ (copy 3 (codes "a/b/f") (codes "a/b/g") ∷ [])
     ∷ []
 
 abbrev pub part : List (List Change)
-part = (folder (codes "a/b") ∷ [])
+part = (directory (codes "a/b") ∷ [])
     ∷ (file (codes "a/b/f") (codes "2") ∷ [])
     ∷ (copy 2 (codes "a/b/f") (codes "a/b/g") ∷ [])
     ∷ []
@@ -50,8 +50,8 @@ part_loads : node_at (loaded_over (given (including (codes "a/b"))) part) 3 (cod
     (Node.File [] (codes "2"))
 part_loads = refl
 
-given_folder : given (including (codes "a/b")) (path_of (codes "a")) ≡ Some (Node.Folder [])
-given_folder = refl
+given_directory : given (including (codes "a/b")) (path_of (codes "a")) ≡ Some (Node.Directory [])
+given_directory = refl
 
 its_image : image (kept_of (including (codes "a/b")) none_more whole) 4 ≡ Some 3
 its_image = refl
@@ -65,10 +65,10 @@ none_alarms = refl
 -- the part is what the filter writes of the whole history
 is_part : AreFiltered (including (codes "a/b")) as_it_was none_more whole part
 is_part = (
-  folder (codes "a/b") ∷ [],
+  directory (codes "a/b") ∷ [],
   _,
   refl,
-  (folder (codes "a/b"), [], refl, same_folder _ _ (codes "a/b"), refl),
+  (directory (codes "a/b"), [], refl, same_directory _ _ (codes "a/b"), refl),
   (
     file (codes "a/b/f") (codes "2") ∷ [],
     _,
@@ -106,7 +106,7 @@ loses : is_quiet (excluding (codes "trunk/big")) (copy 1 (codes "trunk") (codes 
 loses = refl
 
 lost : node_at (loaded_over root_alone
-    ((folder (codes "trunk") ∷ file (codes "trunk/big") (codes "1") ∷ []) ∷
+    ((directory (codes "trunk") ∷ file (codes "trunk/big") (codes "1") ∷ []) ∷
     (copy 1 (codes "trunk") (codes "branch") ∷ []) ∷ []))
     2 (codes "branch/big") ≡ Some (Node.File [] (codes "1"))
 lost = refl
@@ -115,7 +115,7 @@ lost_is_kept : keeps (excluding (codes "trunk/big")) (path_of (codes "branch/big
 lost_is_kept = refl
 
 not_there : node_at (loaded_over (given (excluding (codes "trunk/big")))
-    ((folder (codes "trunk") ∷ []) ∷ (copy 1 (codes "trunk") (codes "branch") ∷ []) ∷ [])) 2 (codes "branch/big") ≡ None
+    ((directory (codes "trunk") ∷ []) ∷ (copy 1 (codes "trunk") (codes "branch") ∷ []) ∷ [])) 2 (codes "branch/big") ≡ None
 not_there = refl
 
 -- a copy that lets in what is excluded

@@ -7,7 +7,7 @@ use Rattle.dump_trees.specs.Looking.{Placed}
 -- whether something that is copied is of a revision before this one
 abbrev pub is_of_before : ℕ → Option Made → Bool
 is_of_before revision None = true
-is_of_before revision (Some Made.NewFolder) = true
+is_of_before revision (Some Made.NewDirectory) = true
 is_of_before revision (Some Made.NewFile) = true
 is_of_before revision (Some (Made.Copied number source)) = nat_lt number revision
 

@@ -5,7 +5,7 @@ use Rattle.dump_trees.specs.WritingOut.{copy_of}
 use Rattle.dump_history.specs.WrittenNodes.{Copy}
 use Rattle.dump_index.specs.Kinds.{kind_look}
 use Rattle.dump_index.specs.Listed.{all_placed}
-use Rattle.dump_index.specs.declared.change.NodeKind.TheVariants.{Folder}
+use Rattle.dump_index.specs.declared.change.NodeKind.TheVariants.{Directory}
 use Rattle.dump_index.proofs.SlashLemmas.{names_joined}
 use Rattle.dump_expansion.specs.steps.NewNodes.{written_kind}
 use Rattle.dump_additions.specs.Additions.{SaysKind}
@@ -34,4 +34,4 @@ returns-clause-kind c =
     (ap names_of (c.deref.ensures.value ∙ c.in_ok-there.ensures) ∙ names_joined c.args.source.path.now c.args.rest.now))
     (subst (λ kind. SaysKind c.in_ok-kind.kind (Copy (written_kind kind) c.args.source.revision c.in_ok-there.there.items
     c.in_ok-joined.field-0.items)) (sym c.unwrap_or.ensures)
-    (says_kind c.in_ok-kind.kind Folder c.args.source.revision c.in_ok-there.there.items c.in_ok-joined.field-0.items))
+    (says_kind c.in_ok-kind.kind Directory c.args.source.revision c.in_ok-there.there.items c.in_ok-joined.field-0.items))

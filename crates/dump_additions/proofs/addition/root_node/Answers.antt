@@ -3,7 +3,7 @@ use Rattle.std.specs.Prelude.{Ok, option_copied}
 use Rattle.std.proofs.lemmas.Bool.{and_parts}
 use Rattle.dump_trees.specs.Paths.{names_of}
 use Rattle.dump_trees.specs.Siblings.{has_node_names}
-use Rattle.dump_trees.specs.WritingOut.{file_of, folder_of}
+use Rattle.dump_trees.specs.WritingOut.{file_of, directory_of}
 use Rattle.dump_history.specs.WrittenNodes.{WrittenNode, replacing}
 use Rattle.dump_changes.specs.NodeProperties.{ArePropertiesAt}
 use Rattle.dump_changes.specs.steps.ChangedProperties.{as_property}
@@ -65,10 +65,10 @@ returns-in-None c = λ excluded.
       makes =
           subst (λ f. MakesRoot c.args.table.now c.args.texts.now c.args.index.now excluded (c.args.count - 1)
           (listed_of c.args.change.now) (map as_property c.in_ok-entries.entries.items) f
-          (WrittenNode.Folder c.is_some-replaces.result c.in_ok-path.path.items (map as_property c.in_ok-entries.entries.items)))
+          (WrittenNode.Directory c.is_some-replaces.result c.in_ok-path.path.items (map as_property c.in_ok-entries.entries.items)))
           (sym its.0) (
             its.1,
-            ap₂ (λ b p. replacing b (folder_of p (map as_property c.in_ok-entries.entries.items)))
+            ap₂ (λ b p. replacing b (directory_of p (map as_property c.in_ok-entries.entries.items)))
                 (c.is_some-replaces.ensures ∙ ap is_some c.in_ok-kind_at.ensures)
                 (named_bare c.in_ok-path.path.items
                 (ap (λ t. has_node_names (names_of t)) c.in_ok-path.ensures.items

@@ -6,19 +6,19 @@ use Rattle.dump_expansion.specs.steps.NewNodes.{written_of}
 use Rattle.dump_expansion.specs.declared.written_node.NewNode.{NewNode}
 use Rattle.dump_expansion.proofs.written_node.NewNode.write.Goals as goal
 
-pub returns-in_ok-block-in-Folder : goal.returns-in_ok-block-in-Folder
-returns-in_ok-block-in-Folder c =
+pub returns-in_ok-block-in-Directory : goal.returns-in_ok-block-in-Directory
+returns-in_ok-block-in-Directory c =
     let text = c.args.out.now.items in
-    let more = c.push_folder.new.out.items in
-    let entries = map as_property c.in-Folder.entries.items in
-    subst (λ (node : NewNode). OnOk c.push_folder.result (more ≡ text ++ node_bytes (written_of node)))
-    (sym c.in-Folder.is)
-    (subst (λ (path : List ℕ). OnOk c.push_folder.result
-    (more ≡ text ++ node_bytes (WrittenNode.Folder c.in-Folder.replaces path entries)))
-    c.deref-in-Folder-2.ensures.value
-    (c.push_folder.ensures entries
-    (c.deref-in-Folder-3.ensures.value ∙ c.in_ok-block-in-Folder.ensures
-    ∙ ap (λ es. property_block_text (map as_property es)) c.deref-in-Folder.ensures.value)))
+    let more = c.push_directory.new.out.items in
+    let entries = map as_property c.in-Directory.entries.items in
+    subst (λ (node : NewNode). OnOk c.push_directory.result (more ≡ text ++ node_bytes (written_of node)))
+    (sym c.in-Directory.is)
+    (subst (λ (path : List ℕ). OnOk c.push_directory.result
+    (more ≡ text ++ node_bytes (WrittenNode.Directory c.in-Directory.replaces path entries)))
+    c.deref-in-Directory-2.ensures.value
+    (c.push_directory.ensures entries
+    (c.deref-in-Directory-3.ensures.value ∙ c.in_ok-block-in-Directory.ensures
+    ∙ ap (λ es. property_block_text (map as_property es)) c.deref-in-Directory.ensures.value)))
 
 pub returns-in_ok-block-in-File : goal.returns-in_ok-block-in-File
 returns-in_ok-block-in-File c =

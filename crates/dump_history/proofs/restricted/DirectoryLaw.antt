@@ -1,5 +1,5 @@
 -- The law of filtered dumps that are loaded after the parent directories.
-use Rattle.dump_history.proofs.Prelude.{◌∙◌, drop, AllZip, kept_revisions, IsNewProperty, root_alone, given, given_folders, loads_alike, given_alike, both_restrict, IsRaised, all_quiet, FilteredDumpRestrictsBehindFolders, QuietDumpRestrictsBehindFolders}
+use Rattle.dump_history.proofs.Prelude.{◌∙◌, drop, AllZip, kept_revisions, IsNewProperty, root_alone, given, given_directories, loads_alike, given_alike, both_restrict, IsRaised, all_quiet, FilteredDumpRestrictsAfterDirectories, QuietDumpRestrictsAfterDirectories}
 use Rattle.std.proofs.Common.{List, [], ◌∷◌}
 use Rattle.dump_history.proofs.restricted.FilteredLaw.{filtered_dump_restricts}
 use Rattle.dump_history.proofs.restricted.RaisedLemmas.{raised_entries}
@@ -13,7 +13,7 @@ drop_first R (x ∷ xs) [] all = absurd all
 drop_first R (x ∷ xs) (y ∷ ys) (first, all) = all
 
 -- a dump of separated changes, loaded after the parent directories, has the restricted trees, with raised mergeinfo
-pub filtered_dump_restricts_behind : FilteredDumpRestrictsBehindFolders
+pub filtered_dump_restricts_behind : FilteredDumpRestrictsAfterDirectories
 filtered_dump_restricts_behind patched settings dump text records revisions trees clean fit keeps loads apart =
     let (again, written, others, has, loads_again, no_gap, size, images, properties) =
     filtered_dump_restricts patched settings dump text records revisions trees clean fit keeps loads apart in (
@@ -24,7 +24,7 @@ filtered_dump_restricts_behind patched settings dump text records revisions tree
       no_gap,
       λ moved behind.
           let (raised, loaded_are, same_size, alike) = loads_alike (IsRaised 1) (raised_entries 1) (root_alone ∷ [])
-          (given settings) written moved others (given_folders settings) (given_alike settings (IsRaised 1)) behind
+          (given settings) written moved others (given_directories settings) (given_alike settings (IsRaised 1)) behind
           loads_again.loads in (
             raised,
             loaded_are,
@@ -44,7 +44,7 @@ filtered_dump_restricts_behind patched settings dump text records revisions tree
     )
 
 -- the same for a dump of quiet changes
-pub quiet_dump_restricts_behind : QuietDumpRestrictsBehindFolders
+pub quiet_dump_restricts_behind : QuietDumpRestrictsAfterDirectories
 quiet_dump_restricts_behind patched settings dump text records revisions trees clean fit keeps loads quiet over =
     filtered_dump_restricts_behind patched settings dump text records revisions trees clean fit keeps loads
     (all_quiet settings (root_alone ∷ []) root_alone revisions quiet over)

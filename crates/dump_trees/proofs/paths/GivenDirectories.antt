@@ -1,5 +1,5 @@
 -- Parent directories are in parent directories only.
-use Rattle.dump_trees.proofs.Prelude.{◌≡◌, not, cond, nat_eq, refl, sym, ap, ◌∙◌, subst, inl, inr, append_assoc, list_any, starts_with, and_parts, and_from, or_cases, or_left, or_right, Side, Include, Exclude, bare_prefix, Settings, side_keeps, NodePath, path_text, Node, HasFolders, is_folder, is_above, is_above_some, is_given, given}
+use Rattle.dump_trees.proofs.Prelude.{◌≡◌, not, cond, nat_eq, refl, sym, ap, ◌∙◌, subst, inl, inr, append_assoc, list_any, starts_with, and_parts, and_from, or_cases, or_left, or_right, Side, Include, Exclude, bare_prefix, Settings, side_keeps, NodePath, path_text, Node, HasDirectories, is_directory_node, is_above, is_above_some, is_given, given}
 use Rattle.std.proofs.Common.{ℕ, Bool, true, false, ◌&&◌, List, [], ◌∷◌, ◌++◌, Some, None}
 use Rattle.dump_trees.proofs.paths.KeptPaths.{path_text-append, matched, matched_below}
 
@@ -67,11 +67,11 @@ top_given settings (first ∷ top) name rest is =
     given_above settings.side settings.prefixes (first ∷ top) name rest is
 
 -- each parent directory but the root is in parent directories only
-pub given_folders : (settings : Settings) → HasFolders (given settings)
-given_folders settings top name rest node at =
-    ap (λ b. is_folder (cond b (Some (Node.Folder [])) None))
+pub given_directories : (settings : Settings) → HasDirectories (given settings)
+given_directories settings top name rest node at =
+    ap (λ b. is_directory_node (cond b (Some (Node.Directory [])) None))
     (top_given settings top name rest (is_there (is_given settings (top ++ name ∷ rest)) at))
   where
-    is_there : (b : Bool) → cond b (Some (Node.Folder [])) None ≡ Some node → b ≡ true
+    is_there : (b : Bool) → cond b (Some (Node.Directory [])) None ≡ Some node → b ≡ true
     is_there true at = refl
     is_there false at = absurd (let bad : None ≡ Some node = at in cc)

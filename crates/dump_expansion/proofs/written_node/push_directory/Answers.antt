@@ -4,7 +4,7 @@ use Rattle.dump_text.specs.Names.{path_name, node_kind_name, action_name, proper
 use Rattle.dump_text.specs.Number.{spelled_number}
 use Rattle.dump_history.specs.WrittenNodes.{line, making_word, number_line}
 use Rattle.dump_expansion.proofs.NodeLemmas.{five_lines, line_bytes}
-use Rattle.dump_expansion.proofs.written_node.push_folder.Goals as goal
+use Rattle.dump_expansion.proofs.written_node.push_directory.Goals as goal
 
 pub returns : goal.returns
 returns c = λ entries is.
