@@ -18,9 +18,9 @@ use std::alloc::Global;
 #[derive(Drop)]
 pub struct FilterCall {
     pub options: Options,
-    /// How many workers filter records.
+    /// How many workers check records.
     pub workers: usize,
-    /// How many records the filter holds at once.
+    /// The largest number of records that are processed at the same time.
     pub window: usize,
     /// Whether a run without a fault writes no line.
     pub quiet: bool,
