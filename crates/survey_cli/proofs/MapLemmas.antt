@@ -1,11 +1,7 @@
 -- The place of --map in a line, and the line without it.
-use Rattle.survey_cli.proofs.Prelude.{◌≡◌, ◌≤◌, ◌||◌, ◌+◌, ◌-◌, ◌++◌, ◌∷◌, ◌∙◌, ℕ, suc, Bool, true, false, List, [], Option, Some, None, ap, ap₂, arith, codes, drop, drop-map, Bor, map, map-append, sym, take-map, get_or, is_some, length, length-drop, list_any, subst, take-length, take, option_map, refl, bytes_eq, filter_call_of, survey_of, call_of_line, call_of_words, filter_line, filter_command, is_line_of, is_line_taken_by, is_survey_call, is_taken_call, place_of_map, without, ReadsAsFilter, ReadsMapAnywhere}
+use Rattle.survey_cli.proofs.Prelude.{◌≡◌, ◌≤◌, ◌||◌, ◌+◌, ◌-◌, ◌++◌, ◌∷◌, ◌∙◌, ℕ, suc, true, false, List, [], Option, Some, None, ap, ap₂, arith, codes, drop, drop-map, Bor, map, map-append, sym, take-map, get_or, is_some, length, list_any, subst, take, option_map, refl, bytes_eq, filter_call_of, survey_of, call_of_line, call_of_words, filter_line, filter_command, is_line_of, is_line_taken_by, is_survey_call, is_taken_call, place_of_map, without, ReadsAsFilter, ReadsMapAnywhere, or_parts, Bool}
 use Rattle.clap.specs.Words.{Text}
-
--- if neither of two facts holds
-or_none : (a b : Bool) → (a || b) ≡ false → (a ≡ false) × (b ≡ false)
-or_none true b e = cc
-or_none false b e = (refl, e)
+use Rattle.std.proofs.lemmas.List.{take_rest}
 
 -- a place among the words left, counted from the line's front
 abbrev pub after : ℕ → Option ℕ → Option ℕ
@@ -25,8 +21,8 @@ place_among : (before after : List Text)
     → place_of_map (before ++ codes "--map" ∷ after) ≡ Some (length before)
 place_among [] after none = refl
 place_among (word ∷ before) after none =
-    let parts = or_none (bytes_eq word (codes "--") || bytes_eq word (codes "--map")) _ none in
-    let each = or_none (bytes_eq word (codes "--")) _ parts.0 in
+    let parts = or_parts (bytes_eq word (codes "--") || bytes_eq word (codes "--map")) _ none in
+    let each = or_parts (bytes_eq word (codes "--")) _ parts.0 in
     rw each.0 (rw each.1 (ap (option_map suc) (place_among before after parts.1)))
 
 without_there : (before rest : List Text)
@@ -59,10 +55,6 @@ without_words place line =
     ∙ ap₂ (λ front rest. front ++ rest) (sym (take-map (λ (word : Bor Text). word.now) place line))
     (sym (drop-map (λ (word : Bor Text). word.now) (place + 1) line))
 
-pub all_taken : (n : ℕ) (words : List (Bor Text)) → take (length words - n) (drop n words) ≡ drop n words
-all_taken n words =
-    subst (λ size. take size (drop n words) ≡ drop n words) (length-drop n words) (take-length (drop n words))
-
 -- after so many words without --map or two minus signs, these words of the line are left
 abbrev pub IsLooking : List (Bor Text) → ℕ → List (Bor Text) → Type 0
 IsLooking line count left = (count + length left ≡ length line)
@@ -94,18 +86,22 @@ module _ (line : List (Bor Text)) (count : ℕ) (none : Bor Text) where
       → bytes_eq (get_or left 0 none).now (codes "--map") ≡ false
       → IsLooking line (count + 1) (take (length left - 1) (drop 1 left))
   looking_goes_on left some looking no_end no_map =
-      subst (IsLooking line (count + 1)) (sym (all_taken 1 left)) (one_passed left some looking no_end no_map)
+      subst (IsLooking line (count + 1)) (sym (take_rest left 1)) (one_passed left some looking no_end no_map)
 
--- what a line asks for, and whether it is accepted, by the place of --map
-module _ (words line : List Text) (behind : drop 1 words ≡ line) (place : Option ℕ) (is : place ≡ place_of_map line) where
-  pub call_is : call_of_words words ≡ survey_of (is_some place) (filter_call_of (without place line))
-  call_is = ap call_of_line behind ∙ ap (λ p. survey_of (is_some p) (filter_call_of (without p line))) (sym is)
+-- what words ask for, and whether they are accepted, by the line that is read without --map
+pub record IsReadAs (words : List Text) (map : Bool) (rest : List Text) : Type 0 where
+  pub call : call_of_words words ≡ survey_of map (filter_call_of rest)
+  pub accepted : is_survey_call words ≡ is_line_of filter_command rest
+  pub taken : is_taken_call words ≡ is_line_taken_by filter_command rest
 
-  rest_is : filter_line (drop 1 words) ≡ without place line
-  rest_is = ap filter_line behind ∙ ap (λ p. without p line) (sym is)
-
-  pub accepted_is : is_survey_call words ≡ is_line_of filter_command (without place line)
-  accepted_is = ap (is_line_of filter_command) rest_is
-
-  pub taken_is : is_taken_call words ≡ is_line_taken_by filter_command (without place line)
-  taken_is = ap (is_line_taken_by filter_command) rest_is
+pub is_read_as : (words line rest : List Text) (place : Option ℕ) → drop 1 words ≡ line → place ≡ place_of_map line
+    → rest ≡ without place line → IsReadAs words (is_some place) rest
+is_read_as words line rest place behind is left = record {
+  call = ap call_of_line behind ∙ ap (λ p. survey_of (is_some p) (filter_call_of (without p line))) (sym is)
+      ∙ ap (λ words. survey_of (is_some place) (filter_call_of words)) (sym left);
+  accepted = ap (is_line_of filter_command) rest_is;
+  taken = ap (is_line_taken_by filter_command) rest_is;
+}
+  where
+    rest_is : filter_line (drop 1 words) ≡ rest
+    rest_is = ap filter_line behind ∙ ap (λ p. without p line) (sym is) ∙ sym left

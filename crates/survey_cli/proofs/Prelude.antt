@@ -1,9 +1,8 @@
 -- The words of std, of the definitions and of the lemmas below, for the proofs of this crate.
 pub use Rattle.std.proofs.Common.{Bool, Err, IfErr, IfOk, IfSome, List, MatchBool, None, Ok, OnErr, Option, Result, Some, [], ap, ap₂, append_assoc, arith, codes, drop, false, get_or, inl, inr, is_some, length, map, refl, rules, subst, suc, sym, take, true, ℕ, ◌+◌, ◌-◌, ◌≤◌, ◌++◌, ◌||◌, ◌∙◌, ◌∷◌, ◌≡◌}
 pub use Rattle.std.proofs.KnownBytes.{Appends-kept, Appends-trans}
-pub use Rattle.std.proofs.lemmas.List.{drop-map, length-drop, map-append, take-map}
-pub use Rattle.std.proofs.Math.Seq.{take-length}
-pub use Rattle.std.proofs.lemmas.Result.{IfOk-weaker}
+pub use Rattle.std.proofs.lemmas.Bool.{or_parts}
+pub use Rattle.std.proofs.lemmas.List.{drop-map, map-append, take-map}
 pub use Rattle.std.specs.Borrow.{Bor}
 pub use Rattle.std.specs.List.{list_any}
 pub use Rattle.std.specs.Option.{option_map}
@@ -26,12 +25,9 @@ pub use Rattle.survey_cli.specs.Drive.{IsCallText, IsMapAskedFor, IsWholeText, S
 pub use Rattle.survey_cli.specs.Words.{TellsCall, call_of_line, call_of_words, filter_line, place_of_map, survey_of, without}
 pub use Rattle.survey_cli.specs.steps.LawfulLines.{is_survey_call, is_taken_call}
 pub use Rattle.survey_cli.specs.steps.Answered.{Arrives, FrontBreaksOff, MapBreaksOff, SurveyBreaksOff, answer_status}
-pub use Rattle.dump_rules.specs.declared.options.Empty.{Empty}
 pub use Rattle.dump_rules.specs.declared.options.Empty.TheVariants.{DropAll, Pad}
-pub use Rattle.dump_rules.specs.declared.options.Side.{Side}
 pub use Rattle.dump_rules.specs.declared.options.Side.TheVariants.{Include}
 pub use Rattle.dump_survey.specs.declared.report.survey_text.SurveyFailure.{SurveyFailure}
 pub use Rattle.survey_cli.specs.declared.drive.BrokenOff.{BrokenOff}
 pub use Rattle.survey_cli.specs.declared.words.Call.{Call}
-pub use Rattle.cli_support.specs.declared.usage.Usage.{Usage}
 pub use Rattle.cli_support.specs.declared.usage.Usage.TheVariants.{BothDrops, Words}
