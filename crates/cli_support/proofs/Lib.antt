@@ -2,7 +2,6 @@ mod Prelude
 pub mod CommandLemmas
 pub mod FilledLemmas
 pub mod FilterLemmas
-pub mod InputLemmas
 pub mod LineLemmas
 pub mod NumberLemmas
 pub mod OutputLemmas

@@ -1,13 +1,13 @@
 -- The names of std, of the definitions and of the lemmas below, for the proofs of this crate.
 pub use Rattle.std.specs.Prelude.{find, slice_get, ⊤}
-pub use Rattle.std.proofs.Common.{Bool, Err, IfSome, List, None, Ok, Option, Result, Some, [], ap, append_assoc, arith, codes, false, filter, inl, inr, is_some, length, lit<, lit≤, map, not, refl, subst, suc, sym, take, true, zero, ℕ, ◌&&◌, ◌++◌, ◌<◌, ◌∙◌, ◌∷◌, ◌≡◌, ◌≤◌, ◌⊎◌}
+pub use Rattle.std.proofs.Common.{Bool, Err, List, None, Ok, Option, Result, Some, [], ap, append_assoc, arith, codes, false, filter, inl, inr, is_some, length, lit<, lit≤, map, not, refl, subst, suc, sym, true, zero, ℕ, ◌&&◌, ◌++◌, ◌<◌, ◌∙◌, ◌∷◌, ◌≡◌, ◌≤◌, ◌⊎◌}
 pub use Rattle.std.proofs.KnownBytes.{Appends-kept}
 pub use Rattle.std.proofs.lemmas.Bool.{cases_lt, eqb-true, ne_eqb}
 pub use Rattle.std.proofs.lemmas.List.{append_cancel_left, length-map, nil_from_length}
 pub use Rattle.std.proofs.lemmas.Result.{IfOk-weaker}
 pub use Rattle.std.proofs.lemmas.Slice.Eq.{bytes_eq-Decides}
 pub use Rattle.std.specs.Borrow.{Bor}
-pub use Rattle.std.specs.Io.KnownBytes.{Appends, Consumes, GrowsBy, IsAtEnd, Keeps, append_known}
+pub use Rattle.std.specs.Io.KnownBytes.{Appends, GrowsBy, Keeps, append_known}
 pub use Rattle.std.specs.List.{All, list_any, slice_index_or}
 pub use Rattle.std.specs.Option.{option_and_then, option_map, option_map_or, unwrap_or}
 pub use Rattle.std.specs.Str.{bytes_eq}

@@ -1,52 +1,15 @@
 -- The lines of a text, and the blanks at their ends.
-use Rattle.std.proofs.Common.{◌≡◌, ◌∙◌, ◌&&◌, ◌<◌, ◌≤◌, ◌++◌, ℕ, true, false, zero, suc, List, [], ◌∷◌, length, map, take, drop, refl, subst, sym, ap, arith, inl, inr, slice_index}
+use Rattle.std.proofs.Common.{◌≡◌, ◌∙◌, ◌&&◌, ◌<◌, ◌≤◌, ◌++◌, ℕ, true, false, zero, suc, List, [], ◌∷◌, length, map, take, refl, subst, sym, ap, arith, inl, inr, slice_index}
 use Rattle.std.proofs.lemmas.Bool.{cases_Bool, ne_eqb}
 use Rattle.std.specs.Prelude.{if◌then◌else◌}
 use Rattle.std.specs.List.{AllZip, slice_index_or}
 use Rattle.clap.specs.Walk.{is_empty}
-use Rattle.cli_support.specs.Targets.{before_blanks, begun_by, is_blank, is_line_end, prefix_of_line, prefixes_of_text, lines_in_text}
+use Rattle.cli_support.specs.Targets.{before_blanks, begun_by, is_blank, is_line_end, lines_in_text}
 
 -- the lines, with a text in front of the first one
 abbrev pub joined : List ℕ → List (List ℕ) → List (List ℕ)
 joined text [] = text ∷ []
 joined text (line ∷ lines) = (text ++ line) ∷ lines
-
-joined_begun : (byte : ℕ) (text : List ℕ) (lines : List (List ℕ)) → joined (byte ∷ text) lines ≡ begun_by byte (joined text lines)
-joined_begun byte text [] = refl
-joined_begun byte text (line ∷ lines) = refl
-
-first_begun : (byte : ℕ) (lines : List (List ℕ)) → joined [] (begun_by byte lines) ≡ joined (byte ∷ []) lines
-first_begun byte [] = refl
-first_begun byte (line ∷ lines) = refl
-
--- one more byte that doesn't end the line
-pub line_goes_on : (text : List ℕ) (n : ℕ) → n < length text → is_line_end (slice_index text n) ≡ false
-    → joined (take n text) (lines_in_text (drop n text)) ≡ joined (take (suc n) text) (lines_in_text (drop (suc n) text))
-line_goes_on [] n less other = absurd (omega arith)
-line_goes_on (byte ∷ text) zero less other = rw other (first_begun byte (lines_in_text text))
-line_goes_on (byte ∷ text) (suc n) less other =
-    joined_begun byte (take n text) (lines_in_text (drop n text))
-    ∙ ap (begun_by byte) (line_goes_on text n (omega arith) other)
-    ∙ sym (joined_begun byte (take (suc n) text) (lines_in_text (drop (suc n) text)))
-
--- the byte that ends the first line
-pub line_ends : (text : List ℕ) (n : ℕ) → n < length text → is_line_end (slice_index text n) ≡ true
-    → joined (take n text) (lines_in_text (drop n text)) ≡ take n text ∷ lines_in_text (drop (suc n) text)
-line_ends [] n less is = absurd (omega arith)
-line_ends (byte ∷ text) zero less is = rw is refl
-line_ends (byte ∷ text) (suc n) less is =
-    joined_begun byte (take n text) (lines_in_text (drop n text))
-    ∙ ap (begun_by byte) (line_ends text n (omega arith) is)
-
--- a text without a byte that ends a line
-pub line_is_last : (text : List ℕ) (n : ℕ) → length text ≤ n
-    → joined (take n text) (lines_in_text (drop n text)) ≡ text ∷ lines_in_text (drop n text)
-line_is_last [] zero all = refl
-line_is_last [] (suc n) all = refl
-line_is_last (byte ∷ text) zero all = absurd (omega arith)
-line_is_last (byte ∷ text) (suc n) all =
-    joined_begun byte (take n text) (lines_in_text (drop n text))
-    ∙ ap (begun_by byte) (line_is_last text n (omega arith))
 
 only_begun : (byte : ℕ) (lines : List (List ℕ)) → joined [] (begun_by byte lines) ≡ begun_by byte lines
 only_begun byte [] = refl
@@ -93,15 +56,6 @@ pub other_stays : (line : List ℕ) (count last : ℕ) → count ≡ suc last �
     → is_blank (slice_index line last) ≡ false → before_blanks (take count line) ≡ take count line
 other_stays line count last e less other =
     subst (λ n. before_blanks (take n line) ≡ take n line) (sym e) (other_at line last less other)
-
--- the prefix of a first line, and those of what follows
-module _ (text line rest : List ℕ) (cut : lines_in_text text ≡ line ∷ lines_in_text rest) where
-  pub line_counts : is_empty (prefix_of_line line) ≡ false
-      → prefixes_of_text text ≡ prefix_of_line line ∷ prefixes_of_text rest
-  line_counts filled = rw cut (rw filled refl)
-
-  pub line_does_not_count : is_empty (prefix_of_line line) ≡ true → prefixes_of_text text ≡ prefixes_of_text rest
-  line_does_not_count empty = rw cut (rw empty refl)
 
 -- one more item in both lists
 zip_more : {A B X Y : Type 0} (R : A → B → Type 0) (f : X → A) (h : Y → B) (xs : List X) (i : ℕ) (d : X)

@@ -1,5 +1,5 @@
 -- What the filter writes of a dump that is ready is its cut.
-use Rattle.std.proofs.Common.{ap, ◌≡◌, ◌||◌, ℕ, Bool, true, false, IfSome, MatchBool, List, [], ◌∷◌, Contains, length, map, Option, Some, None, Result, Ok, is_none, is_some, refl, sym, inl, inr, ◌∙◌, subst}
+use Rattle.std.proofs.Common.{ap, ◌≡◌, ◌||◌, ℕ, Bool, true, false, IfSome, MatchBool, List, [], ◌∷◌, Contains, length, map, Option, Some, None, Result, Ok, is_some, refl, sym, inl, inr, ◌∙◌, subst}
 use Rattle.std.proofs.lemmas.Bool.{and_from, or_cases, or_right}
 use Rattle.std.proofs.KnownBytes.{Keeps-refl}
 use Rattle.std.specs.Io.KnownBytes.{Keeps}
@@ -7,7 +7,6 @@ use Rattle.std.specs.List.{list_all, list_any}
 use Rattle.dump_text.specs.PropertyList.{Property}
 use Rattle.dump_records.specs.DumpText.{Ending, HasRecords}
 use Rattle.dump_records.specs.RecordText.{DumpRecord}
-use Rattle.dump_records.proofs.ListLaw.{each_dump_has_one_list}
 use Rattle.dump_digest.specs.RecordParts.{is_revision_record}
 use Rattle.dump_rules.specs.Settings.{Settings}
 use Rattle.dump_rules.specs.declared.options.Empty.TheVariants.{Pad}
@@ -74,13 +73,7 @@ use Rattle.cut_cli.specs.Drive.{CleanTextsAreCuts, CutsDump, CutsInput, WritesBo
 use Rattle.cut_cli.specs.Words.{CutMeaning, asked_map}
 use Rattle.cut_cli.specs.declared.examine.Obstacle.{Obstacle}
 use Rattle.cut_cli.specs.steps.Examined.{AreDeletesIfAny}
-
--- a dump has one list of records
-one_list : (dump : List ℕ) (records others : List DumpRecord) → HasRecords dump records Ending.Whole
-    → HasRecords dump others Ending.Whole → records ≡ others
-one_list dump records others has have =
-    let (its, ending, whole, once) = each_dump_has_one_list dump in
-    (once records Ending.Whole has).0 ∙ sym (once others Ending.Whole have).0
+use Rattle.dump_history.proofs.restricted.LoadsOnce.{whole_records_once}
 
 some_value : {A : Type 0} (o : Option A) → is_some o ≡ true → (x : A) × (o ≡ Some x)
 some_value (Some x) is = (x, refl)
@@ -108,13 +101,6 @@ pub found_copies : (excluded : List NodePath) (told : ToldKinds) (placed : List 
     (found : Result (Option (List (List (List ℕ)))) ℕ) (deletes : Option (List (List (List ℕ)))) → found ≡ Ok deletes
     → AreDeletesIfAny excluded told placed found → AreCopiesTaken excluded told placed deletes
 found_copies excluded told placed found deletes is are = subst (AreDeletesIfAny excluded told placed) is are
-
--- there are deletes if the filter doesn't take a change as it is
-pub not_taken : (excluded : List NodePath) (told : ToldKinds) (placed : List Placed) (found : Option ℕ)
-    → IsFirstNotTaken excluded told placed found → is_none found ≡ false
-    → (place : ℕ) × IsFirstNotTaken excluded told placed (Some place)
-not_taken excluded told placed None first some = absurd (let bad : true ≡ false = some in cc)
-not_taken excluded told placed (Some place) first some = (place, first)
 
 -- the filter keeps a line of mergeinfo exactly if its path is in the cut, if the siblings cover the other paths that
 -- mergeinfo names
@@ -337,7 +323,7 @@ added_read : (patched : Patching) (dump text : List ℕ) (records again : List D
 added_read patched dump text records again changes read revisions trees excluded given has expanded whole listed =
     let (found, found_whole, loads, numbers, properties) =
     additions_load patched dump text records changes revisions trees excluded given has expanded in
-    let are = one_list text found again found_whole whole in
+    let are = whole_records_once text found again found_whole whole in
     let made = made_in_stead records (steads_in 0 records given) revisions in
     let reads = subst (λ rs. LoadsAs patched root_alone rs made trees) are loads in
     let (placed, nodes, zip) = listed patched in
@@ -363,13 +349,13 @@ module _ (m : CutMeaning) (dump : List ℕ) (settings : Settings) (deletes : Opt
   others = are.read_is_taken.0
 
   its_records : its.records ≡ records
-  its_records = one_list dump its.records records its.whole whole
+  its_records = whole_records_once dump its.records records its.whole whole
 
   its_listed : map listed_of its.changes ≡ are.listed
   its_listed = known_numbered its.records its.changes are.listed (ap are_numbered its_records ∙ numbered) its.known
 
   other_records : others.records ≡ again
-  other_records = one_list (text_read expansion dump) others.records again others.whole clean.whole
+  other_records = whole_records_once (text_read expansion dump) others.records again others.whole clean.whole
 
   its_listed_in : AreListedIn records its.changes
   its_listed_in = subst (λ rs. AreListedIn rs its.changes) its_records its.are_listed
@@ -387,7 +373,7 @@ module _ (m : CutMeaning) (dump : List ℕ) (settings : Settings) (deletes : Opt
       → HasRecords (text_read e dump) again Ending.Whole → AreListedIn again others.changes
       → LoadsRead patched records again others.changes revisions trees
   loads_read patched revisions trees loads listed None same has listed_in =
-      let one = one_list dump records again whole has in
+      let one = whole_records_once dump records again whole has in
       let (placed, nodes, zip) = listed_in patched in
       let reads = subst (λ rs. LoadsAs patched root_alone rs revisions trees) one loads in
       record {
@@ -399,7 +385,7 @@ module _ (m : CutMeaning) (dump : List ℕ) (settings : Settings) (deletes : Opt
         over = λ path is. is;
       }
   loads_read patched revisions trees loads listed (Some t) (adds, some, has) has_again listed_in =
-      let same = one_list dump has.records records has.whole whole in
+      let same = whole_records_once dump has.records records has.whole whole in
       added_read patched dump t records again its.changes others.changes revisions trees excluded has.given
       (record {
         has = whole;
@@ -469,7 +455,7 @@ module _ (m : CutMeaning) (dump : List ℕ) (settings : Settings) (deletes : Opt
   is_cut : IsCutText m expansion settings deletes dump text
   is_cut =
       let (made, has, make) = numbered_makes dump records its.changes whole numbered its_listed_in in
-      let one = one_list dump made records has whole in
+      let one = whole_records_once dump made records has whole in
       record {
         excluded = excluded;
         records = records;

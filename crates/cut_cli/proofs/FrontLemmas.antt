@@ -1,10 +1,10 @@
 -- What the reading of a dump's changes says of the dump.
-use Rattle.std.proofs.Common.{◌≡◌, ◌≤◌, ◌-◌, ◌⊎◌, ℕ, suc, Bool, true, false, List, [], ◌∷◌, ◌++◌, drop, get_or, take, length, length-append, map, Option, Some, None, refl, sym, ap, ap₂, ◌∙◌, subst, inl, inr, arith, append-nil, append_assoc}
+use Rattle.std.proofs.Common.{◌≡◌, ◌≤◌, ◌-◌, ◌⊎◌, ℕ, Bool, true, false, List, [], ◌∷◌, ◌++◌, drop, get_or, take, length, map, Option, Some, None, refl, sym, ap, ap₂, ◌∙◌, subst, inl, inr, arith, append-nil, append_assoc}
 use Rattle.std.specs.Prelude.{MatchBool, MatchOption}
 use Rattle.std.specs.List.{list_all}
 use Rattle.std.proofs.Math.Seq.{take-length}
 use Rattle.std.proofs.lemmas.Bool.{and_parts}
-use Rattle.std.proofs.lemmas.List.{length-map, map-append, take-append-drop, take-append-le, take-map}
+use Rattle.std.proofs.lemmas.List.{length-map, map-append, take-append-drop, take-append-le, take-map, take_rest}
 use Rattle.std.proofs.lemmas.List.Folds.{list_all-append}
 use Rattle.dump_records.specs.DumpText.{Ending, HasRecords}
 use Rattle.dump_records.specs.RecordText.{DumpRecord}
@@ -99,18 +99,6 @@ stops_in_order drops dump all stop place number (before, c, behind, all_is, size
         not_so,
       ),
     )
-
-pub within : (all : List NodeChange) (place : ℕ) → IsFirstOutOfOrder all (Some place) → suc place ≤ length all
-within all place (before, c, behind, all_is, size, ordered, not_so) =
-    let sizes = ap length all_is ∙ length-append before (c ∷ behind) in omega (arith, sizes)
-
-pub ordered_first : (all : List NodeChange) (place : ℕ) → IsFirstOutOfOrder all (Some place)
-    → are_in_order 0 (take place all) ≡ true
-ordered_first all place (before, c, behind, all_is, size, ordered, not_so) =
-    ap (are_in_order 0)
-    (ap₂ take (sym size) all_is ∙ take-append-le (length before) before (c ∷ behind) (omega arith)
-    ∙ take-length before)
-    ∙ ordered
 
 -- what an index has of the first changes has no odd paths
 pub begins_named : (dump : List ℕ) (listed : List Listed) → BeginsWithChanges dump listed
@@ -284,9 +272,6 @@ pub record KnownSoFar (all changes left : List NodeChange) : Type 0 where
   pub parts : all ≡ before ++ left
   pub same : without changes ≡ without before
 
-first_left : {X : Type 0} (x : X) (left : List X) → take (length (x ∷ left) - 1) (drop 1 (x ∷ left)) ≡ left
-first_left x left = ap (λ n. take n left) (let e : length (x ∷ left) - 1 ≡ length left = omega arith in e) ∙ take-length left
-
 pub one_more_known : (all changes more left : List NodeChange) (d known : NodeChange) → 1 ≤ length left
     → KnownSoFar all changes left → without_number (listed_of known) ≡ without_number (listed_of (get_or left 0 d))
     → more ≡ changes ++ known ∷ [] → KnownSoFar all more (take (length left - 1) (drop 1 left))
@@ -295,7 +280,7 @@ one_more_known all changes more (c ∷ left) d known some so_far its more_is = r
   before = so_far.before ++ c ∷ [];
   parts =
       so_far.parts ∙ sym (append_assoc so_far.before (c ∷ []) left)
-      ∙ ap (λ cs. (so_far.before ++ c ∷ []) ++ cs) (sym (first_left c left));
+      ∙ ap (λ cs. (so_far.before ++ c ∷ []) ++ cs) (sym (take_rest (c ∷ left) 1));
   same =
       ap without more_is ∙ pushed changes known
       ∙ ap₂ (λ ls l. ls ++ l ∷ []) so_far.same its

@@ -18,7 +18,7 @@ use Rattle.dump_trees.specs.Paths.{NodePath, names_of, parent_of}
 use Rattle.dump_trees.specs.Revisions.{loaded, loaded_over}
 use Rattle.dump_trees.specs.Trees.{HasDirectories, Node, Tree, empty_tree, grafted, root_alone}
 use Rattle.dump_trees.specs.WritingOut.{file_of, directory_of}
-use Rattle.dump_trees.proofs.cuts.CheckedLoads.{AreFrom, Pushed, all_from, from_append, from_more, of_one, one_from, placed_append, placed_cut, pushed, steps_then}
+use Rattle.dump_trees.proofs.cuts.CheckedLoads.{AreFrom, Pushed, all_from, from_append, of_one, one_from, placed_append, placed_cut, pushed, steps_then, one_length}
 use Rattle.dump_trees.proofs.cuts.CheckedSteps.{parent_directory, step_is_allowed}
 use Rattle.dump_trees.proofs.expansions.BranchLemmas.{graft_outside}
 use Rattle.dump_trees.proofs.expansions.DeletionLemmas.{deletion_step}
@@ -57,6 +57,7 @@ use Rattle.dump_additions.specs.Parts.{ArePartsOf, PartMeant}
 use Rattle.dump_additions.specs.steps.WrittenParts.{AreChangesFor, AreEntriesAt, IsChangeOfForm}
 use Rattle.dump_additions.proofs.CopyLemmas.{WritesRoot, copy_expands, early, in_trees}
 use Rattle.dump_additions.proofs.EntryLemmas.{set_again}
+use Rattle.dump_trees.proofs.expansions.BackLemmas.{from_more}
 
 -- the properties of a node of a finite tree, set as entries, make the same properties
 own_again : (tree : Tree) → IsFinite tree → (path : NodePath) (node : Node) → tree path ≡ Some node
@@ -539,10 +540,6 @@ module _ (patched : Patching) (records : List DumpRecord) (changes : List NodeCh
   zip_size (l ∷ ls) number [] all = absurd all
   zip_size (l ∷ ls) number (c ∷ cs) (is, all) = ap suc (zip_size ls number cs all)
 
-  one_size : (number : ℕ) (cs : List Change) → length (of_one number cs) ≡ length cs
-  one_size number [] = refl
-  one_size number (c ∷ cs) = ap suc (one_size number cs)
-
   -- the changes of all revisions
   pub revisions_known : (left rs : List (List Change)) (older : List Tree) (youngest : Tree) → here ≡ placed_from 1 (rs ++ left)
       → loaded_over root_alone rs ≡ Some older → slice_get older (length rs) ≡ Some youngest → AllFinite (slice_get older)
@@ -589,7 +586,7 @@ module _ (patched : Patching) (records : List DumpRecord) (changes : List NodeCh
 
       next_place : length (placed_from 1 rs) + length parts.front ≡ length (placed_from 1 (rs ++ cs ∷ []))
       next_place =
-          ap (λ n. length (placed_from 1 rs) + n) (parts_size ∙ sym (one_size (1 + length rs) cs))
+          ap (λ n. length (placed_from 1 rs) + n) (parts_size ∙ sym (one_length (1 + length rs) cs))
           ∙ sym (ap length one_more ∙ length-append (placed_from 1 rs) (of_one (1 + length rs) cs))
 
       none_done : length (placed_from 1 rs) ≡ length (placed_from 1 (rs ++ [] ∷ []))

@@ -11,14 +11,14 @@ use Rattle.std.proofs.lemmas.Slice.Eq.{bytes_eq-Decides}
 use Rattle.dump_text.specs.PropertyList.{Property}
 use Rattle.dump_trees.specs.Changes.{Change, History, Made, is_copied, step, steps}
 use Rattle.dump_trees.specs.ExpansionCases.{deletion_of}
-use Rattle.dump_trees.specs.LoadCheck.{Kind, Kinds, delta_applies, is_directory, is_file, kind_left, kind_made, kinds_allow, kinds_before, making_allowed, node_set, sets_props}
+use Rattle.dump_trees.specs.LoadCheck.{Kinds, delta_applies, is_directory, is_file, kind_left, kind_made, kinds_allow, kinds_before, making_allowed, node_set, sets_props}
 use Rattle.dump_trees.specs.Paths.{NodePath, below, names_of}
 use Rattle.dump_trees.specs.Revisions.{loaded}
 use Rattle.dump_trees.specs.Trees.{HasDirectories, Tree}
 use Rattle.dump_trees.proofs.changes.TreeLemmas.{below_found, below_rest}
 use Rattle.dump_trees.proofs.cuts.CheckedSteps.{change_leaves, kind_of_left, kind_of_made, kind_some, left_of, made_over, step_is_allowed}
 use Rattle.dump_trees.proofs.cuts.EverSiblings.{file_some}
-use Rattle.dump_trees.proofs.cuts.CoveredPaths.{exists_above, same_behind}
+use Rattle.dump_trees.proofs.cuts.CoveredPaths.{exists_above}
 use Rattle.dump_trees.proofs.cuts.FollowLemmas.{then_some}
 use Rattle.dump_trees.proofs.quiet.LeavingLemmas.{step_leaves}
 use Rattle.dump_history.specs.CopiesOver.{copies_over_changed, copies_to, is_changed_after, some_copies_over}
@@ -37,6 +37,7 @@ use Rattle.dump_additions.specs.declared.parts.Form.{Form}
 use Rattle.dump_additions.specs.declared.parts.Form.TheVariants.{Copy, Directory, File}
 use Rattle.dump_additions.proofs.AdditionLemmas.{AllKnown, AllRevisionsKnown, ClearedFirst, InPlace, IsKnown, IsSteadAt, LeftAlone}
 use Rattle.dump_additions.proofs.WrittenLemmas.{head_once, tail_ordered}
+use Rattle.dump_trees.proofs.paths.PrefixRests.{same_rest}
 
 -- changes one after the other
 
@@ -232,14 +233,14 @@ module _ (listed : List Listed) (excluded : List NodePath) (number : ℕ) (path 
 
   not_below_itself : (rest : NodePath) (name : List ℕ) (more : NodePath) → rest ++ name ∷ more ≡ rest → ⊥
   not_below_itself rest name more is =
-      let bad : name ∷ more ≡ [] = same_behind rest (name ∷ more) [] (is ∙ sym (append-nil rest)) in cc
+      let bad : name ∷ more ≡ [] = same_rest rest (name ∷ more) [] (is ∙ sym (append-nil rest)) in cc
 
   other_names : (rest : NodePath) (name other : List ℕ) (names : List (List ℕ)) (more others : NodePath)
       → is_child_named names name ≡ false → is_child_named names other ≡ true
       → rest ++ other ∷ others ≡ (rest ++ name ∷ []) ++ more → ⊥
   other_names rest name other names more others new named is =
       let both : other ∷ others ≡ name ∷ more =
-      same_behind rest (other ∷ others) (name ∷ more) (is ∙ append_assoc rest (name ∷ []) more) in
+      same_rest rest (other ∷ others) (name ∷ more) (is ∙ append_assoc rest (name ∷ []) more) in
       let same : other ≡ name = cc in
       both_ways (is_child_named names name) new (ap (is_child_named names) (sym same) ∙ named)
 
@@ -280,7 +281,7 @@ module _ (top path : NodePath) where
   not_at_others rest [] (x ∷ xs) same apart are = absurd are
   not_at_others rest (part ∷ parts) [] same apart are = absurd are
   not_at_others rest (part ∷ parts) (x ∷ xs) same (other, apart) (is, are) = (
-    λ here. other (same_behind top part.rest rest (sym is ∙ (here ∙ same))),
+    λ here. other (same_rest top part.rest rest (sym is ∙ (here ∙ same))),
     not_at_others rest parts xs same apart are,
   )
 

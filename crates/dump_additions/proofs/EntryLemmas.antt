@@ -1,10 +1,10 @@
 -- If the properties of a node are set as entries, the result is exactly these properties.
 use Rattle.std.proofs.Common.{◌≡◌, Bool, true, false, not, ◌&&◌, ◌||◌, cond, List, [], ◌∷◌, ◌++◌, ℕ, is_some, bytes_eq, refl, sym, ap, ap₂, ◌∙◌, append_assoc, append-nil}
 use Rattle.std.specs.List.{filter, list_any}
-use Rattle.std.proofs.lemmas.Bool.{and_from, and_parts, false_from_ne_true, not-true, or_parts}
-use Rattle.std.proofs.lemmas.Slice.Eq.{bytes_eq-Decides}
+use Rattle.std.proofs.lemmas.Bool.{and_from, and_parts, not-true, or_parts}
 use Rattle.dump_text.specs.PropertyList.{Property}
 use Rattle.dump_trees.specs.Changes.{edited_with, with_entry}
+use Rattle.dump_trees.proofs.expansions.FiniteLemmas.{other_side}
 
 -- whether one of the properties has the name
 abbrev is_set : List ℕ → List Property → Bool
@@ -14,11 +14,6 @@ is_set name props = list_any (λ (p : Property). bytes_eq p.name name) props
 abbrev are_set : List Property → Bool
 are_set [] = true
 are_set (p ∷ props) = is_some p.value && (not (is_set p.name props) && are_set props)
-
-apart : (one other : List ℕ) → bytes_eq one other ≡ false → bytes_eq other one ≡ false
-apart one other isnt =
-    false_from_ne_true (bytes_eq other one) (λ same.
-    let bad : true ≡ false = sym ((bytes_eq-Decides one other).1 (sym ((bytes_eq-Decides other one).0 same))) ∙ isnt in cc)
 
 -- the properties without those of one name
 
@@ -89,7 +84,7 @@ pushed_are_set (p ∷ props) e all none some =
     let more = and_parts (not (is_set p.name props)) (are_set props) parts.1 in
     let other = or_parts (bytes_eq p.name e.name) (is_set e.name props) none in
     and_from _ _ parts.0
-    (and_from _ _ (ap not (pushed_set p.name props e (not-true _ more.0) (apart p.name e.name other.0)))
+    (and_from _ _ (ap not (pushed_set p.name props e (not-true _ more.0) (other_side p.name e.name other.0)))
     (pushed_are_set props e more.1 other.1 some))
 
 entry_are_set : (e : Property) (props : List Property) → are_set props ≡ true → are_set (with_entry e props) ≡ true
@@ -119,7 +114,7 @@ front_apart : (done : List Property) (p : Property) (rest : List Property) → a
 front_apart [] p rest all = refl
 front_apart (d ∷ done) p rest all =
     ap (λ b. cond (not b) (d ∷ filter (λ (q : Property). not (bytes_eq q.name p.name)) done)
-    (filter (λ (q : Property). not (bytes_eq q.name p.name)) done)) (apart p.name d.name (among done (not-true _ more.0)))
+    (filter (λ (q : Property). not (bytes_eq q.name p.name)) done)) (other_side p.name d.name (among done (not-true _ more.0)))
     ∙ ap (λ ps. d ∷ ps) (front_apart done p rest more.1)
   where
     parts : (is_some d.value ≡ true) × ((not (is_set d.name (done ++ p ∷ rest)) && are_set (done ++ p ∷ rest)) ≡ true)

@@ -1,8 +1,7 @@
 -- Nodes, and the parts that they write.
-use Rattle.std.proofs.Common.{◌≡◌, ℕ, ◌+◌, ◌<◌, ◌≤◌, ◌-◌, length, take, drop, get_or, arith, Bool, true, false, cond, List, [], ◌∷◌, ◌++◌, map, Option, Some, None, nat_eq, refl, sym, ap, ◌∙◌, subst, append_assoc, append-nil, inl, inr}
+use Rattle.std.proofs.Common.{◌≡◌, ℕ, ◌+◌, ◌<◌, ◌≤◌, ◌-◌, length, take, drop, get_or, arith, true, false, List, [], ◌∷◌, ◌++◌, map, Option, Some, None, refl, sym, ap, ◌∙◌, subst, append_assoc, append-nil, inl, inr}
 use Rattle.std.specs.Prelude.{unwrap_or, Err, Ok, Result}
 use Rattle.std.specs.List.{Contains, list_all}
-use Rattle.std.proofs.lemmas.Bool.{eqb-true}
 use Rattle.std.proofs.lemmas.List.{get_or-map, length-map, map-append, take_all, take_more}
 use Rattle.std.proofs.lemmas.List.Elements.{Contains-get_or}
 use Rattle.dump_trees.specs.Paths.{NodePath, names_of, path_of}
@@ -33,18 +32,7 @@ use Rattle.dump_additions.specs.declared.parts.Part.{Part}
 use Rattle.dump_additions.specs.steps.Parts.{part_meant}
 use Rattle.dump_additions.specs.Parts.{ArePartsOf, IsFormAt, PartMeant, TakesSomeBack, kind_in}
 use Rattle.dump_additions.proofs.TopLemmas.{first_form}
-
--- a path with names of nodes has no leading slash
-pub named_bare : (text : List ℕ) → has_node_names (names_of text) ≡ true → path_of text ≡ names_of text
-named_bare [] named = refl
-named_bare (b ∷ text) named = cases (nat_eq b 47) refl
-  where
-    cases : (c : Bool) → nat_eq b 47 ≡ c → path_of (b ∷ text) ≡ names_of (b ∷ text)
-    cases false isnt = ap (λ d. names_of (cond d text (b ∷ text))) isnt
-    cases true is = absurd (slash b (eqb-true b 47 is) named)
-      where
-        slash : (c : ℕ) → c ≡ 47 → has_node_names (names_of (c ∷ text)) ≡ true → ⊥
-        slash c same all = let bad : false ≡ true = subst (λ d. has_node_names (names_of (d ∷ text)) ≡ true) same all in cc
+use Rattle.dump_cut.proofs.FoundDeletes.{named_bare}
 
 -- a rest, joined to a path
 module _ (text top rest : List ℕ) (is : text ≡ joined_text top rest) (top_named : has_node_names (names_of top) ≡ true)

@@ -32,11 +32,6 @@ use Rattle.dump_additions.specs.Parts.{ArePartsIn, ArePartsOf, Copied, IsFormAt,
 pub pending_pushed : (left : List (Vec ℕ)) (rest : Vec ℕ) → pending (left ++ rest ∷ []) ≡ names_of rest.items ∷ pending left
 pending_pushed left rest = ap (map (λ (r : Vec ℕ). names_of r.items)) (reverse-append left (rest ∷ []))
 
--- one more child
-pub children_joined : (rest : NodePath) (paths more : List NodePath)
-    → children_of rest (paths ++ more) ≡ children_of rest paths ++ children_of rest more
-children_joined rest paths more = map-append (λ (path : NodePath). rest ++ path) paths more
-
 -- names as paths
 pub named_paths : (names : List (Bor (List ℕ))) → list_all is_node_name (texts_of names) ≡ true
     → map (λ (name : Bor (List ℕ)). names_of name.now) names ≡ map (λ name. name ∷ []) (texts_of names)
@@ -223,15 +218,6 @@ module _ (listed : List Listed) (excluded : List NodePath) (number : ℕ) (path 
     pub goes_on : (others : List PartMeant) → AreAllParts listed excluded number path source left others
         → ArePartsOf listed excluded number path source [] (done ++ others)
 
-  pub going_first : IsGoing ([] ∷ []) []
-  going_first = record {
-    named = refl;
-    done_named = refl;
-    goes_on = λ others (first, rest, is, one, none).
-        subst (ArePartsOf listed excluded number path source [])
-        (sym (is ∙ (ap (λ ps. first ++ ps) none ∙ append-nil first))) one;
-  }
-
   module _ (rest : NodePath) (rests left : List NodePath) (done : List PartMeant) (left_is : left ≡ rest ∷ rests)
       (going : IsGoing left done) where
     abbrev names : (has_node_names rest ≡ true) × (list_all has_node_names rests ≡ true)
@@ -247,12 +233,6 @@ module _ (listed : List Listed) (excluded : List NodePath) (number : ℕ) (path 
     one_more_named part own =
         list_all-append (λ (p : PartMeant). has_node_names p.rest) done (part ∷ [])
         ∙ and_from _ _ going.done_named (and_from _ _ own refl)
-
-    pub rest_named : has_node_names rest ≡ true
-    rest_named = names.0
-
-    pub rests_named : list_all has_node_names rests ≡ true
-    rests_named = names.1
 
     pub nothing_next : (form : Option Form) → IsFormAt listed excluded number path source rest form
         → ((f : Form) → form ≡ Some f → ⊥) → IsGoing rests done

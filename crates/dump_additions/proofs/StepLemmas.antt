@@ -36,9 +36,6 @@ module _ (blocks : List (List ℕ)) (texts : List ToldText) (listed : List Liste
         → AreAdditionsFrom blocks texts listed excluded 0 (take place listed ++ rest) (done ++ more)
     pub written : list_all (λ (g : GivenStead). list_all can_be_written g.nodes) done ≡ true
 
-  pub going_on : IsGoingOn 0 []
-  going_on = record { goes_on = λ rest more are. are; written = refl }
-
   -- if nothing is in place of the change, nothing comes back with it, and it is over nothing
   pub nothing_back : (at : ℕ) (l : Listed) (found : Option code.Stead) → ((s : code.Stead) → found ≡ Some s → ⊥)
       → IsAdditionOr blocks texts listed excluded at l (Ok found) → IsAdditionOr blocks texts listed excluded at l (Ok None)

@@ -28,6 +28,7 @@ use Rattle.dump_additions.specs.declared.parts.Form.{Form}
 use Rattle.dump_additions.specs.declared.parts.Form.TheVariants.{Copy, Directory, File}
 use Rattle.dump_additions.specs.Parts.{ArePartsIn, ArePartsOf, Copied, NoName, NoPart, Named, Opened, PartMeant, WrittenFile}
 use Rattle.dump_additions.specs.steps.WrittenParts.{AreChangesFor, AreEntriesAt, IsDirectoryWritten, IsPartWritten}
+use Rattle.dump_trees.proofs.changes.TreeLemmas.{none_of}
 
 -- branches in a directory
 
@@ -70,14 +71,10 @@ directory_at : (tree : Tree) → HasDirectories tree → (top : NodePath) (props
 directory_at tree directories top props inside at are all [] = ap tree (append-nil top) ∙ at
 directory_at tree directories top props inside at are all (name ∷ rest) = by_name (has_name name inside) refl
   where
-    missing : (o : Option Node) → is_some o ≡ false → o ≡ None
-    missing None none = refl
-    missing (Some node) none = absurd (let bad : true ≡ false = none in cc)
-
     by_name : (b : Bool) → has_name name inside ≡ b → tree (top ++ name ∷ rest) ≡ found inside name rest None
     by_name true some = found_at tree top inside are name rest some
     by_name false none =
-        none_below tree directories top name rest (missing _ (all name ∙ none)) ∙ sym (not_found inside name rest None none)
+        none_below tree directories top name rest (none_of _ (all name ∙ none)) ∙ sym (not_found inside name rest None none)
 
 -- a name occurs once
 once : (name : List ℕ) (names : List (List ℕ)) → AllByRecursion (λ other. slice_cmp nat_cmp name other ≡ Less) names

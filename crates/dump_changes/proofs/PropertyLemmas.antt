@@ -186,10 +186,6 @@ module _ (blocks : List (List ℕ)) (listed : List Listed) (places : List ℕ) (
       (ap (λ o. props_there o old) (none_placed (map listed_of changes) placed nodes.listed place
       (sym (none ∙ ap (λ ls. slice_get ls place) listed_is))))
 
--- before any place nothing is set
-pub none_set : (blocks : List (List ℕ)) (listed : List Listed) → AreSetAt blocks listed [] []
-none_set blocks listed patched records changes placed are listed_is nodes = refl
-
 -- the places of a trail, from the oldest on
 pub of_trail : (blocks : List (List ℕ)) (listed : List Listed) (path : List ℕ) (count : ℕ) (places : List ℕ)
     (props : List Property) → IsTrail Props listed count path (reverse places) → AreSetAt blocks listed places props

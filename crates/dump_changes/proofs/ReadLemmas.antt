@@ -220,11 +220,6 @@ pub counts_other : (next : ℕ) (r : DumpRecord) (records : List DumpRecord) →
 counts_other next r records isnt =
     ap (λ (b : Bool). counts_from next (map group_number (cond b (group_of r records ∷ groups records) (groups records)))) isnt
 
-pub numbers_other : (r : DumpRecord) (records : List DumpRecord) → is_revision_record r ≡ false
-    → revision_numbers (r ∷ records) ≡ revision_numbers records
-numbers_other r records isnt =
-    ap (λ (b : Bool). map group_number (cond b (group_of r records ∷ groups records) (groups records))) isnt
-
 pub numbers_revision : (r : DumpRecord) (records : List DumpRecord) → is_revision_record r ≡ true
     → revision_numbers (r ∷ records) ≡ revision_number r ∷ revision_numbers records
 numbers_revision r records is =

@@ -1,7 +1,7 @@
 -- What has been read of a dump so far.
-use Rattle.dump_changes.proofs.Prelude.{◌≡◌, ℕ, zero, suc, ◌+◌, ◌<◌, ◌≤◌, true, false, List, [], ◌∷◌, ◌++◌, length, length-append, map, Option, Some, None, refl, sym, ap, ◌∙◌, subst, arith, append-nil, append_assoc, AllZip, count_fits, one_more, whole_list, BeginsWithRecords, Ending, HasRecords, DumpRecord, EndsAfter, IsRecordOf, CutterState, CutStep, record_item, record_number, Record, Patching, MakesChange, is_node, is_revision_record}
-use Rattle.dump_records.proofs.ListLaw.{each_dump_has_one_list}
-use Rattle.dump_records.proofs.Prefixes.{begins_prefix}
+use Rattle.dump_changes.proofs.Prelude.{◌≡◌, ℕ, zero, suc, ◌+◌, ◌<◌, ◌≤◌, true, false, List, [], ◌∷◌, ◌++◌, map, Option, Some, None, refl, sym, ap, ◌∙◌, subst, arith, append-nil, append_assoc, AllZip, DumpRecord, CutterState, CutStep, record_item, record_number, Record, Patching, MakesChange, is_node, is_revision_record}
+use Rattle.dump_records.proofs.CutterLemmas.{ReadSoFar}
+use Rattle.dump_records.proofs.CutterLemmas as cutters
 use Rattle.dump_records.specs.declared.cutter.Cut.TheVariants as cuts
 use Rattle.std.proofs.lemmas.List.{map-append}
 use Rattle.dump_trees.specs.Changes.{Change}
@@ -20,7 +20,7 @@ use Rattle.dump_changes.specs.steps.Reading.{CountsTo, EndsAt, GoesOnFrom, IsBef
 use Rattle.std.specs.Global.{Vec}
 use Rattle.std.proofs.Common.{cond, ◌||◌, ◌&&◌, ◌==◌, Bool, ap₂, eqb-true, inl, inr, lt-ltb, nat_le, nat_lt, unwrap_or}
 use Rattle.std.proofs.lemmas.Bool.{cases_Bool, or_parts}
-use Rattle.dump_filter.specs.Groups.{revision_number, revision_numbers}
+use Rattle.dump_filter.specs.Groups.{revision_numbers}
 use Rattle.dump_history.specs.DumpChanges.{counts_from}
 use Rattle.std.proofs.lemmas.List.Folds.{list_any-append}
 use Rattle.std.specs.List.{list_any}
@@ -29,43 +29,33 @@ use Rattle.dump_records.specs.HeaderRules.{header_number}
 use Rattle.dump_records.specs.declared.kind.RecordKind.{RecordKind}
 use Rattle.dump_records.specs.declared.kind.RecordKind.TheVariants as kinds
 use Rattle.dump_filter.proofs.groups.KindLemmas.{IsOfKind}
-use Rattle.dump_changes.proofs.ReadLemmas.{counts_other, counts_revision, numbers_other, numbers_revision, rises_revision}
+use Rattle.dump_changes.proofs.ReadLemmas.{counts_revision, numbers_revision, rises_revision}
+use Rattle.std.proofs.Math.Bool.{and-true, and_comm}
 
 -- what the records make that the cutter has returned
-pub record ReadSoFar (dump : List ℕ) (cutter : CutterState) (at : Position) (changes : List NodeChange) (numbers : List ℕ)
+pub record ChangesSoFar (dump : List ℕ) (cutter : CutterState) (at : Position) (changes : List NodeChange) (numbers : List ℕ)
     : Type 0 where
-  pub dump_is : cutter.dump ≡ dump
-  pub before : List DumpRecord
-  pub begins : BeginsWithRecords dump before
-  pub count : length before ≡ cutter.number
-  pub no_revision : at.next ≡ 0 → list_any is_revision_record before ≡ false
-  pub before_first : list_any is_revision_record before ≡ false → at.next ≡ 0
-  pub counts : (records : List DumpRecord) → counts_from 0 (revision_numbers (before ++ records)) ≡ counts_on at records
+  pub read : ReadSoFar dump cutter
+  pub no_revision : at.next ≡ 0 → list_any is_revision_record read.before ≡ false
+  pub before_first : list_any is_revision_record read.before ≡ false → at.next ≡ 0
+  pub counts : (records : List DumpRecord)
+      → counts_from 0 (revision_numbers (read.before ++ records)) ≡ counts_on at records
   pub numbers_are : (records : List DumpRecord)
-      → revision_numbers (before ++ records) ≡ numbers ++ revision_numbers records
-  pub present : present_behind None before ≡ at.present
+      → revision_numbers (read.before ++ records) ≡ numbers ++ revision_numbers records
+  pub present : present_behind None read.before ≡ at.present
   pub rises : (records : List DumpRecord)
-      → rise_from 0 (revision_numbers (before ++ records)) ≡ rise_from at.next (revision_numbers records)
-  pub nodes : (records : List DumpRecord) → node_numbers 0 (before ++ records)
+      → rise_from 0 (revision_numbers (read.before ++ records)) ≡ rise_from at.next (revision_numbers records)
+  pub nodes : (records : List DumpRecord) → node_numbers 0 (read.before ++ records)
       ≡ map (λ (c : NodeChange). c.record_number) changes ++ node_numbers cutter.number records
   pub reads : (patched : Patching) → (placed : List Placed) × AllZip IsListed (map listed_of changes) placed
       × ((records : List DumpRecord) (more : List Placed) → NodesMake patched at.present records more
-      → NodesMake patched None (before ++ records) (placed ++ more))
-
--- a dump begins with no records
-pub begins_with_none : (dump : List ℕ) → BeginsWithRecords dump []
-begins_with_none dump =
-    let (records, ending, has, once) = each_dump_has_one_list dump in
-    begins_prefix dump [] records (has.0, has.1, has.2)
+      → NodesMake patched None (read.before ++ records) (placed ++ more))
 
 pub none_read : (dump : List ℕ) (cutter : CutterState) (at : Position) (changes : List NodeChange) (numbers : List ℕ)
     → cutter ≡ record { dump = dump; number = 0 } → at ≡ record { next = 0; present = None; numbered = true }
-    → changes ≡ [] → numbers ≡ [] → ReadSoFar dump cutter at changes numbers
+    → changes ≡ [] → numbers ≡ [] → ChangesSoFar dump cutter at changes numbers
 none_read dump cutter at changes numbers is first none no_number = record {
-  dump_is = ap (λ (c : CutterState). c.dump) is;
-  before = [];
-  begins = begins_with_none dump;
-  count = sym (ap (λ (c : CutterState). c.number) is);
+  read = cutters.none_read dump cutter is;
   no_revision = λ none. refl;
   before_first = λ none. ap (λ (p : Position). p.next) first;
   counts = λ records. ap (λ p. counts_on p records) (sym first);
@@ -97,92 +87,71 @@ present_next present [] r = refl
 present_next present (b ∷ before) r = present_next (revision_behind b present) before r
 
 module _ (dump : List ℕ) (cutter after : CutterState) (at : Position) (changes : List NodeChange) (numbers : List ℕ)
-    (so_far : ReadSoFar dump cutter at changes numbers) where
+    (so_far : ChangesSoFar dump cutter at changes numbers) where
   module _ (item : Record) (step : CutStep cutter (cuts.Item item) after) where
-    begins_next : BeginsWithRecords dump (so_far.before ++ record_item item ∷ [])
-    begins_next =
-        subst (λ d. BeginsWithRecords d (so_far.before ++ record_item item ∷ [])) so_far.dump_is
-        (one_more cutter.dump so_far.before (record_item item)
-        (subst (λ d. BeginsWithRecords d so_far.before) (sym so_far.dump_is) so_far.begins)
-        ∣ subst (λ n. IsRecordOf cutter.dump n (record_item item)) (sym so_far.count) step.2 ∣₁)
-
-    count_next : length (so_far.before ++ record_item item ∷ []) ≡ after.number
-    count_next =
-        length-append so_far.before (record_item item ∷ [])
-        ∙ (ap (λ n. n + 1) so_far.count ∙ sym (ap (λ (c : CutterState). c.number) step.3))
-
     -- the record has the next number
-    pub is_next : (number : ℕ) → number ≡ record_number item → IsNext dump so_far.before number (record_item item)
-    is_next number is = (begins_next, so_far.count ∙ sym (is ∙ step.1))
-
-    -- the cutter is nearer to the end
-    pub read_nearer : (after.number ≡ cutter.number + 1) × (after.number ≤ length dump)
-    read_nearer =
-        let more = begins_next in
-        let fits = count_fits 0 0 dump more.0 (so_far.before ++ record_item item ∷ []) more.1 in
-        let size = length-append so_far.before (record_item item ∷ []) in
-        let its = so_far.count in
-        let number = ap (λ (c : CutterState). c.number) step.3 in
-        (number, omega arith)
+    pub is_next : (number : ℕ) → number ≡ record_number item → IsNext dump so_far.read.before number (record_item item)
+    is_next number is =
+        (cutters.begins_more dump cutter after so_far.read item step, so_far.read.count ∙ sym (is ∙ step.1))
 
     -- there is no revision yet if the record is none
     none_next : at.next ≡ 0 → is_revision_record (record_item item) ≡ false
-        → list_any is_revision_record (so_far.before ++ record_item item ∷ []) ≡ false
-    none_next none other = list_any-append is_revision_record so_far.before (record_item item ∷ [])
+        → list_any is_revision_record (so_far.read.before ++ record_item item ∷ []) ≡ false
+    none_next none other = list_any-append is_revision_record so_far.read.before (record_item item ∷ [])
         ∙ ap₂ (λ a b. a || (b || false)) (so_far.no_revision none) other
 
     -- if there is no revision even with the record, the record is none, and there was none before
-    neither : list_any is_revision_record (so_far.before ++ record_item item ∷ []) ≡ false
-        → (list_any is_revision_record so_far.before ≡ false) × (is_revision_record (record_item item) ≡ false)
+    neither : list_any is_revision_record (so_far.read.before ++ record_item item ∷ []) ≡ false
+        → (list_any is_revision_record so_far.read.before ≡ false) × (is_revision_record (record_item item) ≡ false)
     neither none =
-        let its = or_parts (list_any is_revision_record so_far.before) (is_revision_record (record_item item) || false)
-        (sym (list_any-append is_revision_record so_far.before (record_item item ∷ [])) ∙ none) in
+        let its = or_parts (list_any is_revision_record so_far.read.before) (is_revision_record (record_item item) || false)
+        (sym (list_any-append is_revision_record so_far.read.before (record_item item ∷ [])) ∙ none) in
         (its.0, (or_parts (is_revision_record (record_item item)) false its.1).0)
 
     -- and no record is out of order
-    pub not_in_order : IsOutOfPlaceAt (record_item item) at → IsOutOfPlace so_far.before (record_item item)
+    pub not_in_order : IsOutOfPlaceAt (record_item item) at → IsOutOfPlace so_far.read.before (record_item item)
     not_in_order (inl (node, none)) = inl (node, ap takes_nodes so_far.present ∙ none)
     not_in_order (inr (revision, below)) =
         inr (revision, λ number is small. so_far.rises (record_item item ∷ []) ∙ below number is small)
 
     counts_next : (next : Position) → CountsTo (record_item item) at next → (records : List DumpRecord)
-        → counts_from 0 (revision_numbers ((so_far.before ++ record_item item ∷ []) ++ records)) ≡ counts_on next records
+        → counts_from 0 (revision_numbers ((so_far.read.before ++ record_item item ∷ []) ++ records)) ≡ counts_on next records
     counts_next next counting records =
-        ap (λ rs. counts_from 0 (revision_numbers rs)) (append_assoc so_far.before (record_item item ∷ []) records)
+        ap (λ rs. counts_from 0 (revision_numbers rs)) (append_assoc so_far.read.before (record_item item ∷ []) records)
         ∙ so_far.counts (record_item item ∷ records) ∙ (counting records).0
 
     rises_next : (next : Position) → CountsTo (record_item item) at next → (records : List DumpRecord)
-        → rise_from 0 (revision_numbers ((so_far.before ++ record_item item ∷ []) ++ records))
+        → rise_from 0 (revision_numbers ((so_far.read.before ++ record_item item ∷ []) ++ records))
         ≡ rise_from next.next (revision_numbers records)
     rises_next next counting records =
-        ap (λ rs. rise_from 0 (revision_numbers rs)) (append_assoc so_far.before (record_item item ∷ []) records)
+        ap (λ rs. rise_from 0 (revision_numbers rs)) (append_assoc so_far.read.before (record_item item ∷ []) records)
         ∙ so_far.rises (record_item item ∷ records) ∙ (counting records).1
 
     numbers_next : (records : List DumpRecord)
-        → revision_numbers ((so_far.before ++ record_item item ∷ []) ++ records)
+        → revision_numbers ((so_far.read.before ++ record_item item ∷ []) ++ records)
         ≡ numbers ++ revision_numbers (record_item item ∷ records)
     numbers_next records =
-        ap revision_numbers (append_assoc so_far.before (record_item item ∷ []) records)
+        ap revision_numbers (append_assoc so_far.read.before (record_item item ∷ []) records)
         ∙ so_far.numbers_are (record_item item ∷ records)
 
     -- the numbers of the nodes with one more record
     nodes_next : (records : List DumpRecord)
-        → node_numbers 0 ((so_far.before ++ record_item item ∷ []) ++ records)
+        → node_numbers 0 ((so_far.read.before ++ record_item item ∷ []) ++ records)
         ≡ map (λ (c : NodeChange). c.record_number) changes
         ++ cond (is_node (record_item item)) (cutter.number ∷ node_numbers after.number records)
         (node_numbers after.number records)
     nodes_next records =
         let number = ap (λ (c : CutterState). c.number) step.3 in
         let more : suc cutter.number ≡ after.number = omega (arith, number) in
-        ap (node_numbers 0) (append_assoc so_far.before (record_item item ∷ []) records)
+        ap (node_numbers 0) (append_assoc so_far.read.before (record_item item ∷ []) records)
         ∙ so_far.nodes (record_item item ∷ records)
         ∙ ap (λ n. map (λ (c : NodeChange). c.record_number) changes
         ++ cond (is_node (record_item item)) (cutter.number ∷ node_numbers n records) (node_numbers n records)) more
 
     present_there : (present : Option ℕ) → revision_behind (record_item item) at.present ≡ present
-        → present_behind None (so_far.before ++ record_item item ∷ []) ≡ present
+        → present_behind None (so_far.read.before ++ record_item item ∷ []) ≡ present
     present_there present is =
-        present_next None so_far.before (record_item item)
+        present_next None so_far.read.before (record_item item)
         ∙ ap (revision_behind (record_item item)) so_far.present ∙ is
 
     -- after a record that makes no change, there are these numbers
@@ -190,12 +159,9 @@ module _ (dump : List ℕ) (cutter after : CutterState) (at : Position) (changes
         → GoesOnFrom (record_item item) at next → IsBeforeNext (record_item item) at next
         → CountsTo (record_item item) at next → revision_behind (record_item item) at.present ≡ next.present
         → ((records : List DumpRecord) → numbers ++ revision_numbers (record_item item ∷ records) ≡ all ++ revision_numbers records)
-        → ReadSoFar dump after next changes all
+        → ChangesSoFar dump after next changes all
     read_on next all no_node goes first counting there its = record {
-      dump_is = ap (λ (c : CutterState). c.dump) step.3 ∙ so_far.dump_is;
-      before = so_far.before ++ record_item item ∷ [];
-      begins = begins_next;
-      count = count_next;
+      read = cutters.read_more dump cutter after so_far.read item step;
       no_revision = λ none. let its = first.0 none in none_next its.0 its.1;
       before_first = λ none. let its = neither none in first.1 (so_far.before_first its.0) its.1;
       counts = counts_next next counting;
@@ -212,7 +178,7 @@ module _ (dump : List ℕ) (cutter after : CutterState) (at : Position) (changes
             front.1,
             λ records more reads.
                 subst (λ (rs : List DumpRecord). NodesMake patched None rs (front.0 ++ more))
-                (sym (append_assoc so_far.before (record_item item ∷ []) records))
+                (sym (append_assoc so_far.read.before (record_item item ∷ []) records))
                 (front.2 (record_item item ∷ records) more (goes patched records more reads)),
           );
     }
@@ -221,7 +187,7 @@ module _ (dump : List ℕ) (cutter after : CutterState) (at : Position) (changes
         → IsReadingStep (record_item item) at (steps.Revision number next) → IsBeforeNext (record_item item) at next
         → IsCountingStep (record_item item) at (steps.Revision number next)
         → revision_behind (record_item item) at.present ≡ next.present → is_node (record_item item) ≡ false
-        → all ≡ numbers ++ number ∷ [] → ReadSoFar dump after next changes all
+        → all ≡ numbers ++ number ∷ [] → ChangesSoFar dump after next changes all
     read_revision number next all goes first counting there no_node all_is =
         read_on next all no_node goes first counting.0 there (λ records.
         ap (λ ns. numbers ++ ns) (counting.1 records)
@@ -231,7 +197,7 @@ module _ (dump : List ℕ) (cutter after : CutterState) (at : Position) (changes
     pub read_other : (next : Position) → IsReadingStep (record_item item) at (steps.Other next)
         → IsBeforeNext (record_item item) at next → IsCountingStep (record_item item) at (steps.Other next)
         → revision_behind (record_item item) at.present ≡ next.present → is_node (record_item item) ≡ false
-        → ReadSoFar dump after next changes numbers
+        → ChangesSoFar dump after next changes numbers
     read_other next goes first counting there no_node =
         read_on next numbers no_node goes first counting.0 there (λ records. ap (λ ns. numbers ++ ns) (counting.1 records))
 
@@ -240,12 +206,9 @@ module _ (dump : List ℕ) (cutter after : CutterState) (at : Position) (changes
         → is_revision_record (record_item item) ≡ false → IsCountingStep (record_item item) at (steps.Makes c)
         → revision_behind (record_item item) at.present ≡ at.present
         → IsNumberedStep (record_item item) (record_number item) (steps.Makes c)
-        → all ≡ changes ++ c ∷ [] → ReadSoFar dump after at all numbers
+        → all ≡ changes ++ c ∷ [] → ChangesSoFar dump after at all numbers
     read_more c all makes other counting there numbered all_is = record {
-      dump_is = ap (λ (s : CutterState). s.dump) step.3 ∙ so_far.dump_is;
-      before = so_far.before ++ record_item item ∷ [];
-      begins = begins_next;
-      count = count_next;
+      read = cutters.read_more dump cutter after so_far.read item step;
       no_revision = λ none. none_next none other;
       before_first = λ none. so_far.before_first (neither none).0;
       counts = counts_next at counting.0;
@@ -272,44 +235,33 @@ module _ (dump : List ℕ) (cutter after : CutterState) (at : Position) (changes
                 (sym (ap (map listed_of) all_is ∙ map-append listed_of changes (c ∷ [])))
                 (zip_push (map listed_of changes) front.0 front.1 (listed_of c) new made.1),
             λ records more reads.
-                subst (λ (ps : List Placed). NodesMake patched None ((so_far.before ++ record_item item ∷ []) ++ records) ps)
+                subst (λ (ps : List Placed). NodesMake patched None ((so_far.read.before ++ record_item item ∷ []) ++ records) ps)
                 (sym (append_assoc front.0 (new ∷ []) more))
                 (subst (λ (rs : List DumpRecord). NodesMake patched None rs (front.0 ++ new ∷ more))
-                (sym (append_assoc so_far.before (record_item item ∷ []) records))
+                (sym (append_assoc so_far.read.before (record_item item ∷ []) records))
                 (front.2 (record_item item ∷ records) (new ∷ more) (made.2 records more reads))),
           );
     }
 
-  -- the records when they end
-  pub all_records : (ending : Ending) → EndsAfter cutter.dump cutter.number ending → HasRecords dump so_far.before ending
-  all_records ending ends =
-      whole_list dump so_far.before ending so_far.begins
-      (subst (λ d. EndsAfter d (length so_far.before) ending) so_far.dump_is
-      (subst (λ n. EndsAfter cutter.dump n ending) (sym so_far.count) ends))
-
   -- all nodes that were read make these changes
-  pub nodes_made : AreListedIn so_far.before changes
+  pub nodes_made : AreListedIn so_far.read.before changes
   nodes_made patched =
       let front = so_far.reads patched in (
         front.0,
-        subst (λ (rs : List DumpRecord). NodesMake patched None rs front.0) (append-nil so_far.before)
-            (subst (λ (ps : List Placed). NodesMake patched None (so_far.before ++ []) ps) (append-nil front.0)
+        subst (λ (rs : List DumpRecord). NodesMake patched None rs front.0) (append-nil so_far.read.before)
+            (subst (λ (ps : List Placed). NodesMake patched None (so_far.read.before ++ []) ps) (append-nil front.0)
             (front.2 [] [] (NoRecord at.present))),
         front.1,
       )
 
   -- they are numbered one by one if the position says so
-  counted : counts_from 0 (revision_numbers so_far.before) ≡ at.numbered
+  counted : counts_from 0 (revision_numbers so_far.read.before) ≡ at.numbered
   counted =
-      ap (λ rs. counts_from 0 (revision_numbers rs)) (sym (append-nil so_far.before)) ∙ so_far.counts [] ∙ only at.numbered
-    where
-      only : (b : Bool) → (b && true) ≡ b
-      only true = refl
-      only false = refl
+      ap (λ rs. counts_from 0 (revision_numbers rs)) (sym (append-nil so_far.read.before)) ∙ so_far.counts [] ∙ and-true at.numbered
 
   -- and there is a revision if the next one isn't the first
-  some_revision : list_any is_revision_record so_far.before ≡ nat_lt 0 at.next
-  some_revision = elim (cases_Bool (list_any is_revision_record so_far.before)) [
+  some_revision : list_any is_revision_record so_far.read.before ≡ nat_lt 0 at.next
+  some_revision = elim (cases_Bool (list_any is_revision_record so_far.read.before)) [
     | inl is ↦ is ∙ sym (positive at.next (λ none.
         let bad : true ≡ false = sym is ∙ so_far.no_revision none in absurd (cc)))
     | inr none ↦ none ∙ sym (ap (nat_lt 0) (so_far.before_first none))
@@ -319,33 +271,27 @@ module _ (dump : List ℕ) (cutter after : CutterState) (at : Position) (changes
       positive zero some = absurd (some refl)
       positive (suc n) some = lt-ltb 0 (suc n) (omega arith)
 
-  pub numbered_is : are_numbered so_far.before ≡ (at.numbered && nat_lt 0 at.next)
-  numbered_is = ap₂ (λ a b. a && b) some_revision counted ∙ swapped (nat_lt 0 at.next) at.numbered
-    where
-      swapped : (a b : Bool) → (a && b) ≡ (b && a)
-      swapped true true = refl
-      swapped true false = refl
-      swapped false true = refl
-      swapped false false = refl
+  pub numbered_is : are_numbered so_far.read.before ≡ (at.numbered && nat_lt 0 at.next)
+  numbered_is = ap₂ (λ a b. a && b) some_revision counted ∙ and_comm (nat_lt 0 at.next) at.numbered
 
   pub read_so_far : (all : Vec NodeChange) (its : Vec ℕ) (end : End) (reading : Reading) → all.items ≡ changes
-      → its.items ≡ numbers → EndsAt at all its end reading → EndsReading dump so_far.before end
+      → its.items ≡ numbers → EndsAt at all its end reading → EndsReading dump so_far.read.before end
       → IsReadingOfDump dump reading
   read_so_far all its end reading all_are numbers_are (changes_is, numbers_is, numbered, ended) ends = record {
-    records = so_far.before;
-    begins = so_far.begins;
+    records = so_far.read.before;
+    begins = so_far.read.begins;
     numbers =
         ap (λ (v : Vec ℕ). v.items) numbers_is ∙ numbers_are ∙ sym (append-nil numbers)
-        ∙ sym (so_far.numbers_are []) ∙ ap revision_numbers (append-nil so_far.before);
+        ∙ sym (so_far.numbers_are []) ∙ ap revision_numbers (append-nil so_far.read.before);
     numbered = numbered ∙ sym numbered_is;
-    rise = ap (λ rs. rise_from 0 (revision_numbers rs)) (sym (append-nil so_far.before)) ∙ so_far.rises [];
+    rise = ap (λ rs. rise_from 0 (revision_numbers rs)) (sym (append-nil so_far.read.before)) ∙ so_far.rises [];
     nodes =
         ap (λ (v : Vec NodeChange). map (λ (c : NodeChange). c.record_number) v.items) changes_is
         ∙ ap (map (λ (c : NodeChange). c.record_number)) all_are
         ∙ sym (append-nil (map (λ (c : NodeChange). c.record_number) changes)) ∙ sym (so_far.nodes [])
-        ∙ ap (node_numbers 0) (append-nil so_far.before);
-    listed = subst (AreListedIn so_far.before) (sym (ap (λ (v : Vec NodeChange). v.items) changes_is ∙ all_are)) nodes_made;
-    ends = subst (EndsReading dump so_far.before) (sym ended) ends;
+        ∙ ap (node_numbers 0) (append-nil so_far.read.before);
+    listed = subst (AreListedIn so_far.read.before) (sym (ap (λ (v : Vec NodeChange). v.items) changes_is ∙ all_are)) nodes_made;
+    ends = subst (EndsReading dump so_far.read.before) (sym ended) ends;
   }
 
 -- one record
@@ -399,64 +345,12 @@ revision_rises next number r records is its above =
     ∙ ap (λ b. b && rise_from (suc number) (revision_numbers records)) above
     ∙ ap (λ n. rise_from n (revision_numbers records)) (let more : suc number ≡ number + 1 = omega arith in more)
 
--- other records don't count
-pub other_counts : (at : Position) (r : DumpRecord) → is_revision_record r ≡ false
-    → CountsTo r at at × ((records : List DumpRecord) → revision_numbers (r ∷ records) ≡ revision_numbers records)
-other_counts at r isnt = (
-  λ records. (
-    ap (λ b. at.numbered && b) (counts_other at.next r records isnt),
-    ap (rise_from at.next) (numbers_other r records isnt),
-  ),
-  λ records. numbers_other r records isnt,
-)
-
--- the record is no revision, or it is one
-pub present_other : (r : DumpRecord) (present : Option ℕ) → is_revision_record r ≡ false → is_node r ≡ false
-    → revision_behind r present ≡ None
-present_other r present isnt no_node =
-    ap₂ (λ a b. cond a (Some (revision_number r)) (cond b present None)) isnt no_node
-
-pub present_node : (r : DumpRecord) (present : Option ℕ) → is_revision_record r ≡ false → is_node r ≡ true
-    → revision_behind r present ≡ present
-present_node r present isnt node =
-    ap₂ (λ a b. cond a (Some (revision_number r)) (cond b present None)) isnt node
-
-pub present_revision : (r : DumpRecord) (present : Option ℕ) (number : ℕ) → is_revision_record r ≡ true
-    → Some number ≡ header_number revision_name r.headers → revision_behind r present ≡ Some number
-present_revision r present number is its =
-    ap (λ a. cond a (Some (revision_number r)) (cond (is_node r) present None)) is
-    ∙ ap Some (sym (ap (λ o. unwrap_or o 0) its))
-
 -- the number of the revision
 pub own_number : (number : ℕ) (r : DumpRecord) (records : List DumpRecord) → is_revision_record r ≡ true
     → Some number ≡ header_number revision_name r.headers
     → revision_numbers (r ∷ records) ≡ number ∷ revision_numbers records
 own_number number r records is its =
     numbers_revision r records is ∙ ap (λ n. n ∷ revision_numbers records) (sym (ap (λ o. unwrap_or o 0) its))
-
--- a revision whose number isn't above the earlier ones
-pub below_next : (next number : ℕ) (r : DumpRecord) → is_revision_record r ≡ true
-    → Some number ≡ header_number revision_name r.headers → nat_le next number ≡ false
-    → rise_from next (revision_numbers (r ∷ [])) ≡ false
-below_next next number r is its below =
-    rises_revision next r [] is
-    ∙ ap (λ n. nat_le next n && rise_from (suc n) []) (sym (ap (λ o. unwrap_or o 0) its))
-    ∙ ap (λ b. b && true) below
-
--- the kinds of records
-pub is_revision : (r : DumpRecord) (which : RecordKind) → IsOfKind r which → which ≡ kinds.Revision
-    → (is_node r ≡ false) × (is_revision_record r ≡ true)
-is_revision r kinds.Version of is = absurd (let bad : kinds.Version ≡ kinds.Revision = is in cc)
-is_revision r kinds.Uuid of is = absurd (let bad : kinds.Uuid ≡ kinds.Revision = is in cc)
-is_revision r kinds.Revision of is = of
-is_revision r kinds.Node of is = absurd (let bad : kinds.Node ≡ kinds.Revision = is in cc)
-
-pub is_node_kind : (r : DumpRecord) (which : RecordKind) → IsOfKind r which → which ≡ kinds.Node
-    → (is_node r ≡ true) × (is_revision_record r ≡ false)
-is_node_kind r kinds.Version of is = absurd (let bad : kinds.Version ≡ kinds.Node = is in cc)
-is_node_kind r kinds.Uuid of is = absurd (let bad : kinds.Uuid ≡ kinds.Node = is in cc)
-is_node_kind r kinds.Revision of is = absurd (let bad : kinds.Revision ≡ kinds.Node = is in cc)
-is_node_kind r kinds.Node of is = of
 
 pub is_other : (r : DumpRecord) (which : RecordKind) → IsOfKind r which → (which ≡ kinds.Revision → ⊥)
     → (which ≡ kinds.Node → ⊥) → (is_node r ≡ false) × (is_revision_record r ≡ false)

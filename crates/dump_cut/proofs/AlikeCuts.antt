@@ -6,7 +6,7 @@ use Rattle.std.proofs.lemmas.Bool.{and_from, and_parts}
 use Rattle.std.proofs.lemmas.List.Sums.{take_while-cons}
 use Rattle.dump_text.proofs.BoolLemmas.{first_true}
 use Rattle.dump_text.specs.PropertyList.{Property}
-use Rattle.dump_records.specs.DumpText.{Ending, HasRecords}
+use Rattle.dump_records.specs.DumpText.{Ending}
 use Rattle.dump_records.specs.RecordText.{DumpRecord}
 use Rattle.dump_rules.specs.Mergeinfo.{IsMergeinfo, MergeLine}
 use Rattle.dump_rules.specs.Settings.{Settings, keeps_path}
@@ -37,10 +37,9 @@ use Rattle.dump_index.specs.Listed.{Listed, listed_of}
 use Rattle.dump_index.proofs.ExistsLemmas.{existing_is_found}
 use Rattle.dump_cut.specs.CutAlike.{covered_alone, is_alone, is_covered_by_one}
 use Rattle.dump_cut.specs.FilteredAlike.{AlikeCutsAreFilteredAlike, AlikeCutsCoverTheSame, AreFilteredAlike, FirstPartsGoOn, HaveMadeCopies, HaveShortLines}
-use Rattle.dump_cut.specs.NamedLines.{NamesPath}
 use Rattle.dump_cut.proofs.AlikeLaw.{filters_alike}
 use Rattle.dump_cut.proofs.FirstLaw.{first_parts_are_filtered}
-use Rattle.dump_cut.proofs.NamedSiblings.{text_of_line}
+use Rattle.dump_cut.proofs.NamedSiblings.{line_named}
 
 -- the first part of what the one filter writes is what the other one writes of the first part
 pub first_parts_go_on : FirstPartsGoOn
@@ -241,33 +240,6 @@ by_none true false none = none
 by_none false true none = sym none
 by_none false false none = refl
 
--- the path of a line of mergeinfo is named
-line_named : (dump : List ℕ) (records : List DumpRecord) (r : DumpRecord) (ps : List Property) (p : Property)
-    (lines : List MergeLine) (line : MergeLine) → HasRecords dump records Ending.Whole → Contains records r
-    → HasPropertyList r ps → Contains ps p → is_mergeinfo p ≡ true → IsMergeinfo (value_of p) lines → Contains lines line
-    → NamesPath dump (canonical_path line.path)
-line_named dump records r ps p lines line has among properties there merges reads within =
-    let found = text_of_line (value_of p) lines line reads within in
-    record {
-      records = records;
-      ending = Ending.Whole;
-      r = r;
-      ps = ps;
-      p = p;
-      line = found.text;
-      text = line.path;
-      ranges = found.ranges;
-      has = has;
-      among = among;
-      properties = properties;
-      there = there;
-      merges = merges;
-      in_value = found.in_value;
-      parted = found.parted;
-      last = found.last;
-      names = refl;
-    }
-
 -- both lists of paths cover the same lines of mergeinfo in the records, as a load reads them
 abbrev pub CoverLinesAlike : List NodePath → List NodePath → List DumpRecord → Type 0
 CoverLinesAlike paths theirs records = (r : DumpRecord) (ps : List Property) (p : Property) (lines : List MergeLine)
@@ -359,4 +331,4 @@ cuts_filter_alike patched settings others dump records changes revisions trees p
     let its = agree alike.names (map listed_of changes) paths theirs alike.are in
     by_none (is_covered paths path) (is_covered theirs path)
     (none_passes (is_covered_by_one paths theirs) alike.names path its.names
-    (alike.are_names.all path (line_named dump records r ps p lines line has there properties within merges reads in_lines))))
+    (alike.are_names.all path (line_named dump records Ending.Whole r ps p lines line has there properties within merges reads in_lines))))

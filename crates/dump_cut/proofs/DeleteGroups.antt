@@ -1,5 +1,5 @@
 -- Deletes after the nodes of a dump, by its revisions.
-use Rattle.std.proofs.Common.{◌≡◌, ℕ, zero, suc, ◌+◌, ◌≤◌, Bool, true, false, not, ◌&&◌, ◌||◌, cond, List, [], ◌∷◌, length, map, take, drop, refl, sym, ap, ap₂, ◌∙◌, arith}
+use Rattle.std.proofs.Common.{◌≡◌, ℕ, suc, ◌+◌, ◌≤◌, Bool, true, false, not, ◌&&◌, ◌||◌, cond, List, [], ◌∷◌, length, map, take, drop, refl, sym, ap, ap₂, ◌∙◌, arith}
 use Rattle.std.specs.Prelude.{if◌then◌else◌}
 use Rattle.std.specs.List.{AllZip, take_while}
 use Rattle.std.proofs.lemmas.Bool.{and_parts}
@@ -33,10 +33,6 @@ group_sizes gs = map (λ (g : Group). length g.nodes) gs
 abbrev pub all_sizes : List ℕ → ℕ
 all_sizes [] = 0
 all_sizes (n ∷ lengths) = n + all_sizes lengths
-
-drop_none : {A : Type 0} (n : ℕ) → drop {A = A} n [] ≡ []
-drop_none zero = refl
-drop_none (suc n) = refl
 
 behind_node : (r : DumpRecord) (records : List DumpRecord) (paths : List (List ℕ)) (deletes : List (List (List ℕ)))
     → is_node r ≡ true

@@ -20,6 +20,7 @@ use Rattle.dump_index.proofs.RestLemmas.{rest_same, rest_over, rest_none, split_
 use Rattle.dump_cut.specs.steps.ExcludedPaths.{paths_of}
 use Rattle.dump_cut.specs.steps.ExcludedTexts.{is_text_below}
 use Rattle.dump_cut.proofs.RangeLemmas.{below_goes_on}
+use Rattle.std.proofs.Math.Bool.{and-false}
 
 -- names that are sorted and without duplicates
 pub once_ordered : (sorted once : List (Bor (List ℕ))) → IsSorted (λ one two. slice_cmp nat_cmp one.now two.now) sorted
@@ -35,12 +36,6 @@ is_front_within k path front = goes_on front path && nat_lt (length front) k
 
 same_flipped : (one other : List ℕ) → bytes_eq one other ≡ true → bytes_eq other one ≡ true
 same_flipped one other is = (bytes_eq-Decides other one).1 (sym ((bytes_eq-Decides one other).0 is))
-
--- there is none at the beginning
-pub no_front : (path front : List ℕ) → is_front_within 0 path front ≡ false
-no_front path front =
-    false_from_ne_true (is_front_within 0 path front) (λ is.
-    let low = ltb-true (length front) 0 (and_parts (goes_on front path) (nat_lt (length front) 0) is).1 in absurd (omega (arith, low)))
 
 -- one more byte of the path, which is a slash
 pub front_more : (path front : List ℕ) (k : ℕ) → k < length path → get_or path k 0 ≡ 47
@@ -113,11 +108,7 @@ below_text top text = cases (bytes_eq top text) (stands_over text top) refl refl
   where
     cases : (same over : Bool) → bytes_eq top text ≡ same → stands_over text top ≡ over
         → has_name_behind (below (names_of top) (names_of text)) ≡ (over && not same)
-    cases true over is how = ap has_name_behind (rest_same top text is) ∙ sym (none over)
-      where
-        none : (t : Bool) → (t && false) ≡ false
-        none true = refl
-        none false = refl
+    cases true over is how = ap has_name_behind (rest_same top text is) ∙ sym (and-false over)
     cases false true is how =
         ap has_name_behind (rest_over top text is how)
         ∙ ap (λ names. has_name_behind (Some names)) (split_some (rest_text top text)).2

@@ -14,6 +14,8 @@ use Rattle.dump_index.specs.Effects.{goes_on, stands_over}
 use Rattle.dump_index.proofs.FrontLemmas.{cut_goes_on, goes_on_cut}
 use Rattle.dump_index.proofs.RestLemmas.{rest_same, rest_over, rest_none}
 use Rattle.dump_cut.specs.steps.ExcludedPaths.{paths_of}
+use Rattle.dump_trees.proofs.paths.SiblingLemmas.{any_more}
+use Rattle.dump_trees.proofs.expansions.FiniteLemmas.{other_side}
 
 -- whether a text is the path, or above it
 abbrev pub is_text_above : List ℕ → List ℕ → Bool
@@ -44,15 +46,6 @@ any_found items text (key ∷ keys) =
     ∙ ap (λ b. bytes_eq text (items key) || b) (any_found items text keys)
 
 -- which texts cover a path
-
-any_more : (f g : List ℕ → Bool) → ((text : List ℕ) → f text ≡ true → g text ≡ true) → (texts : List (List ℕ))
-    → list_any f texts ≡ true → list_any g texts ≡ true
-any_more f g more [] is = is
-any_more f g more (text ∷ texts) is = cases (any_more f g more texts) (f text) refl is
-  where
-    cases : (list_any f texts ≡ true → list_any g texts ≡ true) → (b : Bool) → f text ≡ b → (b || list_any f texts) ≡ true → (g text || list_any g texts) ≡ true
-    cases further true here some = or_left (g text) (list_any g texts) (more text here)
-    cases further false other some = or_right (g text) (list_any g texts) (further some)
 
 same_text : (one other : List ℕ) → bytes_eq one other ≡ true → one ≡ other
 same_text one other is = (bytes_eq-Decides one other).0 is
@@ -94,11 +87,6 @@ front_covers path k low slash texts is =
         (subst (λ top. bytes_eq top (take k path) ≡ true) (same_text (take k path) text same) (same_bytes (take k path)))
         (eq-eqb (get_or path k 0) 47 slash)))
 
-other_text : (one other : List ℕ) → bytes_eq one other ≡ false → bytes_eq other one ≡ false
-other_text one other is = false_from_ne_true (bytes_eq other one) (λ same.
-    let bad : true ≡ false = sym (subst (λ t. bytes_eq one t ≡ true) (sym (same_text other one same)) (same_bytes one)) ∙ is in
-    absurd (cc))
-
 pub none_covers : (path : List ℕ) (texts : List (List ℕ)) → list_any (λ other. bytes_eq [] other) texts ≡ false
     → list_any (λ other. bytes_eq path other) texts ≡ false
     → ((k : ℕ) → k < length path → get_or path k 0 ≡ 47 → list_any (λ other. bytes_eq (take k path) other) texts ≡ false)
@@ -114,13 +102,13 @@ none_covers path texts root whole fronts = covered_texts texts path ∙ none tex
         let at_root = or_parts (bytes_eq [] text) (list_any (λ other. bytes_eq [] other) others) root in
         let at_path = or_parts (bytes_eq path text) (list_any (λ other. bytes_eq path other) others) whole in
         or_from (is_text_above path text) (list_any (is_text_above path) others)
-        (or_from (bytes_eq text path) (stands_over path text) (other_text path text at_path.0)
-        (or_from (bytes_eq text []) (goes_on text path) (other_text [] text at_root.0)
+        (or_from (bytes_eq text path) (stands_over path text) (other_side path text at_path.0)
+        (or_from (bytes_eq text []) (goes_on text path) (other_side [] text at_root.0)
         (false_from_ne_true (goes_on text path) (λ over.
         let cut = goes_on_cut text path over in
         let front = fronts (length text) cut.0 (eqb-true (get_or path (length text) 0) 47 cut.2) in
         let parts = or_parts (bytes_eq (take (length text) path) text)
         (list_any (λ other. bytes_eq (take (length text) path) other) others) front in
-        let bad : true ≡ false = sym cut.1 ∙ other_text (take (length text) path) text parts.0 in absurd (cc)))))
+        let bad : true ≡ false = sym cut.1 ∙ other_side (take (length text) path) text parts.0 in absurd (cc)))))
         (none others at_root.1 at_path.1 (λ k low slash.
         (or_parts (bytes_eq (take k path) text) (list_any (λ other. bytes_eq (take k path) other) others) (fronts k low slash)).1))

@@ -19,7 +19,7 @@ use Rattle.dump_filter.proofs.groups.KindLemmas.{alone}
 use Rattle.dump_cut.specs.declared.fates.OpenRevision.{OpenRevision}
 use Rattle.dump_cut.specs.declared.fates.RevisionFate.{RevisionFate}
 use Rattle.dump_cut.specs.RevisionFates.{fate_of_group, fates_of_groups}
-use Rattle.dump_cut.proofs.CutterLemmas.{ReadSoFar, none_read, read_ends, read_more}
+use Rattle.dump_records.proofs.CutterLemmas.{ReadSoFar, none_read, read_ends, read_more}
 use Rattle.dump_cut.specs.steps.OpenRevisions.{AreFatesIn, ended_fates, fates_before, open_after, open_with}
 
 -- the fates that are added after an open revision, up to the end of these records

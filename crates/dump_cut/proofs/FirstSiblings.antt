@@ -2,7 +2,7 @@
 use Rattle.std.proofs.Common.{◌≡◌, ℕ, zero, suc, ◌+◌, ◌≤◌, Bool, true, false, cond, nat_le, List, [], ◌∷◌, ◌++◌, length, map, take, drop, refl, sym, ap, ap₂, ◌∙◌, subst, inl, inr, arith, append_assoc}
 use Rattle.std.specs.Prelude.{Contains}
 use Rattle.std.specs.List.{AllZip, list_all}
-use Rattle.std.proofs.lemmas.Bool.{and_from, le-leb, or_cases}
+use Rattle.std.proofs.lemmas.Bool.{or_cases}
 use Rattle.std.proofs.lemmas.List.{length-append, take-append-drop, take-map}
 use Rattle.std.proofs.lemmas.List.Elements.{Contains-append_left}
 use Rattle.std.proofs.lemmas.List.Sums.{sum_by-append}
@@ -18,7 +18,7 @@ use Rattle.dump_trees.specs.Paths.{NodePath}
 use Rattle.dump_trees.specs.Returns.{is_covered}
 use Rattle.dump_trees.specs.Siblings.{is_in_cut, is_sibling}
 use Rattle.dump_trees.specs.Trees.{root_alone}
-use Rattle.dump_trees.proofs.cuts.CheckedLoads.{AreFrom, all_from, of_one, placed_append}
+use Rattle.dump_trees.proofs.cuts.CheckedLoads.{AreFrom, all_from, of_one, placed_append, one_up_to}
 use Rattle.dump_trees.proofs.cuts.CoveredPaths.{all_has, covered_by, covered_from}
 use Rattle.dump_trees.proofs.expansions.LookLemmas.{count_whole}
 use Rattle.dump_trees.proofs.expansions.BackLemmas.{none_up_to}
@@ -39,14 +39,6 @@ use Rattle.dump_cut.proofs.LaterLaw.{loads_first}
 use Rattle.dump_cut.proofs.LaterRecords.{before_first, both_parts, first_is_dump, from_first}
 
 -- the changes of the first revisions
-
--- the changes of one revision are in a revision up to a number that isn't lower
-one_up_to : (bound number : ℕ) (changes : List Change) → number ≤ bound
-    → list_all (λ (p : Placed). nat_le p.revision bound) (of_one number changes) ≡ true
-one_up_to bound number [] low = refl
-one_up_to bound number (c ∷ changes) low =
-    and_from (nat_le number bound) (list_all (λ (p : Placed). nat_le p.revision bound) (of_one number changes))
-    (le-leb number bound low) (one_up_to bound number changes low)
 
 -- the revisions up to the number of the last of some first revisions have as many changes as these
 end_is : (n start bound : ℕ) (revisions : List (List Change)) → start + n ≡ suc bound

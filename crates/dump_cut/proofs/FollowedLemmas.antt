@@ -2,7 +2,7 @@
 use Rattle.std.proofs.Common.{◌≡◌, ℕ, zero, suc, ◌+◌, ◌-◌, ◌<◌, ◌≤◌, Bool, true, false, not, ◌&&◌, ◌||◌, List, [], ◌∷◌, ◌++◌, length, map, filter, Option, Some, None, is_some, Contains, inl, inr, refl, sym, ap, ap₂, ◌∙◌, subst, arith}
 use Rattle.std.specs.Prelude.{slice_get, if◌then◌else◌}
 use Rattle.std.specs.List.{All, AllZip, list_all}
-use Rattle.std.proofs.lemmas.Bool.{and_parts, and_from, cases_lt, not-true}
+use Rattle.std.proofs.lemmas.Bool.{and_parts, and_from, cases_lt, not-true, not-false}
 use Rattle.std.proofs.lemmas.List.{length-append}
 use Rattle.std.proofs.lemmas.List.Folds.{list_all-append}
 use Rattle.std.proofs.lemmas.Option.{slice_get_within}
@@ -207,14 +207,6 @@ named_below top (path ∷ tops) named =
         and_from (has_node_names (name ∷ rest)) (list_all has_node_names (rests_below top tops))
         (rest_names top (name ∷ rest) (ap has_node_names (sym (below_rest top path (name ∷ rest) at)) ∙ its)) further
 
-pub named_covered : (top : NodePath) (tops : List NodePath) → list_all has_node_names tops ≡ true
-    → list_all has_node_names (rests_covered top tops) ≡ true
-named_covered top tops named = cases (is_covered tops top)
-  where
-    cases : (b : Bool) → list_all has_node_names (Rattle.std.proofs.Common.cond b ([] ∷ []) (rests_below top tops)) ≡ true
-    cases true = refl
-    cases false = named_below top tops named
-
 -- the names of rests and of paths that are listed
 
 pub named_shown : {A : Type 0} (names : A → NodePath) (xs : List A)
@@ -294,9 +286,6 @@ placed_more way listed old paths place path before after are there (inr (added, 
     (placed revisions trees index) (All-cons (λ (a : Addition). LeadsTo way trees (placed_from 1 revisions) a.place (names_of a.path.items)) added []
     its (All-nil (λ (a : Addition). LeadsTo way trees (placed_from 1 revisions) a.place (names_of a.path.items)))))
 
-pub none_placed : (way : Way) (listed : List Listed) → ArePlaced way listed []
-none_placed way listed revisions trees index = All-nil _
-
 -- what adds nothing
 
 -- if there is no further addition, the path was covered, and the paths are the same
@@ -310,11 +299,7 @@ unadded old before added new after step same = cases step.is_new step.outside st
     cases true outside grown more =
         let longer : length after ≡ length before + 1 = ap length more ∙ length-append before (added ∷ []) in
         absurd (omega (arith, longer, same))
-    cases false outside is more = (is, from_not (is_covered old added) outside)
-      where
-        from_not : (b : Bool) → false ≡ not b → b ≡ true
-        from_not true none = refl
-        from_not false none = absurd (let bad : false ≡ true = none in cc)
+    cases false outside is more = (is, not-false (is_covered old added) (sym outside))
 
 pub not_shorter : (place : ℕ) (path : NodePath) (before after : List Addition) → AddsOne place path before after
     → length before ≤ length after

@@ -1,5 +1,5 @@
 -- The deletes that are found for the changes of an index, one by one.
-use Rattle.std.proofs.Common.{◌≡◌, ℕ, zero, suc, ◌+◌, ◌<◌, ◌≤◌, Bool, true, false, not, ◌&&◌, cond, nat_eq, List, [], ◌∷◌, ◌++◌, length, map, filter, take, Option, Some, None, option_map, refl, sym, ap, ap₂, ◌∙◌, subst, arith}
+use Rattle.std.proofs.Common.{◌≡◌, ℕ, zero, suc, ◌+◌, ◌<◌, ◌≤◌, Bool, true, false, not, ◌&&◌, cond, nat_eq, List, [], ◌∷◌, ◌++◌, length, map, take, Option, Some, None, refl, sym, ap, ap₂, ◌∙◌, subst, arith}
 use Rattle.std.specs.Global.{Vec}
 use Rattle.std.specs.Prelude.{slice_get}
 use Rattle.std.specs.List.{list_all}
@@ -20,7 +20,7 @@ use Rattle.dump_cut.specs.TrimmedCopies.{are_plain, AreDeletes, kept_changes, lo
 use Rattle.dump_cut.specs.steps.Deletes.{delete_texts_of}
 
 -- a path with names of nodes has no leading slash
-named_bare : (text : List ℕ) → has_node_names (names_of text) ≡ true → path_of text ≡ names_of text
+pub named_bare : (text : List ℕ) → has_node_names (names_of text) ≡ true → path_of text ≡ names_of text
 named_bare [] named = refl
 named_bare (b ∷ text) named = cases (nat_eq b 47) refl
   where

@@ -1,5 +1,5 @@
 -- Siblings, as they are found among the names that can be in the directories above included paths.
-use Rattle.std.proofs.Common.{◌≡◌, ℕ, zero, suc, true, false, not, ◌&&◌, ◌||◌, ◌==◌, List, [], ◌∷◌, ◌++◌, length, map, take, get_or, ◌+◌, ◌<◌, Option, Some, None, Bor, bytes_eq, refl, sym, ap, ap₂, ◌∙◌, subst, inl, inr, arith, append-nil, ◌≤◌, Bool, option_map}
+use Rattle.std.proofs.Common.{◌≡◌, ℕ, zero, suc, true, false, not, ◌&&◌, ◌||◌, ◌==◌, List, [], ◌∷◌, ◌++◌, length, map, take, get_or, ◌+◌, ◌<◌, Option, Some, None, Bor, bytes_eq, refl, sym, ap, ap₂, ◌∙◌, subst, inl, inr, arith, append-nil, ◌≤◌, Bool}
 use Rattle.std.specs.Prelude.{Contains}
 use Rattle.std.specs.List.{filter, list_all, list_any}
 use Rattle.std.proofs.lemmas.Bool.{and_parts, and_from, eqb-true, false_from_ne_true, or_cases, or_left, or_right, not-true}
@@ -37,6 +37,7 @@ use Rattle.dump_cut.proofs.NodeNames.{look_named}
 use Rattle.dump_cut.specs.steps.ExcludedPaths.{IsGrownIf, paths_of}
 use Rattle.dump_cut.specs.steps.ExcludedTexts.{texts_below}
 use Rattle.dump_cut.proofs.RangeLemmas.{below_named}
+use Rattle.dump_trees.proofs.expansions.BranchLemmas.{parent_child}
 
 -- whether a path is in the cut
 
@@ -59,10 +60,6 @@ any_below path (top ∷ paths) = cases (below path top) (any_below path paths)
     cases (Some []) further = further
     cases (Some (name ∷ rest)) further = sym (ap not (false_from_ne_true (length (rests (Some (name ∷ rest))) == 0) (λ is.
         let none : length (rests (Some (name ∷ rest))) ≡ 0 = eqb-true (length (rests (Some (name ∷ rest)))) 0 is in absurd (omega arith))))
-
-pub cut_covered : (texts : List (List ℕ)) (path : List ℕ) → is_covered (paths_of texts) (names_of path) ≡ true
-    → is_in_cut (paths_of texts) (names_of path) ≡ true
-cut_covered texts path is = or_left _ (is_above_included (paths_of texts) (names_of path)) is
 
 pub cut_below : (texts : List (List ℕ)) (path : List ℕ) (rests : List (Bor (List ℕ)))
     → list_all has_node_names (paths_of texts) ≡ true → (length path == 0) ≡ false
@@ -92,16 +89,11 @@ grown_all test old new added true grown own all =
 
 -- a sibling in a directory above included paths
 
-parent_behind : (path : NodePath) (name : List ℕ) → parent_of (path ++ name ∷ []) ≡ Some path
-parent_behind [] name = refl
-parent_behind (first ∷ []) name = refl
-parent_behind (first ∷ second ∷ path) name = ap (option_map (λ parent. first ∷ parent)) (parent_behind (second ∷ path) name)
-
 pub sibling_in : (included : List NodePath) (path : NodePath) (name : List ℕ) → has_node_names (path ++ name ∷ []) ≡ true
     → is_above_included included path ≡ true → is_in_cut included (path ++ name ∷ []) ≡ false
     → is_sibling included (path ++ name ∷ []) ≡ true
 sibling_in included path name named above outside =
-    and_from _ _ (and_from _ _ named (ap (is_parent_above included) (parent_behind path name) ∙ above)) (ap not outside)
+    and_from _ _ (and_from _ _ named (ap (is_parent_above included) (parent_child path name) ∙ above)) (ap not outside)
 
 pub sibling_outside : (included : List NodePath) (path : NodePath) → is_sibling included path ≡ true → is_in_cut included path ≡ false
 sibling_outside included path is =

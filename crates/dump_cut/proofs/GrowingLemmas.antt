@@ -1,6 +1,6 @@
 -- One more excluded path, without the paths below it.
 use Rattle.std.proofs.Common.{◌≡◌, ℕ, Bool, true, false, not, ◌&&◌, ◌||◌, cond, List, [], ◌∷◌, ◌++◌, map, filter, bytes_eq, refl, sym, ap, ap₂, ◌∙◌, subst}
-use Rattle.std.proofs.lemmas.Bool.{and_parts, and_right, or_parts, or_from, false_from_ne_true}
+use Rattle.std.proofs.lemmas.Bool.{and_parts, and_right, or_parts, or_from, false_from_ne_true, not-false}
 use Rattle.std.proofs.lemmas.Map.Text.{is_eq-slice_cmp}
 use Rattle.std.proofs.lemmas.Slice.Eq.{bytes_eq-Decides}
 use Rattle.std.specs.List.{list_any}
@@ -15,13 +15,17 @@ use Rattle.dump_trees.specs.Returns.{is_covered}
 use Rattle.dump_trees.specs.Siblings.{has_node_names, is_within}
 use Rattle.dump_trees.specs.CanonicalPaths.{canonical_path, canonical_paths}
 use Rattle.dump_trees.proofs.paths.CanonicalLemmas.{canonical_have_names}
-use Rattle.dump_trees.proofs.cuts.CoveredPaths.{covered_more, within_rest}
+use Rattle.dump_trees.proofs.cuts.CoveredPaths.{covered_more}
 use Rattle.dump_trees.proofs.cuts.FollowLemmas.{grown_paths_cover}
 use Rattle.dump_index.specs.Effects.{stands_over}
 use Rattle.dump_index.specs.steps.Touching.{rest_text}
 use Rattle.dump_cut.specs.steps.ExcludedPaths.{IsGrownIf, paths_of}
 use Rattle.dump_cut.specs.steps.ExcludedTexts.{AreExcluded, is_text_below, texts_below}
 use Rattle.dump_cut.proofs.ExcludedLemmas.{is_text_above, covered_texts, within_texts}
+use Rattle.dump_trees.proofs.paths.SiblingLemmas.{within_rest}
+use Rattle.std.proofs.Math.Bool.{or-false}
+use Rattle.std.proofs.lemmas.List.Elements.{filter-append}
+use Rattle.std.proofs.lemmas.List.{map-append}
 
 -- a key that is added to others
 
@@ -51,20 +55,6 @@ split_inserted {V} items k (x ∷ keys) none =
         (x ∷ front, behind, ap (λ rest. x ∷ rest) same, ap (λ rest. x ∷ rest) put)
 
 -- filters and maps of two lists in a row
-
-filter_joined : (test : List ℕ → Bool) (one other : List (List ℕ)) → filter test (one ++ other) ≡ filter test one ++ filter test other
-filter_joined test [] other = refl
-filter_joined test (text ∷ one) other = cases (test text) (filter_joined test one other)
-  where
-    cases : (t : Bool) → filter test (one ++ other) ≡ filter test one ++ filter test other
-        → cond t (text ∷ filter test (one ++ other)) (filter test (one ++ other))
-        ≡ cond t (text ∷ filter test one) (filter test one) ++ filter test other
-    cases true further = ap (λ rest. text ∷ rest) further
-    cases false further = further
-
-pub map_joined : {A B : Type 0} (f : A → B) (one other : List A) → map f (one ++ other) ≡ map f one ++ map f other
-map_joined f [] other = refl
-map_joined f (x ∷ one) other = ap (λ rest. f x ∷ rest) (map_joined f one other)
 
 -- the texts that stay
 
@@ -140,14 +130,14 @@ module _ {V : Type 0} (items : V → List ℕ) (k : V) (keys : List V)
 
   put_in : (front behind : List V) → inserted ≡ front ++ k ∷ behind
       → map items inserted ≡ map items front ++ items k ∷ map items behind
-  put_in front behind put = ap (map items) put ∙ map_joined items front (k ∷ behind)
+  put_in front behind put = ap (map items) put ∙ map-append items front (k ∷ behind)
 
   kept : (front behind : List V) → inserted ≡ front ++ k ∷ behind
       → filter (stays path) (map items inserted)
       ≡ filter (stays path) (map items front) ++ path ∷ filter (stays path) (map items behind)
   kept front behind put =
       ap (filter (stays path)) (put_in front behind put)
-      ∙ filter_joined (stays path) (map items front) (items k ∷ map items behind)
+      ∙ filter-append (stays path) (map items front) (items k ∷ map items behind)
       ∙ ap (λ b. filter (stays path) (map items front) ++ cond b (items k ∷ filter (stays path) (map items behind))
       (filter (stays path) (map items behind))) (stays_itself path)
 
@@ -156,13 +146,13 @@ module _ {V : Type 0} (items : V → List ℕ) (k : V) (keys : List V)
     front = paths_of (filter (stays path) (map items front));
     behind = paths_of (filter (stays path) (map items behind));
     others =
-        sym (map_joined names_of (filter (stays path) (map items front)) (filter (stays path) (map items behind)))
-        ∙ (ap paths_of (sym (filter_joined (stays path) (map items front) (map items behind)))
-        ∙ (ap (λ texts. paths_of (filter (stays path) texts)) (sym (map_joined items front behind) ∙ ap (map items) (sym same))
+        sym (map-append names_of (filter (stays path) (map items front)) (filter (stays path) (map items behind)))
+        ∙ (ap paths_of (sym (filter-append (stays path) (map items front) (map items behind)))
+        ∙ (ap (λ texts. paths_of (filter (stays path) texts)) (sym (map-append items front behind) ∙ ap (map items) (sym same))
         ∙ stay_paths path (map items keys) (uncovered_other path (map items keys) outside)));
     joined =
         ap paths_of (kept front behind put)
-        ∙ map_joined names_of (filter (stays path) (map items front)) (path ∷ filter (stays path) (map items behind));
+        ∙ map-append names_of (filter (stays path) (map items front)) (path ∷ filter (stays path) (map items behind));
   }
 
   pub grown : IsGrown (paths_of (map items keys)) (names_of path) (paths_of (filter (stays path) (map items inserted)))
@@ -193,8 +183,8 @@ module _ {V : Type 0} (items : V → List ℕ) (k : V) (keys : List V)
 
       both : (filter (is_text_below path) (map items front) ≡ []) × (filter (is_text_below path) (map items behind) ≡ [])
       both = no_parts (filter (is_text_below path) (map items front)) (filter (is_text_below path) (map items behind))
-          (sym (ap (filter (is_text_below path)) (ap (map items) same ∙ map_joined items front behind)
-          ∙ filter_joined (is_text_below path) (map items front) (map items behind)) ∙ none)
+          (sym (ap (filter (is_text_below path)) (ap (map items) same ∙ map-append items front behind)
+          ∙ filter-append (is_text_below path) (map items front) (map items behind)) ∙ none)
 
   pub all_stay : filter (is_text_below path) (map items keys) ≡ []
       → filter (stays path) (map items inserted) ≡ map items inserted
@@ -250,11 +240,7 @@ added_covers old new added false is same path =
     either false = refl
 
     covered : is_covered old added ≡ true
-    covered = from_not (is_covered old added) is
-      where
-        from_not : (b : Bool) → false ≡ not b → b ≡ true
-        from_not true none = refl
-        from_not false none = absurd (let bad : false ≡ true = none in cc)
+    covered = not-false (is_covered old added) (sym is)
 
     inside : is_within added path ≡ true → is_covered old path ≡ true
     inside within =
@@ -285,10 +271,6 @@ pub prefix_more : (texts : List (List ℕ)) (text : List ℕ) (path : NodePath)
     → is_covered (canonical_paths (texts ++ text ∷ [])) path
     ≡ (is_covered (canonical_paths texts) path || is_within (canonical_path text) path)
 prefix_more texts text path =
-    ap (λ paths. is_covered paths path) (map_joined canonical_path texts (text ∷ []))
+    ap (λ paths. is_covered paths path) (map-append canonical_path texts (text ∷ []))
     ∙ (covered_joined (canonical_paths texts) (canonical_path text ∷ []) path
-    ∙ ap (λ b. is_covered (canonical_paths texts) path || b) (alone (is_within (canonical_path text) path)))
-  where
-    alone : (b : Bool) → (b || false) ≡ b
-    alone true = refl
-    alone false = refl
+    ∙ ap (λ b. is_covered (canonical_paths texts) path || b) (or-false (is_within (canonical_path text) path)))

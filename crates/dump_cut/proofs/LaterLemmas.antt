@@ -18,7 +18,7 @@ use Rattle.dump_history.specs.DumpChanges.{counts_from}
 use Rattle.dump_changes.specs.ListedDumps.{are_numbered}
 use Rattle.dump_cut.specs.LaterParts.{place_of_first}
 use Rattle.dump_cut.specs.steps.CountedRevisions.{counted_from}
-use Rattle.dump_cut.proofs.CutterLemmas.{ReadSoFar, goes_on, none_read, not_broken, read_ends, read_more}
+use Rattle.dump_records.proofs.CutterLemmas.{ReadSoFar, goes_on, none_read, not_broken, read_ends, read_more}
 
 -- the records that the cutter has returned contain no such record
 pub record NoneSoFar (is_such : DumpRecord → Bool) (dump : List ℕ) (cutter : CutterState) : Type 0 where

@@ -2,7 +2,6 @@ pub mod AlikeCuts
 pub mod AlikeLaw
 pub mod CheckLemmas
 pub mod ColonLemmas
-pub mod CutterLemmas
 pub mod DeleteGroups
 pub mod DifferenceLemmas
 pub mod DirectoryLemmas

@@ -8,28 +8,26 @@ use Rattle.dump_trees.specs.Looking.{Placed, placed_from}
 use Rattle.dump_trees.specs.Paths.{NodePath, parent_of}
 use Rattle.dump_trees.specs.Restriction.{is_root}
 use Rattle.dump_trees.specs.Trees.{root_alone}
-use Rattle.dump_trees.proofs.cuts.CheckedLoads.{dump_is_allowed, first_refusal_is_there}
+use Rattle.dump_trees.proofs.cuts.CheckedLoads.{dump_is_allowed, first_refusal_is_there, get_some}
 use Rattle.dump_index.proofs.ToldLemmas.{index_tells_kinds}
 use Rattle.dump_index.specs.Listed.{listed_of}
 use Rattle.dump_index.specs.ToldKinds.{kinds_told_by}
 use Rattle.dump_cut.specs.LoadChecks.{NoneRefused, reason_there, RefusedIsFirst, UnrefusedLoads}
 use Rattle.dump_cut.specs.Refusals.{first_reason, deletion_refused, parent_refused, new_refused, copying_refused, making_refused, props_refused, text_refused, RefusedIsNotAllowed}
 use Rattle.dump_cut.specs.declared.refusal.Refusal.{Refusal}
+use Rattle.std.proofs.Math.Bool.{and-false}
+use Rattle.std.proofs.lemmas.Option.{slice_get_within}
 
 -- two checks together give no reason exactly if neither gives one
 first_none : (one other : Option Refusal) → is_none (first_reason one other) ≡ (is_none one && is_none other)
 first_none None other = refl
 first_none (Some reason) other = refl
 
-no_and : (b : Bool) → (b && false) ≡ false
-no_and true = refl
-no_and false = refl
-
 deletion_is : (deletes root : Bool) (path : NodePath) (here : Option Kind) → root ≡ is_root path
     → is_none (deletion_refused deletes root here) ≡ deletion_allowed deletes path here
 deletion_is false root path here is = refl
 deletion_is true true path here is = ap (λ b. not b && is_some here) is
-deletion_is true false path None is = sym (no_and (not (is_root path)))
+deletion_is true false path None is = sym (and-false (not (is_root path)))
 deletion_is true false path (Some kind) is = ap (λ b. not b && true) is
 
 parent_is : (parent : Option Kind) → is_none (parent_refused parent) ≡ is_directory parent
@@ -39,13 +37,13 @@ parent_is (Some Kind.File) = refl
 
 new_is : (root : Bool) (left parent : Option Kind) → (root ≡ true → parent ≡ None)
     → is_none (new_refused root left parent) ≡ (is_none left && is_directory parent)
-new_is true left parent none = sym (ap (λ p. is_none left && is_directory p) (none refl) ∙ no_and (is_none left))
+new_is true left parent none = sym (ap (λ p. is_none left && is_directory p) (none refl) ∙ and-false (is_none left))
 new_is false None parent none = parent_is parent
 new_is false (Some kind) parent none = refl
 
 copy_is : (root : Bool) (source parent : Option Kind) → (root ≡ true → parent ≡ None)
     → is_none (copying_refused root source parent) ≡ (is_some source && is_directory parent)
-copy_is true source parent none = sym (ap (λ p. is_some source && is_directory p) (none refl) ∙ no_and (is_some source))
+copy_is true source parent none = sym (ap (λ p. is_some source && is_directory p) (none refl) ∙ and-false (is_some source))
 copy_is false None parent none = refl
 copy_is false (Some kind) parent none = parent_is parent
 
@@ -91,16 +89,6 @@ refused_is_not_allowed c kinds none =
 
 -- the changes one by one
 
-some_below : (placed : List Placed) (place : ℕ) → place < length placed → (p : Placed) × (slice_get placed place ≡ Some p)
-some_below [] place low = let bad : ⊥ = omega (arith, low) in absurd bad
-some_below (p ∷ placed) zero low = (p, refl)
-some_below (p ∷ placed) (suc place) low = some_below placed place (omega (arith, low))
-
-below_some : (placed : List Placed) (place : ℕ) (p : Placed) → slice_get placed place ≡ Some p → place < length placed
-below_some [] place p there = absurd (let bad : None ≡ Some p = there in cc)
-below_some (q ∷ placed) zero p there = omega arith
-below_some (q ∷ placed) (suc place) p there = let low = below_some placed place p there in omega (arith, low)
-
 -- no parent exists above the root
 none_above : (told : ToldKinds) (placed : List Placed) (place : ℕ) (p : Placed) → is_root p.change.path ≡ true
     → (kinds_told told placed place p).parent ≡ None
@@ -120,7 +108,7 @@ pub none_allows : (told : ToldKinds) (placed : List Placed) (count : ℕ) → co
     → NoneRefused told placed count → all_allowed told placed count ≡ true
 none_allows told placed zero low none = refl
 none_allows told placed (suc count) low none =
-    let its = some_below placed count (omega (arith, low)) in
+    let its = get_some placed count (omega (arith, low)) in
     and_from (all_allowed told placed count) (allowed_there told placed count (slice_get placed count))
     (none_allows told placed count (omega (arith, low)) (λ place less. none place (omega (arith, less))))
     (ap (allowed_there told placed count) its.1 ∙ sym (reason_allows told placed count its.0)
@@ -142,7 +130,7 @@ refused_is_first changes revisions r p listed found there apply =
     let placed = placed_from 1 revisions in
     let told = kinds_told_by (map listed_of changes) in
     let its = found placed listed in
-    let low = below_some placed r.place p there in
+    let low = slice_get_within placed r.place p there in
     first_refusal_is_there told root_alone revisions placed r.place p refl there (index_tells_kinds changes placed listed)
     (none_allows told placed r.place (omega (arith, low)) its.before) apply
     (sym (reason_allows told placed r.place p) ∙ sym (ap (λ o. is_none (reason_there told placed r.place o)) there)

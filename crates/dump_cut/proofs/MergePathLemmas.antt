@@ -1,6 +1,5 @@
 -- The paths that mergeinfo names, in the order in which they are collected.
-use Rattle.std.proofs.Common.{◌≡◌, ℕ, ◌+◌, ◌<◌, ◌⊎◌, Bool, true, false, cond, List, [], ◌∷◌, ◌++◌, length, map, filter, take, get_or, refl, sym, ap, ◌∙◌, subst, inl, inr, append_assoc}
-use Rattle.std.proofs.lemmas.Bool.{and_parts}
+use Rattle.std.proofs.Common.{◌≡◌, ℕ, ◌+◌, ◌<◌, ◌⊎◌, Bool, true, false, cond, List, [], ◌∷◌, ◌++◌, length, map, take, get_or, refl, sym, ap, ◌∙◌, subst, inl, inr, append_assoc}
 use Rattle.std.proofs.lemmas.List.{take_more}
 use Rattle.std.proofs.lemmas.List.Elements.{Contains-push, Contains-push_cases, Contains-append_left}
 use Rattle.std.proofs.lemmas.Map.Text.{is_eq-slice_cmp}
@@ -29,13 +28,14 @@ use Rattle.dump_rules.specs.steps.RewrittenLines.{line_path}
 use Rattle.dump_digest.specs.RecordParts.{HasPropertyBlock, is_mergeinfo, value_of}
 use Rattle.dump_trees.specs.CanonicalPaths.{canonical_path}
 use Rattle.dump_trees.specs.Paths.{NodePath, names_of}
-use Rattle.dump_trees.specs.Siblings.{has_node_names, is_node_name}
+use Rattle.dump_trees.specs.Siblings.{has_node_names}
 use Rattle.dump_trees.proofs.cuts.CoveredPaths.{contains_cases, contains_none, contains_first, contains_later, list_all_of}
 use Rattle.dump_cut.specs.NamedLines.{AreMergePaths}
 use Rattle.dump_cut.specs.steps.MergePaths.{AddsPaths, IsInLine, IsInLines, IsInProperties, IsInRecord, IsInValue}
 use Rattle.dump_cut.proofs.ColonLemmas.{last_colon, path_of_parted}
-use Rattle.dump_cut.proofs.CutterLemmas.{ReadSoFar, read_ends}
+use Rattle.dump_records.proofs.CutterLemmas.{ReadSoFar, read_ends}
 use Rattle.dump_cut.proofs.GrowingLemmas.{canonical_named}
+use Rattle.dump_trees.proofs.paths.CanonicalLemmas.{passing_stay}
 
 -- paths that are added
 
@@ -322,11 +322,4 @@ merge_paths_named dump paths are =
 -- the text of such a path is canonical
 pub named_canonical : (text : List ℕ) → has_node_names (names_of text) ≡ true → canonical_path text ≡ names_of text
 named_canonical [] named = refl
-named_canonical (b ∷ text) named = all_stay (names_of (b ∷ text)) named
-  where
-    all_stay : (names : NodePath) → has_node_names names ≡ true → filter is_node_name names ≡ names
-    all_stay [] are = refl
-    all_stay (name ∷ names) are =
-        let parts = and_parts (is_node_name name) (has_node_names names) are in
-        ap (λ b. cond b (name ∷ filter is_node_name names) (filter is_node_name names)) parts.0
-        ∙ ap (λ rest. name ∷ rest) (all_stay names parts.1)
+named_canonical (b ∷ text) named = passing_stay (names_of (b ∷ text)) named

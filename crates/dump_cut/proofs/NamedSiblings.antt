@@ -10,20 +10,24 @@ use Rattle.dump_text.specs.HeaderLine.{has_byte}
 use Rattle.dump_rules.specs.Mergeinfo.{IsMergeinfo, IsMergeLine, MergeLine}
 use Rattle.dump_rules.proofs.reading.MergeinfoLemmas.{all_read}
 use Rattle.dump_rules.proofs.reading.RangeListLemmas.{list_lacks, split_joined}
-use Rattle.dump_digest.specs.RecordParts.{value_of}
+use Rattle.dump_digest.specs.RecordParts.{value_of, HasPropertyList, is_mergeinfo}
 use Rattle.dump_trees.specs.CanonicalPaths.{canonical_path}
 use Rattle.dump_trees.specs.Paths.{NodePath, names_of}
 use Rattle.dump_trees.specs.Returns.{is_covered}
-use Rattle.dump_trees.specs.Siblings.{has_node_names, is_above_included, is_in_cut, is_node_name, is_sibling}
+use Rattle.dump_trees.specs.Siblings.{has_node_names, is_in_cut, is_node_name, is_sibling}
 use Rattle.dump_trees.proofs.cuts.CoveredPaths.{contains_cases, contains_none, contains_first, contains_later, covered_itself, covered_more}
-use Rattle.dump_trees.proofs.paths.SiblingLemmas.{both_names}
+use Rattle.dump_trees.proofs.paths.SiblingLemmas.{both_names, above_there}
 use Rattle.dump_index.specs.Listed.{Listed}
 use Rattle.dump_cut.specs.FoundSiblings.{AreFoundSiblings}
-use Rattle.dump_cut.specs.NamedLines.{AreMergePaths, CoverMergeinfo, is_left_by}
+use Rattle.dump_cut.specs.NamedLines.{AreMergePaths, CoverMergeinfo, is_left_by, NamesPath}
 use Rattle.dump_cut.specs.steps.ExcludedPaths.{IsGrownIf}
 use Rattle.dump_cut.specs.steps.MoreSiblings.{AreMore}
 use Rattle.dump_cut.proofs.FoundSiblings.{adds_sibling, sibling_covered, sibling_in}
 use Rattle.dump_cut.proofs.NameTextLemmas.{filter_more}
+use Rattle.dump_trees.proofs.paths.CanonicalLemmas.{filtered_pass}
+use Rattle.dump_records.specs.DumpText.{Ending, HasRecords}
+use Rattle.dump_records.specs.RecordText.{DumpRecord}
+use Rattle.dump_text.specs.PropertyList.{Property}
 
 -- more siblings
 
@@ -60,32 +64,12 @@ found_more listed included old new found more = record {
 
 -- the paths on the way to a path
 
-above_there : (included : List NodePath) (top : NodePath) (name : List ℕ) → is_in_cut included top ≡ true
-    → is_in_cut included (top ++ name ∷ []) ≡ false → is_above_included included top ≡ true
-above_there included top name inside outside =
-    elim (or_cases (is_covered included top) (is_above_included included top) inside) [
-      | inr above ↦ above
-      | inl within ↦
-          absurd (let bad : true ≡ false = sym (or_left (is_covered included (top ++ name ∷ [])) (is_above_included included (top ++ name ∷ []))
-          (covered_more included top (name ∷ []) within)) ∙ outside in cc)
-    ]
-
--- names that are filtered by being names of nodes are names of nodes
-all_named : (names : List (List ℕ)) → has_node_names (filter is_node_name names) ≡ true
-all_named [] = refl
-all_named (name ∷ names) = cases (is_node_name name) refl (all_named names)
-  where
-    cases : (b : Bool) → is_node_name name ≡ b → has_node_names (filter is_node_name names) ≡ true
-        → has_node_names (cond b (name ∷ filter is_node_name names) (filter is_node_name names)) ≡ true
-    cases true is all = and_from _ _ is all
-    cases false is all = all
-
 pub pushed_named_path : (prefix : List ℕ) (k : ℕ) (top : NodePath) (name : List ℕ)
     → top ≡ filter is_node_name (take k (slice_split (λ c. nat_eq c 47) prefix)) → is_node_name name ≡ true
     → has_node_names (top ++ name ∷ []) ≡ true
 pushed_named_path prefix k top name are named =
     both_names top (name ∷ [])
-    (ap has_node_names are ∙ all_named (take k (slice_split (λ c. nat_eq c 47) prefix))) (and_from _ _ named refl)
+    (ap has_node_names are ∙ filtered_pass (take k (slice_split (λ c. nat_eq c 47) prefix))) (and_from _ _ named refl)
 
 pub next_names : (prefix : List ℕ) (k : ℕ) (top : NodePath) (name : List ℕ)
     → top ≡ filter is_node_name (take k (slice_split (λ c. nat_eq c 47) prefix))
@@ -195,13 +179,14 @@ text_of_line value lines line (texts, all, is) there =
       last = list_lacks 58 its.spelled.0 line.ranges refl refl refl its.spelled.1;
     }
 
--- the siblings cover the mergeinfo of the dump, if they leave each path that it names
-pub mergeinfo_covered : (included siblings : List NodePath) (dump : List ℕ) (paths : List NodePath) → AreMergePaths dump paths
-    → ((path : NodePath) → Contains paths path → is_left_by included siblings path ≡ true)
-    → CoverMergeinfo included siblings dump
-mergeinfo_covered included siblings dump paths are each records ending r has among ps properties p there merges lines line reads within =
+-- the path of a line of mergeinfo is named
+pub line_named : (dump : List ℕ) (records : List DumpRecord) (ending : Ending) (r : DumpRecord) (ps : List Property) (p : Property)
+    (lines : List MergeLine) (line : MergeLine) → HasRecords dump records ending → Contains records r
+    → HasPropertyList r ps → Contains ps p → is_mergeinfo p ≡ true → IsMergeinfo (value_of p) lines → Contains lines line
+    → NamesPath dump (canonical_path line.path)
+line_named dump records ending r ps p lines line has among properties there merges reads within =
     let found = text_of_line (value_of p) lines line reads within in
-    each (canonical_path line.path) (are.all (canonical_path line.path) (record {
+    record {
       records = records;
       ending = ending;
       r = r;
@@ -219,4 +204,12 @@ mergeinfo_covered included siblings dump paths are each records ending r has amo
       parted = found.parted;
       last = found.last;
       names = refl;
-    }))
+    }
+
+-- the siblings cover the mergeinfo of the dump, if they leave each path that it names
+pub mergeinfo_covered : (included siblings : List NodePath) (dump : List ℕ) (paths : List NodePath) → AreMergePaths dump paths
+    → ((path : NodePath) → Contains paths path → is_left_by included siblings path ≡ true)
+    → CoverMergeinfo included siblings dump
+mergeinfo_covered included siblings dump paths are each records ending r has among ps properties p there merges lines line reads within =
+    each (canonical_path line.path) (are.all (canonical_path line.path)
+    (line_named dump records ending r ps p lines line has among properties there merges reads within))

@@ -1,10 +1,10 @@
 -- A dump whose changes are all separated is an expanded form of itself.
-use Rattle.std.proofs.Common.{◌≡◌, ℕ, Bool, true, false, cond, List, [], ◌∷◌, ◌++◌, map, drop, refl, sym, ap, ap₂, ◌∙◌, subst, IsTrue}
+use Rattle.std.proofs.Common.{◌≡◌, Bool, true, false, cond, List, [], ◌∷◌, ◌++◌, map, drop, refl, sym, ap, ap₂, ◌∙◌, subst, IsTrue}
 use Rattle.std.proofs.lemmas.List.Sums.{take_while-cons}
 use Rattle.std.specs.Prelude.{take_while}
 use Rattle.std.specs.List.{AllZip}
-use Rattle.dump_records.specs.DumpText.{IsCutInto, line_feeds}
-use Rattle.dump_records.specs.RecordText.{DumpRecord, record_text}
+use Rattle.dump_records.specs.DumpText.{IsCutInto}
+use Rattle.dump_records.specs.RecordText.{DumpRecord}
 use Rattle.dump_digest.specs.RecordParts.{is_node, is_revision_record}
 use Rattle.dump_filter.specs.Groups.{Group, groups, group_of}
 use Rattle.dump_trees.specs.Changes.{Change}
@@ -16,6 +16,7 @@ use Rattle.dump_history.specs.DumpChanges.{MakeChanges}
 use Rattle.dump_history.specs.ExpandedDumps.{OwnForm, Stead, may_stand, expanded_records}
 use Rattle.dump_history.specs.ExpandedText.{AreRecordTexts, expanded_changes, expanded_revisions, node_steads, stead_groups, made_in_stead}
 use Rattle.dump_cut.specs.TakenCopies.{SeparatedDumpIsItsExpansion}
+use Rattle.dump_cut.proofs.TrimmedTextLemmas.{cut_texts}
 
 -- each record is in its own place
 abbrev itself : DumpRecord → Stead
@@ -31,15 +32,6 @@ may_be (r ∷ records) = (refl, may_be records)
 same_records : (records : List DumpRecord) → expanded_records records (selves records) ≡ records
 same_records [] = refl
 same_records (r ∷ records) = ap (λ rest. r ∷ rest) (same_records records)
-
--- the text of the records
-
-texts_behind : (records : List DumpRecord) (number place : ℕ) (text : List ℕ) → IsCutInto number place text records []
-    → (lfs : ℕ) × (front : List ℕ) × (text ≡ line_feeds lfs ++ front) × AreRecordTexts records front
-texts_behind [] number place text (lfs, is, none) = (lfs, [], is, refl)
-texts_behind (r ∷ records) number place text (lfs, front, after, is, at, begins, further) =
-    let (more, rest, spelled, texts) = texts_behind records _ _ after further in
-    (lfs, front, is, (more, rest, begins.spelled ∙ ap (λ t. record_text r ++ t) spelled, texts))
 
 -- the changes
 
@@ -97,7 +89,7 @@ made_same patched records revisions make =
 pub own_expansion : SeparatedDumpIsItsExpansion
 own_expansion patched settings dump filtered records revisions trees has loads apart clean fit =
     let (rest, cut, versions, ends) = has in
-    let (lfs, front, spelled, texts) = texts_behind records 0 0 dump
+    let (lfs, front, spelled, texts) = cut_texts 0 0 dump records
     (subst (λ t. IsCutInto 0 0 dump records t) ends.0 cut) in
     record {
       has = has;

@@ -1,5 +1,5 @@
 -- The directory that a path is in, by the names of the path.
-use Rattle.std.proofs.Common.{◌≡◌, ℕ, Bool, true, false, not, cond, List, [], ◌∷◌, ◌++◌, reverse, nat_eq, Option, Some, None, append-nil, refl, sym, ap, ◌∙◌}
+use Rattle.std.proofs.Common.{◌≡◌, ℕ, Bool, true, false, not, cond, List, [], ◌∷◌, ◌++◌, reverse, nat_eq, Some, refl, sym, ap, ◌∙◌}
 use Rattle.std.proofs.lemmas.Bool.{and_parts, and_from, not-true}
 use Rattle.std.proofs.lemmas.List.{reverse-append, reverse-reverse}
 use Rattle.dump_trees.specs.Paths.{names_of, parent_of}
@@ -80,10 +80,6 @@ no_end : (text : List ℕ) → has_no_slash text ≡ true → ends_in_slash text
 no_end [] none = refl
 no_end (b ∷ []) none = not-true (nat_eq b 47) (and_parts (not (nat_eq b 47)) true none).0
 no_end (b ∷ c ∷ text) none = no_end (c ∷ text) (and_parts (not (nat_eq b 47)) (has_no_slash (c ∷ text)) none).1
-
--- the names of a text that isn't empty
-names_split : (text : List ℕ) (b : ℕ) (rest : List ℕ) → text ≡ b ∷ rest → names_of text ≡ split text
-names_split text b rest is = ap names_of is ∙ sym (ap split is)
 
 joined_split : (front name : List ℕ) → names_of (front ++ 47 ∷ name) ≡ split front ++ split name
 joined_split [] name = split_joined [] name

@@ -21,6 +21,7 @@ use Rattle.dump_index.proofs.SlashLemmas.{rest_some, ends_rest}
 use Rattle.dump_cut.proofs.ParentLemmas.{ends_named}
 use Rattle.dump_cut.specs.steps.ExcludedPaths.{paths_of}
 use Rattle.dump_cut.specs.steps.ExcludedTexts.{is_text_below, texts_below}
+use Rattle.std.proofs.Math.Bool.{and-false}
 
 -- whether a text is in the range that begins with the first text and ends before the second
 abbrev pub is_between : List ℕ → List ℕ → List ℕ → Bool
@@ -88,11 +89,7 @@ goes_on_other [] (c ∷ text) is = refl
 goes_on_other (b ∷ top) [] is = refl
 goes_on_other (b ∷ top) (c ∷ text) is =
     let parts = and_parts (nat_eq b c) (goes_on top text) is in
-    ap (λ t. nat_eq b c && t) (goes_on_other top text parts.1) ∙ none (nat_eq b c)
-  where
-    none : (t : Bool) → (t && false) ≡ false
-    none true = refl
-    none false = refl
+    ap (λ t. nat_eq b c && t) (goes_on_other top text parts.1) ∙ and-false (nat_eq b c)
 
 -- so they are the texts below the top
 pub between_below : (b : ℕ) (top text : List ℕ)
@@ -118,10 +115,9 @@ filter_items items one two same (v ∷ keys) =
     cases further true false is = absurd (cc)
     cases further false true is = absurd (cc)
 
-items_twice : {V : Type 0} (f : List ℕ → List ℕ) (items : V → List ℕ) (keys : List V)
-    → map (λ key. f (items key)) keys ≡ map f (map items keys)
-items_twice f items [] = refl
-items_twice f items (key ∷ keys) = ap (λ rest. f (items key) ∷ rest) (items_twice f items keys)
+pub shown_twice : {A B C : Type 0} (f : B → C) (show : A → B) (xs : List A) → map (λ x. f (show x)) xs ≡ map f (map show xs)
+shown_twice f show [] = refl
+shown_twice f show (x ∷ xs) = ap (λ rest. f (show x) ∷ rest) (shown_twice f show xs)
 
 -- the texts in the range, without the top and the slash
 pub range_texts : {V : Type 0} (items : V → List ℕ) (top : List ℕ) (start end : V) → (length top == 0) ≡ false
@@ -130,7 +126,7 @@ pub range_texts : {V : Type 0} (items : V → List ℕ) (top : List ℕ) (start 
     ≡ texts_below top (map items keys)
 range_texts items [] start end some from to keys = absurd (let bad : true ≡ false = some in cc)
 range_texts items (b ∷ top) start end some from to keys =
-    items_twice (rest_text (b ∷ top)) items (filter (λ key. is_between (items start) (items end) (items key)) keys)
+    shown_twice (rest_text (b ∷ top)) items (filter (λ key. is_between (items start) (items end) (items key)) keys)
     ∙ ap (map (rest_text (b ∷ top)))
     (filter_items items (λ key. is_between (items start) (items end) (items key)) (is_text_below (b ∷ top))
     (λ key. ap₂ (λ (one : List ℕ) (other : List ℕ). is_between one other (items key)) from to
@@ -149,11 +145,6 @@ forward (b ∷ top) = cases (forward top) (sides b b)
     cases further (Sides.Higher high is) = absurd (omega arith)
 
 -- whether a text is below the top, by its bytes
-
-pub below_root : (text : List ℕ) → is_text_below [] text ≡ not (length text == 0)
-below_root [] = refl
-below_root (b ∷ text) = ap not (sym (false_from_ne_true (length (b ∷ text) == 0) (λ is.
-    let none : length (b ∷ text) ≡ 0 = eqb-true (length (b ∷ text)) 0 is in absurd (omega arith))))
 
 pub below_goes_on : (top text : List ℕ) → (length top == 0) ≡ false → is_text_below top text ≡ goes_on top text
 below_goes_on [] text some = absurd (let bad : true ≡ false = some in cc)
@@ -197,13 +188,9 @@ named_below top text named = cases (bytes_eq top text) (stands_over text top) re
         ∙ ap (λ names. names ∷ []) (sym parts.2)
         ∙ sym (ap (λ t. names_of t ∷ []) is)
 
-    none : (t : Bool) → (t && false) ≡ false
-    none true = refl
-    none false = refl
-
     cases : (same over : Bool) → bytes_eq top text ≡ same → stands_over text top ≡ over → goal same over
     cases true over is how =
-        ap named_rest (rest_same top text is) ∙ sym (ap (λ t. map names_of (cond t (rest_text top text ∷ []) [])) (none over))
+        ap named_rest (rest_same top text is) ∙ sym (ap (λ t. map names_of (cond t (rest_text top text ∷ []) [])) (and-false over))
     cases false true is how =
         ap named_rest (rest_over top text is how)
         ∙ some (rest_text top text) refl (rest_some top text is how (ends_named text named))
@@ -246,14 +233,6 @@ pub all_below_root : (texts : List (List ℕ)) → list_any (λ text. bytes_eq [
 all_below_root [] none = refl
 all_below_root ([] ∷ texts) none = absurd (let bad : true ≡ false = none in cc)
 all_below_root ((b ∷ text) ∷ texts) none = ap (λ rest. (b ∷ text) ∷ rest) (all_below_root texts none)
-
-pub empty_text : (text : List ℕ) → (length text == 0) ≡ true → text ≡ []
-empty_text [] is = refl
-empty_text (b ∷ text) is = let none : length (b ∷ text) ≡ 0 = eqb-true (length (b ∷ text)) 0 is in absurd (omega arith)
-
-pub shown_twice : {A B C : Type 0} (f : B → C) (show : A → B) (xs : List A) → map (λ x. f (show x)) xs ≡ map f (map show xs)
-shown_twice f show [] = refl
-shown_twice f show (x ∷ xs) = ap (λ rest. f (show x) ∷ rest) (shown_twice f show xs)
 
 pub empty_list : {A : Type 0} (xs : List A) → (length xs == 0) ≡ true → xs ≡ []
 empty_list [] is = refl

@@ -1,5 +1,5 @@
 -- Rests that are listed: they don't end in a slash, and something exists there.
-use Rattle.std.proofs.Common.{◌≡◌, ℕ, zero, suc, ◌+◌, ◌<◌, Bool, true, false, not, ◌&&◌, List, [], ◌∷◌, ◌++◌, length, map, get_or, Option, Some, None, is_some, option_map, Result, Ok, Err, IfOk, OnOk, Bor, refl, sym, ap, ap₂, ◌∙◌, arith}
+use Rattle.std.proofs.Common.{◌≡◌, ℕ, zero, suc, ◌+◌, ◌<◌, true, false, not, ◌&&◌, List, [], ◌∷◌, ◌++◌, length, map, get_or, Option, Some, None, is_some, option_map, Result, Ok, Err, IfOk, OnOk, Bor, refl, sym, ap, ap₂, ◌∙◌, arith}
 use Rattle.std.proofs.lemmas.Bool.{and_parts, not-true}
 use Rattle.std.specs.List.{list_all, slice_get}
 use Rattle.dump_trees.specs.Paths.{NodePath, names_of}
@@ -27,11 +27,6 @@ pub ok_then : {A E : Type 0} (r : Result A E) (P Q : A → Type 0) → IfOk r P 
 ok_then (Ok a) P Q one then = then a one
 ok_then (Err e) P Q one then = tt
 
--- a clause that is true of each result
-pub ok_always : {A E P : Type 0} (r : Result A E) → P → OnOk r P
-ok_always (Ok a) it = it
-ok_always (Err e) it = tt
-
 -- the paths are the rests after the top
 pub paths_behind : (top : NodePath) (shown : List (Bor (List ℕ))) (rests : List (Bor (List ℕ))) (paths : List NodePath)
     → shown ≡ rests → paths ≡ map (λ rest. top ++ names_of rest.now) shown
@@ -58,10 +53,6 @@ bare_at (rest ∷ rests) (suc n) other bare low =
 pub kind_some : (o : Option NodeKind) → is_some (option_map kind_meant o) ≡ is_some o
 kind_some None = refl
 kind_some (Some kind) = refl
-
-pub with_true : (b : Bool) → (b && true) ≡ b
-with_true true = refl
-with_true false = refl
 
 -- the change at a place, by its path and what it makes
 

@@ -1,8 +1,8 @@
 -- If the copies of a dump that loads are taken as they are, the filter's cut separates each change.
-use Rattle.std.proofs.Common.{◌≡◌, ℕ, Bool, true, false, not, ◌&&◌, ◌||◌, ◌==◌, List, [], ◌∷◌, ◌++◌, length, Some, option_and_then, is_some, refl, sym, ap, ◌∙◌, subst, append-nil, append_assoc, arith, Contains}
+use Rattle.std.proofs.Common.{◌≡◌, ℕ, Bool, true, false, not, ◌&&◌, ◌||◌, ◌==◌, List, [], ◌∷◌, ◌++◌, length, Some, option_and_then, is_some, refl, sym, ap, ◌∙◌, subst, append-nil, append_assoc, Contains}
 use Rattle.std.specs.Prelude.{slice_get}
 use Rattle.std.specs.List.{list_all}
-use Rattle.std.proofs.lemmas.Bool.{and_parts, and_from, eqb-true, not_from_false, not-true}
+use Rattle.std.proofs.lemmas.Bool.{and_parts, and_from, not_from_false, not-true, both_ways}
 use Rattle.std.proofs.lemmas.Option.{slice_get_within}
 use Rattle.dump_rules.specs.Settings.{Settings}
 use Rattle.dump_trees.specs.Paths.{NodePath, keeps}
@@ -25,10 +25,7 @@ use Rattle.dump_trees.proofs.cuts.FollowLemmas.{each_copy_is_over}
 use Rattle.dump_trees.proofs.cuts.PlacedCopies.{copies_are_placed, followed_is_told}
 use Rattle.dump_cut.proofs.SourceLemmas.{source_exists}
 use Rattle.dump_cut.specs.TakenCopies.{is_copy_taken, is_made_taken, is_taken_at, AllTaken, TakenRevisionsSeparate}
-
-both_ways : (b : Bool) → b ≡ false → b ≡ true → ⊥
-both_ways true is isnt = let bad : true ≡ false = is in cc
-both_ways false is isnt = let bad : false ≡ true = isnt in cc
+use Rattle.dump_cut.proofs.RangeLemmas.{empty_list}
 
 -- if a copy isn't followed anywhere, the paths cover what it would be followed to
 reached : (way : Way) (tops : List NodePath) (old : Tree) (path source rest : NodePath)
@@ -52,11 +49,6 @@ reached way tops old path source rest none directories exists covered =
         (not_from_false _ (uncovered_above tops (to_of way path source ++ first) more
         (subst (λ p. is_covered tops p ≡ false)
         (ap (λ r. to_of way path source ++ r) same ∙ sym (append_assoc (to_of way path source) first more)) at)))))))
-
--- a list of length 0 is empty
-no_length : {A : Type 0} (xs : List A) → (length xs == 0) ≡ true → xs ≡ []
-no_length [] is = refl
-no_length (x ∷ xs) is = let none : length (x ∷ xs) ≡ 0 = eqb-true (length (x ∷ xs)) 0 is in absurd (omega arith)
 
 module _ (settings : Settings) (excluded : List NodePath) (told : ToldKinds) (revisions : List (List Change))
     (trees : List Tree) (tells : TellsKinds told root_alone (placed_from 1 revisions))
@@ -83,7 +75,7 @@ module _ (settings : Settings) (excluded : List NodePath) (told : ToldKinds) (re
       && (length (followed_told Way.ToSources excluded told here at.number path source) == 0))) open_path)))
       ∙ taken in
       let parts = and_parts _ _ both in
-      (sym (one Way.ToCopies) ∙ no_length _ parts.0, sym (one Way.ToSources) ∙ no_length _ parts.1)
+      (sym (one Way.ToCopies) ∙ empty_list _ parts.0, sym (one Way.ToSources) ∙ empty_list _ parts.1)
 
   -- a kept change of one of the revisions
   module _ (older : List Tree) (more : List Tree) (joined : trees ≡ older ++ more) (before after : Tree)

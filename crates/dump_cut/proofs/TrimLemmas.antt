@@ -1,5 +1,5 @@
 -- What is deleted after the copies of a dump that loads is exactly what they take to excluded paths.
-use Rattle.std.proofs.Common.{◌≡◌, ℕ, suc, ◌+◌, cond, take, drop, Bool, true, false, not, List, [], ◌∷◌, ◌++◌, length, map, filter, Option, Some, None, option_and_then, refl, sym, ap, ap₂, ◌∙◌, subst, Contains, inl, inr, MatchBool}
+use Rattle.std.proofs.Common.{◌≡◌, ℕ, suc, ◌+◌, cond, take, drop, Bool, true, false, not, List, [], ◌∷◌, ◌++◌, length, map, filter, Option, Some, None, option_and_then, refl, sym, ap, ap₂, ◌∙◌, subst, Contains, inl, inr}
 use Rattle.std.specs.Prelude.{slice_get}
 use Rattle.std.specs.List.{list_all, list_any}
 use Rattle.std.proofs.lemmas.Bool.{and_parts, or_parts, MatchBool-at_false, MatchBool-at_true}
@@ -36,6 +36,7 @@ use Rattle.dump_history.specs.TrimmedDumps.{AreFilteredTrimming, AreTrimming, st
 use Rattle.dump_history.specs.WrittenNodes.{written_change}
 use Rattle.dump_cut.specs.TrimmedCopies.{delete_nodes, kept_changes, lost_paths}
 use Rattle.dump_cut.proofs.DeleteGroups.{all_sizes, parts_of}
+use Rattle.dump_trees.proofs.expansions.TrimmedNumbers.{at_true, at_false}
 
 -- the nodes that delete paths make the deletions
 
@@ -47,12 +48,6 @@ pub deleted_below : (top : NodePath) (rests : List NodePath)
     → map deletion_of (map (λ rest. top ++ rest) rests) ≡ deletions top rests
 deleted_below top [] = refl
 deleted_below top (rest ∷ rests) = ap (λ cs. deletion_of (top ++ rest) ∷ cs) (deleted_below top rests)
-
-at_true : (A B : Type 0) (b : Bool) → b ≡ true → A → MatchBool b A B
-at_true A B b is a = subst (λ c. MatchBool c A B) (sym is) a
-
-at_false : (A B : Type 0) (b : Bool) → b ≡ false → B → MatchBool b A B
-at_false A B b is a = subst (λ c. MatchBool c A B) (sym is) a
 
 -- if the changes don't keep their revision, none of them is kept
 not_kept_by : (settings : Settings) (changes : List Change) → keeps_revision settings (stays_empty settings) changes ≡ false

@@ -11,13 +11,13 @@ use Rattle.dump_records.specs.RecordText.{DumpRecord, record_text}
 use Rattle.dump_records.specs.declared.cutter.Cut.{Cut}
 use Rattle.dump_records.specs.declared.cutter.Cut.TheVariants as cuts
 use Rattle.dump_records.specs.declared.record.Record.{Record}
-use Rattle.dump_records.specs.steps.CutRecords.{EndsAfter, IsRecordOf}
+use Rattle.dump_records.specs.steps.CutRecords.{EndsAfter}
 use Rattle.dump_records.specs.steps.CutterState.{CutterState}
 use Rattle.dump_records.specs.steps.RecordPlaces.{place_after}
 use Rattle.dump_records.specs.steps.RecordViews.{CutStep, record_item}
-use Rattle.dump_records.proofs.CutLemmas.{count_fits, lfs_length}
-use Rattle.dump_records.proofs.ListLaw.{each_dump_has_one_list}
-use Rattle.dump_records.proofs.Prefixes.{begins_prefix, is_front, one_more, whole_list}
+use Rattle.dump_records.proofs.CutLemmas.{lfs_length}
+use Rattle.dump_records.proofs.CutterLemmas.{ReadSoFar, begins_more, begins_with_none, read_more, read_nearer}
+use Rattle.dump_records.proofs.Prefixes.{is_front, whole_list}
 use Rattle.dump_records.proofs.Unique.{records_once}
 use Rattle.dump_digest.specs.RecordParts.{is_node}
 use Rattle.dump_history.specs.ExpandedText.{AreRecordTexts}
@@ -248,12 +248,6 @@ pub record TrimmedSoFar (deletes : List (List (List ℕ))) (dump : List ℕ) (cu
   pub behind : (rest : List DumpRecord) → with_deletes (done ++ (pending ++ rest)) deletes
       ≡ written ++ (pending ++ with_deletes rest left)
 
--- a dump begins with no records
-begins_with_none : (dump : List ℕ) → BeginsWithRecords dump []
-begins_with_none dump =
-    let (records, ending, has, once) = each_dump_has_one_list dump in
-    begins_prefix dump [] records (has.0, has.1, has.2)
-
 pub none_trimmed : (deletes : List (List (List ℕ))) (dump : List ℕ) (cutter : CutterState) (piece : List ℕ)
     → cutter ≡ record { dump = dump; number = 0 } → piece ≡ [] → TrimmedSoFar deletes dump cutter piece deletes 0
 none_trimmed deletes dump cutter piece is none = record {
@@ -275,30 +269,29 @@ module _ (deletes : List (List (List ℕ))) (dump : List ℕ) (cutter after : Cu
     abbrev pub given : DumpRecord
     given = record_item item
 
+    -- the records so far, done or not
+    abbrev read : ReadSoFar dump cutter
+    read = record {
+      dump_is = so_far.dump_is;
+      before = so_far.done ++ so_far.pending;
+      begins = so_far.begins;
+      count = so_far.count;
+    }
+
     begins_next : BeginsWithRecords dump ((so_far.done ++ so_far.pending) ++ given ∷ [])
-    begins_next =
-        subst (λ d. BeginsWithRecords d ((so_far.done ++ so_far.pending) ++ given ∷ [])) so_far.dump_is
-        (one_more cutter.dump (so_far.done ++ so_far.pending) given
-        (subst (λ d. BeginsWithRecords d (so_far.done ++ so_far.pending)) (sym so_far.dump_is) so_far.begins)
-        ∣ subst (λ n. IsRecordOf cutter.dump n given) (sym so_far.count) step.2 ∣₁)
+    begins_next = begins_more dump cutter after read item step
 
     count_next : length ((so_far.done ++ so_far.pending) ++ given ∷ []) ≡ after.number
     count_next =
-        length-append (so_far.done ++ so_far.pending) (given ∷ [])
-        ∙ (ap (λ n. n + 1) so_far.count ∙ sym (ap (λ (c : CutterState). c.number) step.3))
+        let next = read_more dump cutter after read item step in
+        next.count
 
     with_next : (so_far.done ++ so_far.pending) ++ given ∷ [] ≡ so_far.done ++ (so_far.pending ++ given ∷ [])
     with_next = append_assoc so_far.done so_far.pending (given ∷ [])
 
     -- the cutter is nearer to the end
     pub trim_nearer : (after.number ≡ cutter.number + 1) × (after.number ≤ length dump)
-    trim_nearer =
-        let more = begins_next in
-        let fits = count_fits 0 0 dump more.0 ((so_far.done ++ so_far.pending) ++ given ∷ []) more.1 in
-        let size = length-append (so_far.done ++ so_far.pending) (given ∷ []) in
-        let its = so_far.count in
-        let number = ap (λ (c : CutterState). c.number) step.3 in
-        (number, omega arith)
+    trim_nearer = read_nearer dump cutter after read item step
 
     -- a record with no deletes after it
     pub trim_on : (later : List (List (List ℕ)))

@@ -1,5 +1,5 @@
 -- A header gives another digest than the text's exactly if it is there and isn't that digest.
-use Rattle.dump_digest.proofs.Prelude.{◌≡◌, ◌↔◌, ℕ, Bool, true, false, ◌||◌, List, refl, sym, ap, ◌∙◌, Option, Some, None, is_some, Bor, IsFalse, if◌then◌else◌, same_Some, inl, inr, cases_Bool, not_so, md5_name, sha1_name, has_header, header_value, DumpRecord, has_value, some_copied, has_whole_text, TellsOther, HasOtherDigest, is_told_text}
+use Rattle.dump_digest.proofs.Prelude.{◌≡◌, ◌↔◌, ℕ, Bool, true, ◌||◌, List, refl, sym, ap, ◌∙◌, Option, Some, None, is_some, Bor, IsFalse, if◌then◌else◌, same_Some, inl, inr, cases_Bool, md5_name, sha1_name, has_header, header_value, DumpRecord, has_value, some_copied, has_whole_text, TellsOther, HasOtherDigest, is_told_text}
 use Rattle.std.proofs.Common.{option_copied}
 
 -- the text of a record, if it has one that isn't a delta
@@ -13,9 +13,6 @@ text_there r text is = elim (cases_Bool (has_whole_text r)) [
   | inl e ↦ (e, same_Some text r.text (is ∙ rw e refl))
   | inr e ↦ let bad : Some text ≡ None = is ∙ rw e refl in cc
 ]
-
-pub no_text : (r : DumpRecord) → None ≡ whole_part r → has_whole_text r ≡ false
-no_text r is = not_so _ (λ e. let bad : None ≡ Some r.text = is ∙ rw e refl in cc)
 
 -- a digest isn't ok exactly if the record has another one for its text
 pub digest_told : (name : List ℕ) (r : DumpRecord) (size : ℕ) (digest : List ℕ) (ok : Bool) (told : Option (List ℕ))

@@ -1,5 +1,5 @@
 -- The bytes of written nodes, and which of them can be written.
-use Rattle.std.proofs.Common.{◌≡◌, ℕ, Bool, true, false, not, ◌&&◌, List, [], ◌∷◌, ◌++◌, map, refl, sym, ap, ◌∙◌, append-nil, append_assoc}
+use Rattle.std.proofs.Common.{◌≡◌, ℕ, false, not, ◌&&◌, List, [], ◌∷◌, ◌++◌, map, refl, sym, ap, ◌∙◌, append-nil, append_assoc}
 use Rattle.std.proofs.lemmas.Grind.{flat_map-append}
 use Rattle.std.proofs.lemmas.List.Folds.{list_all-map}
 use Rattle.std.specs.List.{list_all}
@@ -9,6 +9,7 @@ use Rattle.dump_text.specs.PropertyList.{Property, has_deletes}
 use Rattle.dump_history.specs.WrittenNodes.{are_plain_entries}
 use Rattle.dump_changes.specs.steps.ChangedProperties.{as_property}
 use Rattle.dump_changes.specs.declared.property_edit.NodeProperty.{NodeProperty}
+use Rattle.std.proofs.Math.Bool.{and-true}
 
 -- properties that are set are plain if their names are
 none_deleted : (entries : List NodeProperty) → has_deletes (map as_property entries) ≡ false
@@ -20,12 +21,8 @@ pub plain_entries : (entries : List NodeProperty) → are_plain_entries (map as_
 plain_entries entries =
     ap (λ b. list_all (λ (p : Property). not (has_byte 0 p.name)) (map as_property entries) && not b)
     (none_deleted entries)
-    ∙ and_true (list_all (λ (p : Property). not (has_byte 0 p.name)) (map as_property entries))
+    ∙ and-true (list_all (λ (p : Property). not (has_byte 0 p.name)) (map as_property entries))
     ∙ list_all-map (λ (p : Property). not (has_byte 0 p.name)) as_property entries
-  where
-    and_true : (b : Bool) → (b && true) ≡ b
-    and_true true = refl
-    and_true false = refl
 
 -- the bytes of a line
 abbrev pub line_bytes : Header → List ℕ

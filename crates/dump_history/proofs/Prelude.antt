@@ -32,7 +32,7 @@ pub use Rattle.dump_filter.specs.Written.{IsWrittenText, is_written}
 pub use Rattle.dump_filter.specs.steps.NewLines.{is_copy_line}
 pub use Rattle.dump_history.specs.DumpChanges.{HaveRevisionProperties, LoadsAs, MakeChanges, MakeRevisions, counts_from, has_ordered_nodes}
 pub use Rattle.dump_history.specs.DumpLaws.{DumpLoadsOnce, DumpLoadsTheSameBehindOthers, FilteredDumpFrontRestricts, FilteredDumpRestricts, FilteredDumpRestrictsAfterDirectories, FrontLoadsRestricted, HasNoGapIfKept, KeepsProperties, LoadsAfterDirectories, LoadsRestricted, NoGapIsNeeded, PlainRevisionsStay, QuietDumpFrontRestricts, QuietDumpRestricts, QuietDumpRestrictsAfterDirectories, RevisionsKeepProperties, TreesRestrict, keeps_numbering, sets_no_mergeinfo}
-pub use Rattle.dump_history.specs.Findings.{AreDumpFactsOf, AreDumpFindingsOf, AreFindingsOf, AreNodeFaultsOf, DumpFacts, HasUnreadRevision, IsReadBlock, IsUnreadRevision, NodeFaults, begins_at, copies_from_before, dump_findings, every_dump_finding, every_finding, findings_of, first_has_node, has_kept_path, has_kept_source, has_source_before, is_above_prefix, is_alarm, is_found, is_found_in_dump, is_obstacle, rise}
+pub use Rattle.dump_history.specs.Findings.{AreDumpFindingsOf, AreFindingsOf, AreNodeFaultsOf, DumpFacts, HasUnreadRevision, IsReadBlock, IsUnreadRevision, NodeFaults, begins_at, copies_from_before, dump_findings, every_dump_finding, every_finding, findings_of, first_has_node, has_kept_path, has_kept_source, has_source_before, is_above_prefix, is_alarm, is_found, is_found_in_dump, is_obstacle, rise}
 pub use Rattle.dump_history.specs.NumberGaps.{HasNamingNode, HasNamingNodeBehind, KeepsNamedNumbers, LoadsWithGapsAs, MakeRevisionsWithGaps, NamesRevision, NamesRevisionBehind, SetsMergeinfo, count_to_gap, entries_of, go_up, name_no_revision, names_revision, sets_mergeinfo}
 pub use Rattle.dump_history.specs.PartLaws.{FilteredPartRestricts, IsLoadedBehindOne, IsLoadedProperty, MakePartRevisions, MakePartRevisionsWithGaps, NoGapIsNeededInPart, PartLoadsAs, PartLoadsBehind, QuietPartRestricts, kept_as_loaded}
 pub use Rattle.dump_history.specs.RaisedMergeinfo.{AreRaisedLines, HasMergedNumber, IsRaised, IsRaisedValue}
@@ -64,7 +64,7 @@ pub use Rattle.dump_text.specs.Names.{action_name, content_length_name, copy_pat
 pub use Rattle.dump_text.specs.Number.{is_number, number_of, spelled_number}
 pub use Rattle.dump_text.specs.PropertyList.{Property, property_block_text}
 pub use Rattle.dump_trees.proofs.histories.AlikeLemmas.{both_restrict, given_alike, loads_alike}
-pub use Rattle.dump_trees.proofs.histories.FrontLemmas.{front_history, loaded_length}
+pub use Rattle.dump_trees.proofs.histories.FrontLemmas.{front_history}
 pub use Rattle.dump_trees.proofs.histories.HistoryLemmas.{history}
 pub use Rattle.dump_trees.proofs.histories.KeptNumbers.{AreAbove, AreBelow, all_counted, below_next, below_pushed, kept_above, length_push}
 pub use Rattle.dump_trees.proofs.histories.MovedLemmas.{loads_behind}
@@ -84,5 +84,4 @@ pub use Rattle.dump_rules.specs.declared.options.Empty.TheVariants.{DropAll, Dro
 pub use Rattle.dump_rules.specs.declared.options.Side.{Side}
 pub use Rattle.dump_rules.specs.declared.options.Side.TheVariants.{Exclude, Include}
 pub use Rattle.dump_text.specs.declared.fault.FaultKind.TheVariants.{CopyRevision, MergeRange, MergeSource, Order}
-pub use Rattle.dump_history.specs.declared.findings.DumpFinding.{DumpFinding}
 pub use Rattle.dump_history.specs.declared.findings.Finding.{Finding}

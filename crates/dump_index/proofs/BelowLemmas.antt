@@ -1,6 +1,6 @@
 -- How paths compare with a directory, and with other paths in the order of their bytes.
 use Rattle.std.proofs.Common.{◌≡◌, ℕ, zero, suc, ◌+◌, ◌<◌, ◌≤◌, Bool, true, false, not, ◌&&◌, cond, List, [], ◌∷◌, ◌++◌, length, take, drop, nat_eq, bytes_eq, append-nil, append_assoc, refl, sym, ap, ap₂, ◌∙◌, ◌≢◌, arith, inl, inr}
-use Rattle.std.proofs.lemmas.Bool.{cases_lt, eqb-true, eq-eqb, false_from_ne_true, and_from, lt-ltb}
+use Rattle.std.proofs.lemmas.Bool.{cases_lt, eqb-true, eq-eqb, false_from_ne_true, and_from, lt-ltb, and_right}
 use Rattle.std.proofs.lemmas.Slice.Eq.{bytes_eq-Decides}
 use Rattle.std.specs.List.{list_all}
 use Rattle.std.specs.Cmp.Lexicographic.{slice_cmp}
@@ -9,7 +9,10 @@ use Rattle.std.specs.declared.cmp.Ordering.{Ordering}
 use Rattle.std.specs.declared.cmp.Ordering.TheVariants.{Less, Equal, Greater}
 use Rattle.dump_trees.specs.Paths.{is_name}
 use Rattle.dump_index.specs.steps.Below.{name_end, GoesFurther}
-use Rattle.dump_index.proofs.KeyLemmas.{not_below, earlier_place}
+use Rattle.dump_index.proofs.KeyLemmas.{earlier_place}
+use Rattle.dump_trees.proofs.paths.PrefixRests.{same_rest}
+use Rattle.std.proofs.Math.Seq.{take-append_seam}
+use Rattle.dump_rules.proofs.ReachLemmas.{is_not_below}
 
 -- ---- texts in order
 
@@ -26,12 +29,12 @@ sides m n =
       | inr high ↦
           elim (cases_lt n m) [
             | inl more ↦ Higher more
-                (ap (λ b. cond b Less (cond (nat_eq m n) Equal Greater)) (not_below m n high)
+                (ap (λ b. cond b Less (cond (nat_eq m n) Equal Greater)) (is_not_below m n high)
                 ∙ ap (λ b. cond b Equal Greater) (false_from_ne_true (nat_eq m n) (λ is.
                 let same : m ≡ n = eqb-true m n is in absurd (omega arith))))
             | inr low ↦
                 let same : m ≡ n = omega arith in
-                Level same (ap (λ b. cond b Less (cond (nat_eq m n) Equal Greater)) (not_below m n high)
+                Level same (ap (λ b. cond b Less (cond (nat_eq m n) Equal Greater)) (is_not_below m n high)
                 ∙ ap (λ b. cond b Equal Greater) (eq-eqb m n same))
           ]
     ]
@@ -128,31 +131,16 @@ parts_of zero text = refl
 parts_of (suc n) [] = refl
 parts_of (suc n) (b ∷ text) = ap (λ (t : List ℕ). b ∷ t) (parts_of n text)
 
-pub take_own : (top rest : List ℕ) → take (length top) (top ++ rest) ≡ top
-take_own [] rest = refl
-take_own (b ∷ top) rest = ap (λ (t : List ℕ). b ∷ t) (take_own top rest)
-
 pub take_into : (top rest : List ℕ) (m n : ℕ) → m ≡ length top + n → take m (top ++ rest) ≡ top ++ take n rest
 take_into [] rest m n is = let same : m ≡ n = omega arith in ap (λ k. take k rest) same
 take_into (b ∷ top) rest zero n is = absurd (omega arith)
 take_into (b ∷ top) rest (suc m) n is = ap (λ (t : List ℕ). b ∷ t) (take_into top rest m n (omega arith))
 
-pub take_whole : (n : ℕ) (text : List ℕ) → length text ≤ n → take n text ≡ text
-take_whole zero [] low = refl
-take_whole zero (b ∷ text) low = absurd (omega arith)
-take_whole (suc n) [] low = refl
-take_whole (suc n) (b ∷ text) low = ap (λ (t : List ℕ). b ∷ t) (take_whole n text (omega arith))
-
-pub same_behind : (top one two : List ℕ) → top ++ one ≡ top ++ two → one ≡ two
-same_behind [] one two is = is
-same_behind (b ∷ top) one two is =
-    same_behind top one two (let both : b ∷ top ++ one ≡ b ∷ top ++ two = is in cc)
-
 -- ---- below a directory
 
 pub outside : (top path : List ℕ) → bytes_eq (take (length top) path) top ≡ false → (rest : List ℕ) → path ≡ top ++ rest → ⊥
 outside top path other rest is =
-    let same : take (length top) path ≡ top = ap (λ (t : List ℕ). take (length top) t) is ∙ take_own top rest in
+    let same : take (length top) path ≡ top = ap (λ (t : List ℕ). take (length top) t) is ∙ take-append_seam top rest in
     let bad : true ≡ false = sym ((bytes_eq-Decides (take (length top) path) top).1 same) ∙ other in
     absurd (cc)
 
@@ -191,10 +179,6 @@ slash_in (b ∷ text) more low = cases (slash_in text more) (nat_eq b 47) refl l
         ap (λ x. not x && list_all (λ c. not (nat_eq c 47)) (take (suc (name_end text)) text ++ more)) is
         ∙ further (omega arith)
 
-and_no : (b c : Bool) → c ≡ false → (b && c) ≡ false
-and_no true c is = is
-and_no false c is = refl
-
 pub further : (top path rest : List ℕ) → path ≡ top ++ rest → name_end rest < length rest
     → GoesFurther top path (take (length top + name_end rest + 1) path)
 further top path rest is low = (
@@ -204,16 +188,16 @@ further top path rest is low = (
       = ap (take (length top + name_end rest + 1)) is
       ∙ take_into top rest (length top + name_end rest + 1) (suc (name_end rest)) (omega arith) in
       let name_is : take (suc (name_end rest)) rest ++ more ≡ name
-      = same_behind top (take (suc (name_end rest)) rest ++ more) name
+      = same_rest top (take (suc (name_end rest)) rest ++ more) name
       (sym (append_assoc top (take (suc (name_end rest)) rest) more)
       ∙ sym (ap (λ (t : List ℕ). t ++ more) its) ∙ same) in
       ap (λ (t : List ℕ). is_name t) (sym name_is)
-      ∙ and_no (Rattle.std.proofs.Common.nat_lt 0 (length (take (suc (name_end rest)) rest ++ more))) _
+      ∙ and_right (Rattle.std.proofs.Common.nat_lt 0 (length (take (suc (name_end rest)) rest ++ more))) _
       (slash_in rest more low),
 )
 
 -- the path doesn't go on after the top
 pub nothing_more : (top name : List ℕ) → top ≡ top ++ name → is_name name ≡ false
 nothing_more top name is =
-    let none : [] ≡ name = same_behind top [] name (append-nil top ∙ is) in
+    let none : [] ≡ name = same_rest top [] name (append-nil top ∙ is) in
     ap (λ (t : List ℕ). is_name t) (sym none)

@@ -21,12 +21,12 @@ use Rattle.dump_index.specs.Kinds.{kind_look}
 use Rattle.dump_index.specs.declared.change.NodeKind.{NodeKind}
 use Rattle.dump_index.specs.steps.Names.{AreNames}
 use Rattle.dump_index.specs.steps.Touching.{joined_text}
-use Rattle.dump_index.proofs.LatestLemmas.{and_true, and_false}
 use Rattle.dump_index.proofs.SlashLemmas.{ends_joined, names_joined}
 use Rattle.dump_index.proofs.NameLemmas.{no_slash, names_of_name}
-use Rattle.dump_index.proofs.LookNames.{or_assoc, or_none}
 use Rattle.dump_index.specs.Children.{is_child_named, stands_in, AreChildren}
 use Rattle.dump_index.specs.steps.Names.{texts_of}
+use Rattle.std.proofs.Math.Bool.{and-false, and-true, or-false, and_comm, or_assoc}
+use Rattle.std.proofs.lemmas.List.Elements.{filter-append}
 
 -- borrowed names
 abbrev pub is_text : List ℕ → Bor (List ℕ) → Bool
@@ -76,12 +76,6 @@ strict_texts [] up = tt
 strict_texts (n ∷ names) up =
     (all_texts (λ (text : List ℕ). slice_cmp nat_cmp n.now text ≡ Less) names up.0, strict_texts names up.1)
 
-and_comm : (a b : Bool) → (a && b) ≡ (b && a)
-and_comm true true = refl
-and_comm true false = refl
-and_comm false true = refl
-and_comm false false = refl
-
 pub children_are : (listed : List Listed) (count : ℕ) (path : NodePath) (given sorted once kept : List (Bor (List ℕ)))
     → ((name : List ℕ) → is_child_named (texts_of given) name ≡ is_child_named (names_look (all_placed listed) count path) name)
     → IsPermutation given sorted → IsSorted (λ one two. slice_cmp nat_cmp one.now two.now) sorted
@@ -110,20 +104,20 @@ pub pushed_named : (names : List (Bor (List ℕ))) (more : Bor (List ℕ)) (name
     → is_child_named (texts_of (names ++ more ∷ [])) name ≡ (is_child_named (texts_of names) name || bytes_eq more.now name)
 pushed_named names more name =
     named_texts (names ++ more ∷ []) name ∙ list_any-append (is_text name) names (more ∷ [])
-    ∙ ap₂ (λ a b. a || b) (sym (named_texts names name)) (or_none (bytes_eq more.now name))
+    ∙ ap₂ (λ a b. a || b) (sym (named_texts names name)) (or-false (bytes_eq more.now name))
 
 -- the change makes the name, or it doesn't
 pub named_pushed : (old first before after same low makes : Bool) → old ≡ (first || before)
     → after ≡ (before || (same && (low && makes))) → low ≡ true → makes ≡ true → (old || same) ≡ (first || after)
 named_pushed old first before after same low makes is more is_low is_made =
     ap (λ b. b || same) is ∙ or_assoc first before same
-    ∙ sym (ap (λ b. first || b) (more ∙ ap (λ b. before || b) (ap₂ (λ a b. same && (a && b)) is_low is_made ∙ and_true same)))
+    ∙ sym (ap (λ b. first || b) (more ∙ ap (λ b. before || b) (ap₂ (λ a b. same && (a && b)) is_low is_made ∙ and-true same)))
 
 pub named_kept : (old first before after same its : Bool) → old ≡ (first || before) → after ≡ (before || (same && its))
     → its ≡ false → old ≡ (first || after)
 named_kept old first before after same its is more isnt =
     is ∙ sym (ap (λ b. first || b)
-    (more ∙ ap (λ b. before || b) (ap (λ b. same && b) isnt ∙ and_false same) ∙ or_none before))
+    (more ∙ ap (λ b. before || b) (ap (λ b. same && b) isnt ∙ and-false same) ∙ or-false before))
 
 -- ---- which of the names exist
 
@@ -152,15 +146,6 @@ child_kind listed count path name text child kind is child_is text_is kind_is =
     ∙ ap (λ (t : List ℕ). kind_look listed count (names_of t)) (text_is ∙ child_is)
     ∙ ap (kind_look listed count) (names_joined path name ∙ ap (λ (ns : NodePath). names_of path ++ ns) (names_of_name name is)))
 
-filter_append : (p : List ℕ → Bool) (xs ys : List (List ℕ)) → filter p (xs ++ ys) ≡ filter p xs ++ filter p ys
-filter_append p [] ys = refl
-filter_append p (x ∷ xs) ys = cases (p x) (filter_append p xs ys)
-  where
-    cases : (b : Bool) → filter p (xs ++ ys) ≡ filter p xs ++ filter p ys
-        → cond b (x ∷ filter p (xs ++ ys)) (filter p (xs ++ ys)) ≡ cond b (x ∷ filter p xs) (filter p xs) ++ filter p ys
-    cases true further = ap (λ (ns : List (List ℕ)). x ∷ ns) further
-    cases false further = further
-
 module _ (p : List ℕ → Bool) (names kept : List (Bor (List ℕ))) (i : ℕ) (d : Bor (List ℕ)) (low : i < length names)
     (before : texts_of kept ≡ filter p (texts_of (take i names))) where
   next_texts : filter p (texts_of (take (i + 1) names))
@@ -168,7 +153,7 @@ module _ (p : List ℕ → Bool) (names kept : List (Bor (List ℕ))) (i : ℕ) 
   next_texts =
       ap (λ (ns : List (Bor (List ℕ))). filter p (texts_of ns)) (take_more names i d low)
       ∙ ap (filter p) (map-append (λ (text : Bor (List ℕ)). text.now) (take i names) (get_or names i d ∷ []))
-      ∙ filter_append p (texts_of (take i names)) ((get_or names i d).now ∷ [])
+      ∙ filter-append p (texts_of (take i names)) ((get_or names i d).now ∷ [])
       ∙ ap (λ (ns : List (List ℕ)). ns ++ cond (p (get_or names i d).now) ((get_or names i d).now ∷ []) []) (sym before)
 
   pub stands_more : (after : List (Bor (List ℕ))) → after ≡ kept ++ get_or names i d ∷ [] → p (get_or names i d).now ≡ true

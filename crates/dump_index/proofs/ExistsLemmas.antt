@@ -1,8 +1,7 @@
 -- Whether something exists at a path at some time. If no change touches the path, what exists there doesn't change.
-use Rattle.std.proofs.Common.{◌≡◌, ◌⊎◌, ℕ, zero, suc, ◌+◌, ◌<◌, ◌≤◌, Bool, true, false, ◌||◌, cond, List, [], ◌∷◌, ◌++◌, length, map, Option, Some, None, is_some, option_map, refl, sym, ap, ◌∙◌, arith, inl, inr, append-nil, append_assoc}
+use Rattle.std.proofs.Common.{◌≡◌, ◌⊎◌, ℕ, zero, suc, ◌+◌, ◌<◌, ◌≤◌, Bool, true, false, ◌||◌, cond, List, [], ◌∷◌, ◌++◌, length, map, Option, Some, None, is_some, option_map, refl, sym, ap, ◌∙◌, arith, inl, inr, append-nil, append_assoc, length-append}
 use Rattle.std.specs.Prelude.{slice_get}
 use Rattle.std.proofs.lemmas.Bool.{cases_lt, or_cases, or_left, or_right}
-use Rattle.std.proofs.lemmas.List.{length-map}
 use Rattle.std.proofs.lemmas.Slice.Zip.{AllZip-long}
 use Rattle.dump_trees.specs.Paths.{NodePath}
 use Rattle.dump_trees.specs.Trees.{Node, Tree, root_alone}
@@ -14,8 +13,7 @@ use Rattle.dump_trees.specs.Following.{ExistsOnce}
 use Rattle.dump_trees.proofs.cuts.FollowLemmas.{map_some, then_some}
 use Rattle.dump_trees.proofs.expansions.BackLemmas.{LooksBack}
 use Rattle.dump_trees.proofs.histories.FrontLemmas.{begun_trees}
-use Rattle.dump_trees.proofs.histories.KeptNumbers.{length_push}
-use Rattle.dump_trees.proofs.cuts.CheckedLoads.{AreFrom, of_one, from_more, from_append, one_from, all_from, placed_append, placed_cut, length_append, split_at, get_some, steps_then, loaded_push, loaded_size, pushed}
+use Rattle.dump_trees.proofs.cuts.CheckedLoads.{of_one, split_at, get_some, steps_then, loaded_push, loaded_size, pushed, one_length}
 use Rattle.dump_index.specs.Listed.{Listed, listed_of, all_placed}
 use Rattle.dump_index.specs.Kinds.{kind_look, node_kind}
 use Rattle.dump_index.specs.IndexLaws.{IsListed, AreListed}
@@ -25,6 +23,7 @@ use Rattle.dump_index.specs.declared.change.NodeChange.{NodeChange}
 use Rattle.dump_index.specs.declared.change.NodeKind.{NodeKind}
 use Rattle.dump_index.proofs.LawLemmas.{look_one_more}
 use Rattle.dump_index.proofs.ToldLemmas.{index_tells_kinds}
+use Rattle.dump_trees.proofs.cuts.FirstChanges.{changes_after, changes_parted, are_later}
 
 -- after some of this number of changes
 
@@ -124,37 +123,21 @@ module _ (changes : List NodeChange) (front : List (List Change)) (done more : L
   abbrev first : List (List Change)
   first = front ++ done ∷ []
 
-  abbrev whole : List (List Change)
-  whole = front ++ (done ++ more) ∷ []
-
   abbrev behind : List Placed
-  behind = of_one (1 + length front) more ++ placed_from (1 + length whole) rest
+  behind = changes_after front done more rest
 
   split : placed_from 1 revisions ≡ placed_from 1 first ++ behind
-  split = ap (placed_from 1) (parted ∙ sym (append_assoc front ((done ++ more) ∷ []) rest))
-      ∙ (placed_append 1 whole rest
-      ∙ (ap (λ ps. ps ++ placed_from (1 + length whole) rest) (placed_cut 1 front done more)
-      ∙ append_assoc (placed_from 1 first) (of_one (1 + length front) more) (placed_from (1 + length whole) rest)))
-
-  late : AreFrom (length first) behind
-  late =
-      let size = length_push front done in
-      let other = length_push front (done ++ more) in
-      from_append (length first) (of_one (1 + length front) more) (placed_from (1 + length whole) rest)
-      (from_more (length first) (1 + length front) (omega arith) (of_one (1 + length front) more)
-      (one_from (1 + length front) more))
-      (from_more (length first) (1 + length whole) (omega arith) (placed_from (1 + length whole) rest)
-      (all_from (1 + length whole) rest))
+  split = changes_parted front done more rest revisions parted
 
   first_low : length (placed_from 1 first) ≤ length (placed_from 1 revisions)
-  first_low = let size = ap length split ∙ length_append (placed_from 1 first) behind in omega arith
+  first_low = let size = ap length split ∙ length-append (placed_from 1 first) behind in omega arith
 
   found : AreListed changes (placed_from 1 revisions) → (trees : List Tree) (tree : Tree) (path : NodePath)
       → loaded_over root_alone first ≡ Some trees → slice_get trees (length first) ≡ Some tree
       → exists_at (map listed_of changes) path (length (placed_from 1 first)) ≡ is_some (tree path)
   found all trees tree path loads at =
       kind_some (kind_look (map listed_of changes) (length (placed_from 1 first)) path) (tree path)
-      (index_tells_kinds changes (placed_from 1 revisions) all first behind trees tree path split late loads at)
+      (index_tells_kinds changes (placed_from 1 revisions) all first behind trees tree path split (are_later front done more rest revisions parted) loads at)
 
 -- revisions, split after this number of their changes
 
@@ -176,14 +159,11 @@ up_to_or_behind (suc first) (suc n) =
       | inr high ↦ let (others, same) = high in inr (others, omega arith)
     ]
 
-one_size : (number : ℕ) (changes : List Change) → length (of_one number changes) ≡ length changes
-one_size number changes = length-map changes (λ (c : Change). record { revision = number; change = c })
-
 placed_size : (number : ℕ) (changes : List Change) (revisions : List (List Change))
     → length (placed_from number (changes ∷ revisions)) ≡ length changes + length (placed_from (suc number) revisions)
 placed_size number changes revisions =
-    length_append (of_one number changes) (placed_from (suc number) revisions)
-    ∙ ap (λ k. k + length (placed_from (suc number) revisions)) (one_size number changes)
+    length-append (of_one number changes) (placed_from (suc number) revisions)
+    ∙ ap (λ k. k + length (placed_from (suc number) revisions)) (one_length number changes)
 
 -- within the first revision
 part_in : (number : ℕ) (changes : List Change) (revisions : List (List Change)) (n : ℕ) → n ≤ length changes
@@ -196,7 +176,7 @@ part_in number changes revisions n fits =
       more = more;
       rest = revisions;
       parted = ap (λ (cs : List Change). cs ∷ revisions) same;
-      size = ap (λ (ps : List Placed). length ps) (append-nil (of_one number done)) ∙ (one_size number done ∙ size);
+      size = ap (λ (ps : List Placed). length ps) (append-nil (of_one number done)) ∙ (one_length number done ∙ size);
     }
 
 -- after the first revision

@@ -1,8 +1,7 @@
 -- The keys of changes: how they are listed, and how the latest change at a path is found among them.
-use Rattle.std.proofs.Common.{◌≡◌, All, ap₂, ℕ, zero, suc, ◌+◌, ◌<◌, ◌≤◌, Bool, true, false, cond, List, [], ◌∷◌, ◌++◌, length, map, filter, get_or, Option, Some, None, option_map, nat_eq, nat_lt, bytes_eq, lit<, Contains, refl, sym, ap, subst, ◌∙◌, arith, inl, inr}
+use Rattle.std.proofs.Common.{◌≡◌, All, ap₂, ℕ, zero, suc, ◌+◌, ◌<◌, ◌≤◌, Bool, true, false, cond, List, [], ◌∷◌, ◌++◌, length, map, filter, get_or, Option, Some, None, option_map, nat_eq, bytes_eq, lit<, Contains, refl, sym, ap, subst, ◌∙◌, arith, inl, inr}
 use Rattle.std.specs.Prelude.{slice_get}
 use Rattle.std.proofs.lemmas.Bool.{cases_lt, and_parts, and_from, false_from_ne_true, lt-ltb}
-use Rattle.std.proofs.lemmas.Bool.Decides.{nat_tests}
 use Rattle.std.proofs.lemmas.List.{get_or-map, length-map}
 use Rattle.std.proofs.lemmas.List.Elements.{All-get_or, Contains-append_left, Contains-append_right, Contains-append_cases}
 use Rattle.std.proofs.lemmas.List.Kept.{IsSortedBy-filter}
@@ -23,6 +22,8 @@ use Rattle.dump_index.specs.declared.order.Effect.{Effect}
 use Rattle.dump_index.specs.declared.order.Effect.TheVariants.{Any}
 use Rattle.dump_index.specs.steps.Keys.{AreFirstPlaces, IsKeyIn, PathKey, key_of, place_of, IsOrder, path_there, key_in, keys_in, key_cmp, is_key_before, IsSortedKeys, has_effect, has_effect_there, has_effect_at, has_effect_here, is_of_effect, latest_place, HasKeys}
 use Rattle.dump_index.proofs.PlaceLemmas.{latest_is, latest_none}
+use Rattle.dump_rules.proofs.ReachLemmas.{is_not_below}
+use Rattle.dump_trees.proofs.cuts.CheckedLoads.{get_some}
 
 -- the element of a list
 pub get-map : {X Y : Type 0} (f : X → Y) (xs : List X) (n : ℕ) → slice_get (map f xs) n ≡ option_map f (slice_get xs n)
@@ -35,11 +36,6 @@ get-map f (x ∷ xs) (suc n) = get-map f xs n
 pub listed_at : (changes : List NodeChange) (place : ℕ) (d : NodeChange) → place < length changes
     → slice_get (map listed_of changes) place ≡ Some (listed_of (get_or changes place d))
 listed_at changes place d low = get-map listed_of changes place ∙ ap (option_map listed_of) (slice_get-get_or changes place d low)
-
-pub listed_there : (listed : List Listed) (place : ℕ) → place < length listed → (l : Listed) × (slice_get listed place ≡ Some l)
-listed_there [] place low = absurd (omega arith)
-listed_there (l ∷ listed) zero low = (l, refl)
-listed_there (l ∷ listed) (suc place) low = listed_there listed place (omega arith)
 
 -- ---- places
 
@@ -123,7 +119,7 @@ all_keys listed places are = record {
         let text : path_there (slice_get listed place) ≡ path =
         ap (λ n. path_there (slice_get listed n)) (sym same) ∙ ap (λ (k : PathKey). k.0) key in
         let low = are.only place (i, inside, same) in
-        let there = listed_there listed place low in
+        let there = get_some listed place low in
         let own : there.0.path ≡ path = ap path_there (sym there.1) ∙ text in
         ap (has_effect_there Any path) there.1 ∙ (bytes_eq-Decides there.0.path path).1 own
 
@@ -131,9 +127,6 @@ all_keys listed places are = record {
 
 pub keys_total : IsTotalOrder key_cmp
 keys_total = then_total (on_total (λ (key : PathKey). key.0) nat_list_cmp_total) (on_total (λ (key : PathKey). key.1) nat_cmp_total)
-
-pub not_below : (m n : ℕ) → n ≤ m → nat_lt m n ≡ false
-not_below m n high = grind (arith, nat_tests)
 
 same_path : (path : List ℕ) (m n : ℕ) → key_cmp (path, m) (path, n) ≡ nat_cmp m n
 same_path path m n = ap (λ o. ordering_then o (nat_cmp m n)) (tied_itself nat_list_cmp_total path)
@@ -157,7 +150,7 @@ later_place m n is =
 
     not_less : n ≤ m → is_lt (nat_cmp m n) ≡ false
     not_less high =
-        ap (λ b. is_lt (cond b Less (cond (nat_eq m n) Equal Greater))) (not_below m n high)
+        ap (λ b. is_lt (cond b Less (cond (nat_eq m n) Equal Greater))) (is_not_below m n high)
         ∙ equal_or_more (nat_eq m n)
 
 -- comparisons whose first part is the same

@@ -21,7 +21,8 @@ use Rattle.dump_index.specs.steps.Looks.{kind_with_text, came_rest, came_there, 
 use Rattle.dump_index.proofs.KeyLemmas.{get-map}
 use Rattle.dump_index.proofs.PlaceLemmas.{latest_low}
 use Rattle.dump_index.proofs.RestLemmas.{split_some, rest_same, rest_over}
-use Rattle.dump_index.proofs.LatestLemmas.{touch_same, and_true, and_false}
+use Rattle.dump_index.proofs.LatestLemmas.{touch_same}
+use Rattle.std.proofs.Math.Bool.{and-false, and-true, or-true}
 
 -- what remains after properties and a text are set
 
@@ -62,10 +63,6 @@ with_both true false kind = refl
 with_both true true None = refl
 with_both true true (Some Directory) = refl
 with_both true true (Some File) = refl
-
-or_true : (b : Bool) → (b || true) ≡ true
-or_true true = refl
-or_true false = refl
 
 -- one more change
 
@@ -175,14 +172,14 @@ module _ (listed : List Listed) (back : LooksBack (all_placed listed)) (path : L
         fresh t is_t =
             set_kind l (looked_up (look root_alone (all_placed listed)) (all_placed listed) n (names_of path)
             (origin_of l.deletes l.made []))
-            ∙ ap₂ kind_with_text (is_t ∙ sym (and_true t)) (came_by l at [] (rest_same l.path path same))
+            ∙ ap₂ kind_with_text (is_t ∙ sym (and-true t)) (came_by l at [] (rest_same l.path path same))
 
         stays : l.deletes ≡ false → l.made ≡ None → (t : Bool) → sets l.text ≡ t
             → kind_left n l (Some []) ≡ kind_with_text (t && true) (kind_look listed n (names_of path))
         stays none nothing t is_t =
             set_kind l (looked_up (look root_alone (all_placed listed)) (all_placed listed) n (names_of path)
             (origin_of l.deletes l.made []))
-            ∙ ap₂ kind_with_text (is_t ∙ sym (and_true t))
+            ∙ ap₂ kind_with_text (is_t ∙ sym (and-true t))
             (ap₂ (λ d m. option_map node_kind (looked_up (look root_alone (all_placed listed)) (all_placed listed) n (names_of path)
             (origin_of d m []))) none nothing)
 
@@ -209,17 +206,17 @@ module _ (listed : List Listed) (back : LooksBack (all_placed listed)) (path : L
         → Next (cond (((a && false) || ((p && false) || (t && false))) || (m && true))
         (kind_left n l (Some rest)) (kind_look listed n (names_of path))) ((a && false) || (m && true)) (t && false)
     further l at rest is name names some a p t true is_m =
-        taken _ _ (t && false) (kind_left n l (Some rest)) (or_true _) (or_true (a && false))
+        taken _ _ (t && false) (kind_left n l (Some rest)) (or-true _) (or-true (a && false))
         (ap (λ (r : NodePath). kind_left n l (Some r)) some
         ∙ sym (ap (λ (r : NodePath). option_map node_kind (looked_up (look root_alone (all_placed listed)) (all_placed listed) n
         (names_of path) (origin_of l.deletes l.made r))) some)
-        ∙ came_by l at rest is ∙ sym (ap (λ b. kind_with_text b (came listed path (Some n))) (and_false t)))
+        ∙ came_by l at rest is ∙ sym (ap (λ b. kind_with_text b (came listed path (Some n))) (and-false t)))
     further l at rest is name names some a p t false is_m =
-        left _ _ (t && false) (kind_left n l (Some rest)) (none_of a p t) (ap (λ b. b || false) (and_false a)) (and_false t)
+        left _ _ (t && false) (kind_left n l (Some rest)) (none_of a p t) (ap (λ b. b || false) (and-false a)) (and-false t)
       where
         none_of : (a p t : Bool) → (((a && false) || ((p && false) || (t && false))) || false) ≡ false
         none_of a p t =
-            ap₂ (λ x y. (x || y) || false) (and_false a) (ap₂ (λ x y. x || y) (and_false p) (and_false t))
+            ap₂ (λ x y. (x || y) || false) (and-false a) (ap₂ (λ x y. x || y) (and-false p) (and-false t))
 
     -- the change is elsewhere
     nowhere : (l : Listed) (rest : Option NodePath) (a p t m : Bool)
@@ -227,8 +224,8 @@ module _ (listed : List Listed) (back : LooksBack (all_placed listed)) (path : L
         (kind_left n l rest) (kind_look listed n (names_of path))) ((a && false) || (m && false)) (t && false)
     nowhere l rest a p t m =
         left _ _ (t && false) (kind_left n l rest)
-        (ap₂ (λ x y. x || y) (ap₂ (λ x y. x || y) (and_false a) (ap₂ (λ x y. x || y) (and_false p) (and_false t))) (and_false m))
-        (ap₂ (λ x y. x || y) (and_false a) (and_false m)) (and_false t)
+        (ap₂ (λ x y. x || y) (ap₂ (λ x y. x || y) (and-false a) (ap₂ (λ x y. x || y) (and-false p) (and-false t))) (and-false m))
+        (ap₂ (λ x y. x || y) (and-false a) (and-false m)) (and-false t)
 
     step_some : (l : Listed) → slice_get listed n ≡ Some l
         → Next (kind_step n (Some l)) (shaped_by (Some l)) (has_effect_there Texts path (Some l))

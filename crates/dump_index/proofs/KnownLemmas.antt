@@ -29,8 +29,10 @@ use Rattle.dump_index.proofs.KeyLemmas.{listed_at}
 use Rattle.dump_index.proofs.OrderLemmas.{all_look_back, from_before_at}
 use Rattle.dump_index.proofs.PlaceLemmas.{latest_low}
 use Rattle.dump_index.proofs.RestLemmas.{rest_same}
-use Rattle.dump_index.proofs.LatestLemmas.{touch_same, and_false}
+use Rattle.dump_index.proofs.LatestLemmas.{touch_same}
 use Rattle.dump_index.proofs.KindLemmas.{set_kind, kind_left, kind_step, kind_next, kinds}
+use Rattle.std.proofs.Math.Bool.{and-false}
+use Rattle.dump_trees.proofs.histories.KeptNumbers.{get_pushed}
 
 -- ---- after the latest change
 
@@ -199,13 +201,13 @@ module _ (listed : List Listed) (back : LooksBack (all_placed listed)) (n : ℕ)
       not_same [] path less = absurd (omega arith)
       not_same (b ∷ text) [] less = refl
       not_same (b ∷ text) (c ∷ path) less =
-          ap (λ r. nat_eq b c && r) (not_same text path (omega arith)) ∙ and_false (nat_eq b c)
+          ap (λ r. nat_eq b c && r) (not_same text path (omega arith)) ∙ and-false (nat_eq b c)
 
       no_further : (text path : List ℕ) → length path < length text → goes_on text path ≡ false
       no_further [] path less = absurd (omega arith)
       no_further (b ∷ text) [] less = refl
       no_further (b ∷ text) (c ∷ path) less =
-          ap (λ r. nat_eq b c && r) (no_further text path (omega arith)) ∙ and_false (nat_eq b c)
+          ap (λ r. nat_eq b c && r) (no_further text path (omega arith)) ∙ and-false (nat_eq b c)
 
       not_over : (text path : List ℕ) → length path < length text → stands_over path text ≡ false
       not_over [] path less = absurd (omega arith)
@@ -213,7 +215,7 @@ module _ (listed : List Listed) (back : LooksBack (all_placed listed)) (n : ℕ)
 
       none : (a p t m : Bool) → (((a && false) || ((p && false) || (t && false))) || (m && false)) ≡ false
       none a p t m =
-          ap₂ (λ x y. x || y) (ap₂ (λ x y. x || y) (and_false a) (ap₂ (λ x y. x || y) (and_false p) (and_false t))) (and_false m)
+          ap₂ (λ x y. x || y) (ap₂ (λ x y. x || y) (and-false a) (ap₂ (λ x y. x || y) (and-false p) (and-false t))) (and-false m)
 
 -- ---- the same for the values of the code
 
@@ -255,26 +257,12 @@ module _ (changes : List NodeChange) (ordered : are_in_order 0 changes ≡ true)
 
 -- ---- one kind after another
 
-pub known_none : (listed : List Listed) → AreKindsBehind listed []
-known_none listed place kind l known there = absurd (let bad : None ≡ Some kind = known in cc)
-
-get_more : {X : Type 0} (xs : List X) (x : X) (n : ℕ) (found : X) → slice_get (xs ++ x ∷ []) n ≡ Some found
-    → (slice_get xs n ≡ Some found) ⊎ ((n ≡ length xs) × (x ≡ found))
-get_more [] x zero found is = let both : Some x ≡ Some found = is in inr (refl, cc)
-get_more [] x (suc n) found is = absurd (let bad : None ≡ Some found = is in cc)
-get_more (y ∷ xs) x zero found is = inl is
-get_more (y ∷ xs) x (suc n) found is =
-    elim (get_more xs x n found is) [
-      | inl before ↦ inl before
-      | inr last ↦ inr (ap suc last.0, last.1)
-    ]
-
 pub known_more : (listed : List Listed) (known : List (Option NodeKind)) (kind : Option NodeKind) → AreKindsBehind listed known
     → ((l : Listed) → slice_get listed (length known) ≡ Some l
     → kind ≡ kind_look listed (suc (length known)) (names_of l.path))
     → AreKindsBehind listed (known ++ kind ∷ [])
 known_more listed known kind behind next place found l there at =
-    elim (get_more known kind place found there) [
+    elim (get_pushed known kind place found there) [
       | inl before ↦ behind place found l before at
       | inr last ↦
           sym last.1 ∙ next l (ap (slice_get listed) (sym last.0) ∙ at)

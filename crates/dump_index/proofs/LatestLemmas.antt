@@ -13,6 +13,7 @@ use Rattle.dump_index.specs.steps.Touching.{stands_over, moves_there, touches_at
 use Rattle.dump_index.proofs.KeyLemmas.{get-map}
 use Rattle.dump_index.proofs.PlaceLemmas.{latest_same}
 use Rattle.dump_index.proofs.RestLemmas.{split_some, rest_same, rest_over, rest_none}
+use Rattle.std.proofs.Math.Bool.{and-false, and-true}
 
 sets_props : (s : Setting) → is_some (plain_props s) ≡ sets s
 sets_props Keeps = refl
@@ -38,20 +39,12 @@ own_touch false None true t over = refl
 own_touch false None false true over = refl
 own_touch false None false false over = refl
 
-pub and_false : (b : Bool) → (b && false) ≡ false
-and_false true = refl
-and_false false = refl
-
-pub and_true : (b : Bool) → (b && true) ≡ b
-and_true true = refl
-and_true false = refl
-
 -- the change is at a path above, or elsewhere
 other_touch : (a p t m over : Bool) → (((a && false) || ((p && false) || (t && false))) || (m && over)) ≡ (m && over)
 other_touch a p t m over =
-    ap (λ x. (x || ((p && false) || (t && false))) || (m && over)) (and_false a)
-    ∙ ap (λ x. (x || (t && false)) || (m && over)) (and_false p)
-    ∙ ap (λ x. x || (m && over)) (and_false t)
+    ap (λ x. (x || ((p && false) || (t && false))) || (m && over)) (and-false a)
+    ∙ ap (λ x. (x || (t && false)) || (m && over)) (and-false p)
+    ∙ ap (λ x. x || (m && over)) (and-false t)
 
 abbrev pub touches_there : List ℕ → Listed → Bool
 touches_there path l =
@@ -72,11 +65,11 @@ touch_same path l = cases (bytes_eq l.path path) (stands_over path l.path) refl 
     cases false true isnt over =
         let some = split_some (rest_text l.path path) in
         ap (λ o. touches_rest o (placed_of l).change) (rest_over l.path path isnt over ∙ ap (λ (ns : NodePath). Some ns) some.2)
-        ∙ sym (and_true (has_effect Moving l))
+        ∙ sym (and-true (has_effect Moving l))
         ∙ sym (other_touch (has_effect Shaping l) (sets l.props) (sets l.text) (has_effect Moving l) true)
     cases false false isnt off =
         ap (λ o. touches_rest o (placed_of l).change) (rest_none l.path path isnt off)
-        ∙ sym (and_false (has_effect Moving l))
+        ∙ sym (and-false (has_effect Moving l))
         ∙ sym (other_touch (has_effect Shaping l) (sets l.props) (sets l.text) (has_effect Moving l) false)
 
 -- a test of changes as a test of their places

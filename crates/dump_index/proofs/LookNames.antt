@@ -25,12 +25,9 @@ use Rattle.dump_index.proofs.RestLemmas.{split_some, rest_same}
 use Rattle.dump_index.proofs.LatestLemmas.{touch_same, touches_there}
 use Rattle.dump_index.proofs.OriginLemmas.{decides, IsMade, as_made, rest_is, there}
 use Rattle.dump_index.proofs.PartLemmas.{shaped_there, unshaped, and_no}
+use Rattle.std.proofs.Math.Bool.{or_assoc}
 
 -- ---- tests
-
-pub or_assoc : (a b c : Bool) → ((a || b) || c) ≡ (a || (b || c))
-or_assoc true b c = refl
-or_assoc false b c = refl
 
 or_twice : (a b c : Bool) → ((a || b) || (b || c)) ≡ ((a || b) || c)
 or_twice true b c = refl
@@ -250,7 +247,3 @@ pub none_next : (listed : List Listed) (o : Origin)
 none_next listed Nowhere other = refl
 none_next listed (New kind) other = refl
 none_next listed (Copied source rest) other = absurd (other source rest refl)
-
-pub or_none : (b : Bool) → (b || false) ≡ b
-or_none true = refl
-or_none false = refl

@@ -1,5 +1,5 @@
 -- The names of what changes make right below a path.
-use Rattle.std.proofs.Common.{◌≡◌, ℕ, zero, suc, ◌+◌, ◌<◌, ◌≤◌, Bool, true, false, not, ◌&&◌, ◌||◌, cond, List, [], ◌∷◌, ◌++◌, length, take, drop, get_or, Option, Some, None, is_some, option_map, nat_eq, nat_lt, bytes_eq, append_assoc, refl, sym, ap, ap₂, subst, ◌∙◌, arith, inl, inr}
+use Rattle.std.proofs.Common.{◌≡◌, ℕ, zero, suc, ◌+◌, ◌<◌, ◌≤◌, Bool, true, false, not, ◌&&◌, ◌||◌, cond, List, [], ◌∷◌, ◌++◌, length, take, drop, Option, Some, None, is_some, option_map, nat_eq, nat_lt, bytes_eq, append_assoc, refl, sym, ap, ap₂, ◌∙◌, arith, inl, inr}
 use Rattle.std.specs.Prelude.{slice_get}
 use Rattle.std.specs.List.{list_all, list_any, onto_first, Contains}
 use Rattle.std.specs.Cmp.{both_ways}
@@ -23,9 +23,10 @@ use Rattle.dump_index.specs.steps.Below.{top_text, NoneBelow, HasChild}
 use Rattle.dump_index.specs.steps.Names.{makes_there, makes_at, makes_key}
 use Rattle.dump_index.proofs.KeyLemmas.{get-map}
 use Rattle.dump_index.proofs.RestLemmas.{split, split_some, rest_same, rest_over, rest_none}
-use Rattle.dump_index.proofs.SlashLemmas.{split_join, rest_some}
-use Rattle.dump_index.proofs.BelowLemmas.{same_behind}
+use Rattle.dump_index.proofs.SlashLemmas.{rest_some}
 use Rattle.dump_index.proofs.WalkLemmas.{get_inside}
+use Rattle.dump_trees.proofs.paths.CanonicalLemmas.{split_joined}
+use Rattle.dump_trees.proofs.paths.PrefixRests.{same_rest}
 
 -- ---- names and texts
 
@@ -107,7 +108,7 @@ pub names_right_below : (dir name : List ℕ) → is_name name ≡ true → name
 names_right_below [] name is = names_of_name name is
 names_right_below (b ∷ dir) name is =
     ap (λ (t : List ℕ). names_of t) (append_assoc (b ∷ dir) (47 ∷ []) name)
-    ∙ split_join (b ∷ dir) name
+    ∙ split_joined (b ∷ dir) name
     ∙ ap (λ (ns : NodePath). split (b ∷ dir) ++ ns)
     (one_name name (and_parts (nat_lt 0 (length name)) (no_slash name) is).1)
 
@@ -279,7 +280,7 @@ bytes_behind top one two = both_ways _ _ up down
   where
     up : bytes_eq (top ++ one) (top ++ two) ≡ true → bytes_eq one two ≡ true
     up same =
-        (bytes_eq-Decides one two).1 (same_behind top one two ((bytes_eq-Decides (top ++ one) (top ++ two)).0 same))
+        (bytes_eq-Decides one two).1 (same_rest top one two ((bytes_eq-Decides (top ++ one) (top ++ two)).0 same))
 
     down : bytes_eq one two ≡ true → bytes_eq (top ++ one) (top ++ two) ≡ true
     down same =

@@ -46,8 +46,3 @@ out_of_order changes least (c ∷ behind) d some so_far ordered = (
   ap (are_in_order 0) (sym (append-nil so_far.before)) ∙ so_far.goes_on [],
   so_far.goes_on (c ∷ []) ∙ ap (λ b. b && true) ordered,
 )
-
-pub all_ordered : (changes : List NodeChange) (least : ℕ) (left : List NodeChange) → length left ≡ 0
-    → OrderedSoFar changes least left → are_in_order 0 changes ≡ true
-all_ordered changes least [] none so_far = ap (are_in_order 0) so_far.whole ∙ so_far.goes_on []
-all_ordered changes least (c ∷ left) none so_far = absurd (omega arith)

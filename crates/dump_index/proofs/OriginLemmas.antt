@@ -17,17 +17,17 @@ use Rattle.dump_index.specs.declared.change.NodeKind.TheVariants.{Directory as A
 use Rattle.dump_index.specs.declared.change.Source.{Source}
 use Rattle.dump_index.specs.declared.change.NodeMade.{NodeMade}
 use Rattle.dump_index.specs.declared.change.NodeMade.TheVariants.{Directory, File, CopyOf}
-use Rattle.dump_index.specs.declared.order.Effect.TheVariants.{Shaping, Moving, Texts}
+use Rattle.dump_index.specs.declared.order.Effect.TheVariants.{Shaping, Moving}
 use Rattle.dump_index.specs.declared.origin.Origin.{Origin}
 use Rattle.dump_index.specs.declared.origin.Origin.TheVariants.{Nowhere, New, Copied}
-use Rattle.dump_index.specs.steps.Keys.{has_effect, has_effect_there, has_effect_at, latest_place}
+use Rattle.dump_index.specs.steps.Keys.{has_effect, has_effect_there}
 use Rattle.dump_index.specs.steps.Touching.{stands_over, moves_there, shapes, rest_text, joined_text}
-use Rattle.dump_index.specs.steps.Looks.{came_rest, came_there, came, origin_kind, made_as, makes_none, IsMadeBy, GoesBack, kind_with_text, is_since}
+use Rattle.dump_index.specs.steps.Looks.{came_rest, came_there, came, origin_kind, made_as, makes_none, IsMadeBy, GoesBack}
 use Rattle.dump_index.proofs.KeyLemmas.{listed_at, get-map}
-use Rattle.dump_index.proofs.KindLemmas.{with_both}
 use Rattle.dump_index.proofs.RestLemmas.{split, split_some, rest_same, rest_over}
 use Rattle.dump_index.proofs.SlashLemmas.{ends_rest, ends_joined, rest_some, rest_none_same}
 use Rattle.dump_index.proofs.OrderLemmas.{all_look_back, from_before_at}
+use Rattle.std.proofs.Math.Bool.{and-false}
 
 -- whether a change that makes this, and deletes or doesn't, decides what exists at the rest of a path
 abbrev pub decides : Bool → Option NodeMade → List ℕ → Bool
@@ -129,10 +129,6 @@ module _ (changes : List NodeChange) (ordered : are_in_order 0 changes ≡ true)
       and_yes true is = refl
       and_yes false is = is
 
-      and_no : (b : Bool) → (b && false) ≡ false
-      and_no true = refl
-      and_no false = refl
-
       own : (deletes : Bool) (made : Option NodeMade) (over : Bool)
           → (((deletes || is_some (option_map listed_made made)) && true) || ((deletes || is_copied (option_map listed_made made)) && over)) ≡ true
           → (deletes || is_some (option_map listed_made made)) ≡ true
@@ -162,11 +158,11 @@ module _ (changes : List NodeChange) (ordered : are_in_order 0 changes ≡ true)
           let moves : ((has_effect Shaping (listed_of c) && false) || (has_effect Moving (listed_of c) && true)) ≡ true = is in (
             rest_over c.path.now path isnt over_is ∙ ap (λ (ns : NodePath). Some ns) its.0,
             its.1 ∙ and_yes (has_effect Moving (listed_of c))
-                (sym (ap (λ b. b || (has_effect Moving (listed_of c) && true)) (and_no (has_effect Shaping (listed_of c)))) ∙ moves),
+                (sym (ap (λ b. b || (has_effect Moving (listed_of c) && true)) (and-false (has_effect Shaping (listed_of c)))) ∙ moves),
           )
       cases false false isnt off is =
-          absurd (let bad : false ≡ true = sym (ap₂ (λ a b. a || b) (and_no (has_effect Shaping (listed_of c)))
-          (and_no (has_effect Moving (listed_of c)))) ∙ is in cc)
+          absurd (let bad : false ≡ true = sym (ap₂ (λ a b. a || b) (and-false (has_effect Shaping (listed_of c)))
+          (and-false (has_effect Moving (listed_of c)))) ∙ is in cc)
 
   pub as_made : (o : Origin) → IsMadeBy c path o → IsMade c.made (rest_text c.path.now path) o
   as_made Nowhere its = its
@@ -205,19 +201,3 @@ pub hops_back : (listed : List Listed) (shaped : Option ℕ) (source : Source) (
     × (ends_in_slash (joined_text source.path.now rest.now) ≡ false)
 hops_back listed None source rest back = absurd back
 hops_back listed (Some place) source rest back = (place, refl, back.0, back.1)
-
-pub hop : (listed : List Listed) (path one two three : List ℕ) → one ≡ path → two ≡ path → three ≡ path
-    → (before : ℕ) (shaped : Option ℕ) (since has_text : Bool) (next whole : Option NodeKind)
-    → kind_look listed before (names_of one)
-    ≡ kind_with_text (is_since shaped (latest_place (has_effect_at Texts listed one) before)) (came listed one shaped)
-    → since ≡ is_since shaped (latest_place (has_effect_at Texts listed two) before)
-    → next ≡ came listed three shaped
-    → whole ≡ kind_with_text has_text (kind_look listed before (names_of path)) → whole ≡ kind_with_text (has_text || since) next
-hop listed path one two three is_one is_two is_three before shaped since has_text next whole looks is_since is_next same =
-    same
-    ∙ ap (kind_with_text has_text) (ap (λ (text : List ℕ). kind_look listed before (names_of text)) (sym is_one) ∙ looks
-    ∙ ap₂ kind_with_text
-    (ap (λ (text : List ℕ). Rattle.dump_index.specs.steps.Looks.is_since shaped (latest_place (has_effect_at Texts listed text) before))
-    (is_one ∙ sym is_two) ∙ sym is_since)
-    (ap (λ (text : List ℕ). came listed text shaped) (is_one ∙ sym is_three) ∙ sym is_next))
-    ∙ with_both has_text since next

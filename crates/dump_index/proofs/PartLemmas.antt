@@ -1,5 +1,5 @@
 -- The changes of a trail make the part of the node that exists at the path.
-use Rattle.std.proofs.Common.{◌≡◌, ℕ, zero, suc, ◌+◌, ◌<◌, ◌≤◌, Bool, true, false, ◌&&◌, ◌||◌, cond, List, [], ◌∷◌, ◌++◌, length, map, Option, Some, None, is_some, option_map, option_and_then, bytes_eq, append-nil, refl, sym, ap, ap₂, subst, ◌∙◌, arith, inl, inr}
+use Rattle.std.proofs.Common.{◌≡◌, ℕ, zero, suc, ◌+◌, ◌<◌, ◌≤◌, Bool, true, false, ◌&&◌, ◌||◌, cond, List, [], ◌∷◌, ◌++◌, map, Option, Some, None, is_some, option_map, option_and_then, bytes_eq, append-nil, refl, sym, ap, ap₂, subst, ◌∙◌, inl, inr}
 use Rattle.std.specs.Prelude.{slice_get}
 use Rattle.std.specs.List.{AllZip}
 use Rattle.std.proofs.lemmas.Bool.{and_parts, or_cases, or_parts, or_left, or_right}
@@ -24,6 +24,8 @@ use Rattle.dump_index.proofs.RestLemmas.{split_some, rest_same, rest_over}
 use Rattle.dump_index.proofs.LatestLemmas.{touch_same, touches_there}
 use Rattle.dump_index.proofs.OrderLemmas.{all_look_back}
 use Rattle.dump_index.proofs.LawLemmas.{look_one_more, end_same, Both, Neither, One, both_at, back_same, touch_listed, none_set}
+use Rattle.std.proofs.Math.Bool.{and-false}
+use Rattle.dump_trees.proofs.changes.TreeLemmas.{none_of}
 
 -- ---- tests
 
@@ -36,10 +38,6 @@ pub record SetsOther (part : Part) (path : List ℕ) (l : Listed) : Type 0 where
 
 abbrev pub shaped_there : List ℕ → Option Listed → Bool
 shaped_there path o = has_effect_there Shaping path o || moves_there (stands_over path) o
-
-none_made : (made : Option Made) → is_some made ≡ false → made ≡ None
-none_made None is = refl
-none_made (Some made) is = let bad : true ≡ false = is in absurd (cc)
 
 and_yes : (b : Bool) → (b && true) ≡ false → b ≡ false
 and_yes true is = is
@@ -61,7 +59,7 @@ unshaped path l same isnt =
     let parts = or_parts (has_effect Shaping l && bytes_eq l.path path) (has_effect Moving l && stands_over path l.path) isnt in
     let shaping = and_yes (has_effect Shaping l) (ap (λ b. has_effect Shaping l && b) (sym same) ∙ parts.0) in
     let both = or_parts l.deletes (is_some l.made) shaping in
-    (both.0, none_made l.made both.1)
+    (both.0, none_of l.made both.1)
 
 pub sets_other : (part : Part) (path : List ℕ) (l : Listed) → shaped_there path (Some l) ≡ false
     → sets_there part path (Some l) ≡ false → touches_there path l ≡ true → SetsOther part path l
@@ -298,10 +296,6 @@ module _ (V : Type 0) (part : Part) (val : Node → V) (none : V) (by : Change �
     moves_nowhere true false is = let bad : false ≡ true = is in absurd (cc)
     moves_nowhere false false is = let bad : false ≡ true = is in absurd (cc)
 
-    and_none : (b : Bool) → (b && false) ≡ false
-    and_none true = refl
-    and_none false = refl
-
     trail_makes : (count : ℕ) (path trail : List ℕ) (node : Node) → IsTrail part listed count path trail
         → look root_alone placed count (names_of path) ≡ Some node → after trail ≡ Some (val node)
     trail_makes _ _ _ node (Unset count path last) found =
@@ -419,7 +413,7 @@ module _ (V : Type 0) (part : Part) (val : Node → V) (none : V) (by : Change �
                 let its_rest : below (names_of k.path) (names_of path) ≡ Some (behind.0 ∷ behind.1)
                 = rest_over k.path path other_path over_is ∙ ap (λ (ns : NodePath). Some ns) behind.2 in
                 ap (λ b. after (own_place b place ++ trail)) (ap (sets_there part path) one
-                ∙ ap (λ b. sets (setting_of part k) && b) other_path ∙ and_none (sets (setting_of part k)))
+                ∙ ap (λ b. sets (setting_of part k) && b) other_path ∙ and-false (sets (setting_of part k)))
                 ∙ before r.0 (copied (behind.0 ∷ behind.1) its_rest r.0
                 (over_left k p path place r.0 two is r.1 touch behind.0 behind.1 its_rest))
                 ∙ ap (λ v. Some v) r.2

@@ -1,5 +1,5 @@
 -- If a history loads, it loads without what its changes set too, and its trees have nodes of the same kinds.
-use Rattle.std.proofs.Common.{◌≡◌, ℕ, zero, suc, ◌+◌, ◌<◌, ◌≤◌, Bool, true, false, ◌&&◌, ◌||◌, cond, List, [], ◌∷◌, ◌++◌, length, map, Option, Some, None, is_some, option_map, option_and_then, bytes_eq, refl, sym, ap, ap₂, subst, ◌∙◌, arith}
+use Rattle.std.proofs.Common.{◌≡◌, ℕ, zero, suc, ◌+◌, ◌<◌, ◌≤◌, Bool, true, false, ◌&&◌, ◌||◌, cond, List, [], ◌∷◌, ◌++◌, map, Option, Some, None, is_some, option_map, option_and_then, bytes_eq, refl, sym, ap, ap₂, subst, ◌∙◌}
 use Rattle.std.specs.Prelude.{slice_get, is_none}
 use Rattle.std.specs.List.{AllZip}
 use Rattle.std.proofs.lemmas.List.{map-append}
@@ -24,6 +24,8 @@ use Rattle.dump_index.specs.declared.change.NodeKind.TheVariants.{Directory as A
 use Rattle.dump_index.specs.declared.change.Setting.{Setting}
 use Rattle.dump_index.specs.declared.change.Setting.TheVariants.{Keeps, Replaces, Edits, EditsNothing}
 use Rattle.dump_index.proofs.LawLemmas.{end_same}
+use Rattle.std.proofs.lemmas.Option.{cond_some}
+use Rattle.std.proofs.Math.Bool.{and-false}
 
 -- ---- changes without what they set
 
@@ -90,10 +92,6 @@ same_directory one two same path = cases (parent_of path)
     cases None = refl
     cases (Some parent) = directory_is (one parent) ∙ ap directory_kind (same parent) ∙ sym (directory_is (two parent))
 
-cond_parts : (b : Bool) (one two : Tree) → cond b (Some one) None ≡ Some two → (b ≡ true) × (one ≡ two)
-cond_parts true one two is = (refl, ap (λ o. Rattle.std.proofs.Common.unwrap_or o one) is)
-cond_parts false one two is = absurd (let bad : None ≡ Some two = is in cc)
-
 same_graft : (top : NodePath) (one two new other : Tree) → AreSame one two → AreSame new other
     → AreSame (grafted top new one) (grafted top other two)
 same_graft top one two new other same news path = cases (below top path)
@@ -139,7 +137,7 @@ deleted_same : (deletes : Bool) (top : NodePath) (one two after : Tree) → AreS
 deleted_same false top one two after same is =
     (two, refl, subst (λ (t : Tree). AreSame t two) (ap (λ o. Rattle.std.proofs.Common.unwrap_or o one) is) same)
 deleted_same true top one two after same is =
-    let parts = cond_parts (is_some (parent_of top) && is_some (one top)) (grafted top empty_tree one) after is in (
+    let parts = cond_some (is_some (parent_of top) && is_some (one top)) (grafted top empty_tree one) after is in (
       grafted top empty_tree two,
       ap (λ b. cond b (Some (grafted top empty_tree two)) None)
           (ap (λ b. is_some (parent_of top) && b) (sym (same_some one two same top)) ∙ parts.0),
@@ -150,7 +148,7 @@ deleted_same true top one two after same is =
 put_same : (node : Node) (top : NodePath) (one two after : Tree) → AreSame one two → node_put node top one ≡ Some after
     → SameAfter (node_put node top two) after
 put_same node top one two after same is =
-    let parts = cond_parts (is_none (one top) && has_directory one top) (put top node one) after is in (
+    let parts = cond_some (is_none (one top) && has_directory one top) (put top node one) after is in (
       put top node two,
       ap (λ b. cond b (Some (put top node two)) None)
           (ap₂ (λ a b. a && b) (sym (same_none one two same top)) (sym (same_directory one two same top)) ∙ parts.0),
@@ -163,7 +161,7 @@ SameHistory one two = (number : ℕ) (tree : Tree) → one number ≡ Some tree 
 copied_same : (source top : NodePath) (one two old other after : Tree) → AreSame one two → AreSame old other
     → copied source top one old ≡ Some after → SameAfter (copied source top two other) after
 copied_same source top one two old other after same olds is =
-    let parts = cond_parts (is_some (old source) && has_directory one top) (grafted top (λ rest. old (source ++ rest)) one) after is in (
+    let parts = cond_some (is_some (old source) && has_directory one top) (grafted top (λ rest. old (source ++ rest)) one) after is in (
       grafted top (λ rest. other (source ++ rest)) two,
       ap (λ b. cond b (Some (grafted top (λ rest. other (source ++ rest)) two)) None)
           (ap₂ (λ a b. a && b) (sym (same_some old other olds source)) (sym (same_directory one two same top)) ∙ parts.0),
@@ -454,4 +452,4 @@ children_of_trees changes revisions trees number tree path names name ordered al
         → (is_child_named (names_look (all_placed (map listed_of changes)) (end_of (placed_from 1 revisions) number) path) name && b) ≡ b
     cases true some =
         ap (λ c. c && true) (names_of_trees changes revisions trees number tree path name ordered all loads at some)
-    cases false none = Rattle.dump_index.proofs.LatestLemmas.and_false _
+    cases false none = and-false _

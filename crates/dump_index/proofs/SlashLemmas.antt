@@ -1,11 +1,10 @@
 -- Texts that end in a slash or don't, and texts of paths below others.
-use Rattle.std.proofs.Common.{◌≡◌, ℕ, zero, suc, Bool, true, false, cond, List, [], ◌∷◌, ◌++◌, length, drop, nat_eq, bytes_eq, append-nil, refl, sym, ap, ◌∙◌, ◌≢◌}
+use Rattle.std.proofs.Common.{◌≡◌, ℕ, zero, suc, Bool, true, false, List, [], ◌∷◌, ◌++◌, length, drop, nat_eq, bytes_eq, append-nil, refl, sym, ◌∙◌, ◌≢◌}
 use Rattle.std.proofs.lemmas.Bool.{and_parts}
-use Rattle.std.specs.List.{onto_first}
-use Rattle.dump_trees.specs.Paths.{NodePath, names_of}
+use Rattle.dump_trees.specs.Paths.{names_of}
 use Rattle.dump_index.specs.InOrder.{ends_in_slash}
 use Rattle.dump_index.specs.steps.Touching.{goes_on, stands_over, rest_text, joined_text}
-use Rattle.dump_index.proofs.RestLemmas.{split, split_some}
+use Rattle.dump_trees.proofs.paths.CanonicalLemmas.{split_joined}
 
 -- whether the last byte is a slash; if there is none, this
 abbrev pub ends_from : Bool → List ℕ → Bool
@@ -76,30 +75,7 @@ rest_none_same [] (c ∷ path) is = absurd (let bad : false ≡ true = is in cc)
 rest_none_same (b ∷ top) path is = drop_suc (length (b ∷ top)) path (drop_same (b ∷ top) path is)
 
 -- the names of a path below another one
-onto_append : (b : ℕ) (name : List ℕ) (names others : NodePath)
-    → onto_first b ((name ∷ names) ++ others) ≡ onto_first b (name ∷ names) ++ others
-onto_append b name names others = refl
-
-pub split_join : (top rest : List ℕ) → split (top ++ 47 ∷ rest) ≡ split top ++ split rest
-split_join [] rest = refl
-split_join (b ∷ top) rest = cases (split_join top rest) (nat_eq b 47)
-  where
-    onto : (names : NodePath) (name : List ℕ) (others : NodePath) → names ≡ name ∷ others
-        → onto_first b (names ++ split rest) ≡ onto_first b names ++ split rest
-    onto names name others is =
-        ap (λ (ns : NodePath). onto_first b (ns ++ split rest)) is
-        ∙ onto_append b name others (split rest)
-        ∙ sym (ap (λ (ns : NodePath). onto_first b ns ++ split rest) is)
-
-    cases : split (top ++ 47 ∷ rest) ≡ split top ++ split rest → (t : Bool)
-        → cond t ([] ∷ split (top ++ 47 ∷ rest)) (onto_first b (split (top ++ 47 ∷ rest)))
-        ≡ cond t ([] ∷ split top) (onto_first b (split top)) ++ split rest
-    cases further true = ap (λ (ns : NodePath). [] ∷ ns) further
-    cases further false =
-        let some = split_some top in
-        ap (onto_first b) further ∙ onto (split top) some.0 some.1 some.2
-
 pub names_joined : (top rest : List ℕ) → names_of (joined_text top rest) ≡ names_of top ++ names_of rest
 names_joined top [] = sym (append-nil (names_of top))
 names_joined [] (b ∷ rest) = refl
-names_joined (b ∷ top) (c ∷ rest) = split_join (b ∷ top) (c ∷ rest)
+names_joined (b ∷ top) (c ∷ rest) = split_joined (b ∷ top) (c ∷ rest)

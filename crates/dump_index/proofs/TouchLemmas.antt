@@ -6,6 +6,7 @@ use Rattle.dump_index.specs.declared.order.Effect.TheVariants.{Moving}
 use Rattle.dump_index.specs.steps.Keys.{has_effect, has_effect_there, has_effect_at}
 use Rattle.dump_index.specs.steps.Touching.{stands_over, stands_over_within, moves_there, moves_above, moves_within}
 use Rattle.dump_index.proofs.FrontLemmas.{over_more, over_same, over_none, over_all}
+use Rattle.std.proofs.Math.Bool.{or_assoc}
 
 -- tests that agree
 moves_same : (one two : List ℕ → Bool) → ((top : List ℕ) → one top ≡ two top) → (o : Option Listed)
@@ -22,10 +23,6 @@ moves_or : (test : List ℕ → Bool) (path : List ℕ) (o : Option Listed)
     → (moves_there test o || has_effect_there Moving path o) ≡ moves_there (λ top. test top || bytes_eq top path) o
 moves_or test path None = refl
 moves_or test path (Some l) = and_or (has_effect Moving l) (test l.path) (bytes_eq l.path path)
-
-or_assoc : (a b c : Bool) → ((a || b) || c) ≡ (a || (b || c))
-or_assoc true b c = refl
-or_assoc false b c = refl
 
 module _ (listed : List Listed) (path : List ℕ) (test : ℕ → Bool) where
   pub within_none : (place : ℕ)

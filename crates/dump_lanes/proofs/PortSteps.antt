@@ -1,6 +1,6 @@
 -- What a port has put or taken after a call.
-use Rattle.dump_lanes.proofs.Prelude.{◌≡◌, ◌≢◌, ◌+◌, ◌<◌, ◌==◌, ℕ, Bool, true, false, true≢false, cond, List, [], ◌∷◌, ◌++◌, map, replicate, sym, ap, ◌∙◌, subst, Option, Some, None, IfSome, IfNone, option_to_list, arith, Note, Mark, Item, End, Step, View, give_step, arrive_step, after_ends, after_job, after_put, after_take, AreItemsThen, mark_if, count_ends, marks_in, EndsLast, IsCutting, IsWorking, IsGiving, IsSequencing, HasRead, Thread, steps_of, PoolName, CutterSide, WorkerSide, SequencerSide, DoneStep}
-use Rattle.std.proofs.Common.{eq-eqb, ne_eqb}
+use Rattle.dump_lanes.proofs.Prelude.{◌≡◌, ◌≢◌, ◌+◌, ◌<◌, ◌==◌, ℕ, Bool, true, false, true≢false, cond, List, [], ◌∷◌, ◌++◌, map, replicate, sym, ap, ◌∙◌, subst, arith, Note, Mark, Item, End, Step, View, give_step, arrive_step, after_ends, after_job, after_put, after_take, AreItemsThen, mark_if, count_ends, marks_in, EndsLast, IsCutting, IsWorking, IsGiving, HasRead, Thread, steps_of, PoolName, CutterSide, WorkerSide}
+use Rattle.std.proofs.Common.{eq-eqb}
 use Rattle.std.proofs.lemmas.List.{append-nil}
 use Rattle.dump_lanes.specs.steps.JobQueue.{put_step}
 use Rattle.dump_lanes.specs.steps.LaneMarks.{items_of}
@@ -194,33 +194,6 @@ module _ {T : Type 0} where
   read_end_ends w w' n is e =
       ap (λ (k : View (Note T)). count_ends (marks_in k.taken)) e
       ∙ (ap count_ends (marks_in-then w.taken n End is) ∙ count_ends-append (marks_in w.taken) (End ∷ []))
-
-  -- the sequencer took notes
-  pub sequences : (workers left left' : ℕ) (items : List T) (v w : View (Note T)) → IsSequencing workers left v
-      → HasRead items v w
-      → count_ends (marks_in w.taken) + left' ≡ count_ends (marks_in v.taken) + left → IsSequencing workers left' w
-  sequences workers left left' items v w h r e = record {
-    leads = r.leads;
-    parts = ap (λ k. k + workers) r.parts ∙ h.parts;
-    made = r.made ∙ h.made;
-    nothing_put = r.put ∙ h.nothing_put;
-    puts_none = λ worker. r.puts_none worker ∙ h.puts_none worker;
-    marks = e ∙ h.marks;
-  }
-
-  abbrev side : PoolName → View (Note T) → ℕ → SequencerSide T
-  side pool v left = record { pool = pool; taken = items_of (marks_in v.taken); ended = left == 0 }
-
-  pub reads : (pool : PoolName) (left left' : ℕ) (v w : View (Note T)) (r : Option T) → HasRead (option_to_list r) v w
-      → IfSome r (λ x. (0 < left) × (0 < left')) → IfNone r (left' ≡ 0) → DoneStep (side pool v left) r
-      (side pool w left')
-  reads pool left left' v w None h some_left none_left =
-      let e = h.taken ∙ append-nil (items_of (marks_in v.taken)) in
-      let z : (left' == 0) ≡ true = eq-eqb left' 0 none_left in λ i. record { pool = pool; taken = e i; ended = z i }
-  reads pool left left' v w (Some x) h some_left none_left =
-      let a : (left == 0) ≡ false = ne_eqb left 0 (λ z. absurd (let p = some_left.0 in omega arith)) in
-      let b : (left' == 0) ≡ false = ne_eqb left' 0 (λ z. absurd (let p = some_left.1 in omega arith)) in
-      (a, λ i. record { pool = pool; taken = h.taken i; ended = (b ∙ sym a) i })
 
 module _ {J D : Type 0} where
   -- a worker's port is the same where it took and gave the same, and ended and closed alike

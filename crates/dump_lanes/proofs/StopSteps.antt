@@ -5,12 +5,12 @@ use mathlib.Core.Option.{some, some-injective}
 use lib.ListN.{get_elem?}
 use mathlib.Core.Logic.{dite}
 use native.Mathlib.Decide.{ℕ_discrete}
-use Rattle.atomic_table.specs.Table.{State, Me, Allows, Splits, Joins, opening, keeps}
+use Rattle.atomic_table.specs.Table.{State, Me, Allows, Splits, Joins, keeps}
 use Rattle.atomic_table.proofs.Lists.{set_here, set_else, at_longer}
 use Rattle.dump_lanes.specs.declared.stop.protocol.WordStep.TheVariants as kind
 use Rattle.dump_lanes.specs.StopRule.{IsStep}
-use Rattle.dump_lanes.specs.steps.StopMarks.{marks, spent, Fits, KnowsSteps}
-use Rattle.dump_lanes.proofs.Views.{AllViews, AllViews-set, AllViews-one, AllViews-more, within, sum_by-set, sum_by-alone, sum_by-least}
+use Rattle.dump_lanes.specs.steps.StopMarks.{spent, Fits, KnowsSteps}
+use Rattle.dump_lanes.proofs.Views.{AllViews, AllViews-set, AllViews-more, within, sum_by-set, sum_by-alone, sum_by-least}
 
 abbrev share_of : Marks → ℕ
 share_of v = v.share
@@ -94,23 +94,6 @@ own views id v up at all fits one =
 -- the word is written, and one seat's view is replaced
 abbrev written : State (Unit {0}) Marks → ℕ → ℕ → Marks → State (Unit {0}) Marks
 written s word id w = record { words = set s.words 0 word; homes = s.homes; views = set s.views id w }
-
--- a new word
-pub begins : IsStop (opening {S = Unit {0}} {V = Marks} (0 ∷ []) [] (marks 4 false false []))
-begins = record {
-  up = false;
-  word = refl;
-  happened = [];
-  steps = refl;
-  made = λ weight. refl;
-  someone = λ up. absurd (true≢false (sym up));
-  shares = refl;
-  fits = AllViews-one (Fits false) (marks 4 false false []) record {
-    raises = λ r. r;
-    sees = λ r. r;
-    spends = λ none. (refl, refl);
-  };
-}
 
 -- a seat with a share reads the word, and stores what it found
 pub looks : (slots id : ℕ) (me : Me (Unit {0}) Marks) → 0 < me.0.share → Allows IsStop slots id me 0 (λ n. n)

@@ -6,6 +6,7 @@ pub mod PartLemmas
 pub mod CutLemmas
 pub mod ListLaw
 pub mod Prefixes
+pub mod CutterLemmas
 pub mod RecordLemmas
 pub mod RestLemmas
 pub mod Values

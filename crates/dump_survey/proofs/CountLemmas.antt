@@ -7,6 +7,7 @@ use Rattle.std.proofs.lemmas.Bool.{cases_Bool, eqb-false}
 use Rattle.std.proofs.lemmas.List.{get_or-set_same, get_or-set_other, length-set}
 use Rattle.dump_survey.proofs.KindLemmas.{same_place}
 use Rattle.dump_history.specs.declared.findings.Finding.TheVariants as findings
+use Rattle.dump_text.proofs.BoolLemmas.{equals_itself}
 
 -- whether the finding is among these
 abbrev pub is_among : List Finding → Finding → Bool
@@ -49,18 +50,11 @@ none_counted_yet old found f = sym (ap (λ b. cond (has_found found f && not b) 
 
 module _ (old : Counts) (found : Found) (g : Finding) (left : List Finding) (times : List ℕ)
     (once : is_each_once (g ∷ left) ≡ true) (are : AreCounted old found (g ∷ left) times) where
-  itself : (n : ℕ) → (n == n) ≡ true
-  itself n = ne_itself n (n == n) refl
-    where
-      ne_itself : (n : ℕ) (b : Bool) → (n == n) ≡ b → b ≡ true
-      ne_itself n true is = refl
-      ne_itself n false is = absurd (eqb-false n n is refl)
-
   -- the count of the first one is the old one so far
   first_as_before : count_in (record { times = times }) g ≡ count_in old g
   first_as_before = are g
       ∙ by (has_found found g) (list_any (λ h. finding_place h == finding_place g) left) (finding_place g == finding_place g)
-      (itself (finding_place g))
+      (equals_itself (finding_place g))
     where
       by : (b among same : Bool) → same ≡ true
           → cond (b && not (same || among)) (count_in old g + 1) (count_in old g) ≡ count_in old g

@@ -1,7 +1,9 @@
 -- The directories to create are the parent directories.
-use Rattle.dump_survey.proofs.Prelude.{◌≡◌, ℕ, Bool, true, false, not, ◌&&◌, ◌||◌, ◌==◌, List, [], ◌∷◌, ◌++◌, map, flat_map, nat_eq, bytes_eq, reverse, if◌then◌else◌, refl, sym, ap, ap₂, ◌∙◌, arith, inl, inr, Bor, Vec, Global, Result, Ok, Err, list_any, starts_with, eqb-true, or_cases, reverse-append, reverse-reverse, list_any-append, bytes_eq-Decides, Side, Include, Exclude, bare_prefix, begins_path, without_leading_slashes, without_trailing_slashes, Settings, keeps_path, side_keeps, NodePath, path_text, is_above_some, is_root, Memory, AreParentsToCreate, each_once, fronts, left_above, paths_above, with_new}
+use Rattle.dump_survey.proofs.Prelude.{◌≡◌, ℕ, Bool, true, false, not, ◌&&◌, ◌||◌, ◌==◌, List, [], ◌∷◌, ◌++◌, map, flat_map, nat_eq, bytes_eq, reverse, if◌then◌else◌, refl, sym, ap, ap₂, ◌∙◌, inl, inr, Bor, Vec, Global, Result, Ok, Err, list_any, starts_with, eqb-true, or_cases, reverse-append, reverse-reverse, list_any-append, bytes_eq-Decides, Side, Include, Exclude, bare_prefix, begins_path, without_leading_slashes, without_trailing_slashes, Settings, keeps_path, side_keeps, NodePath, path_text, is_above_some, is_root, Memory, AreParentsToCreate, each_once, fronts, left_above, paths_above, with_new}
 use Rattle.std.proofs.Common.{IfOk}
-use Rattle.dump_survey.proofs.ParentLemmas.{any_pushed, left_of}
+use Rattle.dump_survey.proofs.ParentLemmas.{any_pushed, left_of, swapped, twice}
+use Rattle.dump_trees.proofs.paths.KeptPaths.{eq_sym}
+use Rattle.std.proofs.Math.Bool.{and-false, or-false, and-or_distrib_left}
 
 -- a test of texts in a list without duplicates
 
@@ -17,15 +19,6 @@ among p text (t ∷ texts) known =
           ∙ ap (λ b. p text || (b || list_any p texts)) (holds_of_same p text t here))
       | inr there ↦ ap (λ b. p t || b) (among p text texts there) ∙ swapped (p t) (p text) (list_any p texts)
     ]
-  where
-    twice : (a b : Bool) → (a || b) ≡ (a || (a || b))
-    twice true b = refl
-    twice false b = refl
-
-    swapped : (a b c : Bool) → (a || (b || c)) ≡ (b || (a || c))
-    swapped true true c = refl
-    swapped true false c = refl
-    swapped false b c = refl
 
 any_new : (p : List ℕ → Bool) (texts : List (List ℕ)) (text : List ℕ)
     → list_any p (with_new texts text) ≡ (p text || list_any p texts)
@@ -38,11 +31,7 @@ any_new p texts text = cases (list_any (λ other. bytes_eq text other) texts) re
 
 any_once : (p : List ℕ → Bool) (first texts : List (List ℕ))
     → list_any p (each_once first texts) ≡ (list_any p first || list_any p texts)
-any_once p first [] = end (list_any p first)
-  where
-    end : (a : Bool) → a ≡ (a || false)
-    end true = refl
-    end false = refl
+any_once p first [] = sym (or-false (list_any p first))
 any_once p first (text ∷ texts) =
     any_once p (with_new first text) texts
     ∙ (ap (λ b. b || list_any p texts) (any_new p first text)
@@ -57,11 +46,7 @@ any_once p first (text ∷ texts) =
 any_left : (settings : Settings) (text : List ℕ) (texts : List (List ℕ))
     → list_any (λ other. bytes_eq other text) (left_of settings texts)
     ≡ (not (keeps_path settings text) && list_any (λ other. bytes_eq other text) texts)
-any_left settings text [] = no (not (keeps_path settings text))
-  where
-    no : (b : Bool) → false ≡ (b && false)
-    no true = refl
-    no false = refl
+any_left settings text [] = sym (and-false (not (keeps_path settings text)))
 any_left settings text (t ∷ texts) = cases (keeps_path settings t) (bytes_eq t text) refl refl (any_left settings text texts)
   where
     rest : Bool
@@ -92,21 +77,10 @@ none_longer b (t ∷ texts) = none_longer b texts
 any_longer : (b c : ℕ) (text : List ℕ) (texts : List (List ℕ))
     → list_any (λ other. bytes_eq other (c ∷ text)) (map (λ front. b ∷ front) texts)
     ≡ (nat_eq c b && list_any (λ other. bytes_eq other text) texts)
-any_longer b c text [] = no (nat_eq c b)
-  where
-    no : (t : Bool) → false ≡ (t && false)
-    no true = refl
-    no false = refl
+any_longer b c text [] = sym (and-false (nat_eq c b))
 any_longer b c text (t ∷ texts) =
     ap₂ (λ x y. (x && bytes_eq t text) || y) (eq_sym b c) (any_longer b c text texts)
-    ∙ both (nat_eq c b) (bytes_eq t text) (list_any (λ other. bytes_eq other text) texts)
-  where
-    eq_sym : (m n : ℕ) → nat_eq m n ≡ nat_eq n m
-    eq_sym m n = grind arith
-
-    both : (t a b : Bool) → ((t && a) || (t && b)) ≡ (t && (a || b))
-    both true a b = refl
-    both false a b = refl
+    ∙ sym (and-or_distrib_left (nat_eq c b) (bytes_eq t text) (list_any (λ other. bytes_eq other text) texts))
 
 any_front : (text bare : List ℕ) → list_any (λ other. bytes_eq other text) (fronts bare)
     ≡ starts_with nat_eq bare (text ++ 47 ∷ [])
@@ -117,9 +91,6 @@ any_front [] (b ∷ bare) =
     ∙ (ap (λ x. list_any (λ other. bytes_eq other []) (if b == 47 then [] ∷ [] else []) || x) (none_longer b (fronts bare))
     ∙ (here (b == 47) ∙ ap (λ t. t && true) (eq_sym b 47)))
   where
-    eq_sym : (m n : ℕ) → nat_eq m n ≡ nat_eq n m
-    eq_sym m n = grind arith
-
     here : (t : Bool) → (list_any (λ other. bytes_eq other []) (if t then [] ∷ [] else []) || false) ≡ (t && true)
     here true = refl
     here false = refl
@@ -235,11 +206,7 @@ given_is : (side : Side) (settings : Settings) (path : NodePath)
     ≡ (is_root path || list_any (λ directory. bytes_eq (47 ∷ directory) (path_text path)) (left_above side settings))
 given_is side settings [] = refl
 given_is Include settings (name ∷ path) = included settings (name ++ path_text path)
-given_is Exclude settings (name ∷ path) = no (not (keeps_path settings (path_text (name ∷ path))))
-  where
-    no : (t : Bool) → (t && false) ≡ false
-    no true = refl
-    no false = refl
+given_is Exclude settings (name ∷ path) = and-false (not (keeps_path settings (path_text (name ∷ path))))
 
 -- these are the directories to create
 pub are_parents_to_create : (settings : Settings) (directories : List (List ℕ)) → directories ≡ left_above settings.side settings

@@ -1,6 +1,8 @@
 -- Prefixes to which the wanted paths of copies are added.
-use Rattle.dump_survey.proofs.Prelude.{◌≡◌, ℕ, ◌<◌, ◌≤◌, Bool, true, false, not, ◌&&◌, ◌||◌, List, [], ◌∷◌, ◌++◌, length, filter, map, take, drop, get_or, ◌-◌, bytes_eq, nat_eq, Bor, IsTrue, cond, refl, sym, ap, ap₂, ◌∙◌, subst, inl, inr, arith, append-nil, append_assoc, list_any, or_cases, or_left, or_right, or_parts, or_from, and_parts, and_from, not-true, both_ways, false_from_ne_true, take-length, list_any-append, bytes_eq-Decides, bare_prefix, bare_path, begins_path, matches_path, BeginSame, any_mapped, reaches_more, CopyNeed, matches_itself, covers, uncovered, are_apart, PathNeed, Grown, need_view, grown_prefixes, is_matched, is_unmet, AreNeeded, unmatched, each_matches_itself, IsPass}
+use Rattle.dump_survey.proofs.Prelude.{◌≡◌, ℕ, ◌<◌, ◌≤◌, Bool, true, false, not, ◌&&◌, ◌||◌, List, [], ◌∷◌, ◌++◌, length, filter, map, take, drop, get_or, ◌-◌, bytes_eq, nat_eq, Bor, IsTrue, cond, refl, sym, ap, ap₂, ◌∙◌, subst, inl, inr, arith, append-nil, append_assoc, list_any, or_cases, or_left, or_right, or_parts, or_from, and_parts, and_from, not-true, both_ways, false_from_ne_true, list_any-append, bytes_eq-Decides, bare_prefix, bare_path, begins_path, matches_path, BeginSame, any_mapped, reaches_more, CopyNeed, matches_itself, covers, uncovered, are_apart, PathNeed, Grown, need_view, grown_prefixes, is_matched, is_unmet, AreNeeded, unmatched, each_matches_itself, IsPass}
 use Rattle.dump_trees.proofs.paths.KeptPaths.{reaches}
+use Rattle.std.proofs.lemmas.List.{take_rest}
+use Rattle.dump_trees.proofs.paths.SiblingLemmas.{any_more}
 
 -- one prefix and another one
 
@@ -37,21 +39,6 @@ begins_trans (b ∷ prefix) (c ∷ mid) path first is = reaches_trans (b ∷ pre
 
 -- tests of lists
 
--- if an element passes a test, some element passes each weaker test
-pub any_both : {X : Type 0} (f g : X → Bool) → ((x : X) → f x ≡ true → g x ≡ true) → (xs : List X)
-    → list_any f xs ≡ true → list_any g xs ≡ true
-any_both f g each [] some = some
-any_both f g each (x ∷ xs) some =
-    elim (or_cases _ _ some) [
-      | inl here ↦ or_left _ _ (each x here)
-      | inr there ↦ or_right _ _ (any_both f g each xs there)
-    ]
-
--- if no element passes a test, none passes a stronger test
-pub none_both : {X : Type 0} (f g : X → Bool) → ((x : X) → f x ≡ true → g x ≡ true) → (xs : List X)
-    → list_any g xs ≡ false → list_any f xs ≡ false
-none_both f g each xs none = false_from_ne_true _ (λ some. both_ways _ none (any_both f g each xs some))
-
 -- paths without those that another path covers
 
 -- if none of the paths passes a test, none of the uncovered paths does
@@ -80,7 +67,7 @@ uncovered_same (path ∷ paths) text =
     covered : (b : Bool) → begins path ≡ b → list_any (λ other. covers other path) paths ≡ true
         → list_any begins paths ≡ (b || list_any begins paths)
     covered true is some =
-        any_both (λ other. covers other path) begins
+        any_more (λ other. covers other path) begins
         (λ other above. begins_trans (bare_prefix other) (bare_prefix path) text above is) paths some
     covered false is some = refl
 
@@ -196,7 +183,7 @@ pub fewer_unmatched : (needs : List PathNeed) (prefixes : List (List ℕ)) (path
 fewer_unmatched needs prefixes path some itself =
     count_less was is
     (λ n left. ap not ((or_parts _ _ (sym (appended n.wanted) ∙ not-true _ left)).0)) needs
-    (any_both (λ (n : PathNeed). is_unmet prefixes n && bytes_eq n.wanted path) (λ n. was n && not (is n)) found needs
+    (any_more (λ (n : PathNeed). is_unmet prefixes n && bytes_eq n.wanted path) (λ n. was n && not (is n)) found needs
     some)
   where
     was : PathNeed → Bool
@@ -253,44 +240,8 @@ pub record PassSoFar (needs left : List PathNeed) (old new : Grown) (grew : Bool
       × (list_any (is_unmet (grown_prefixes new)) needs ≡ list_any (is_unmet (grown_prefixes new)) left)
   pub fewer : grew ≡ true → unmatched needs (grown_prefixes new) < unmatched needs (grown_prefixes old)
 
-pub pass_starts : (needs : List PathNeed) (old : Grown) → PassSoFar needs needs old old false
-pass_starts needs old = record {
-  given = refl;
-  more = [];
-  added = sym (append-nil old.added);
-  needed = tt;
-  among = λ test some. some;
-  closed = λ none. (refl, refl);
-  fewer = λ bad. absurd (let no : false ≡ true = bad in cc);
-}
-
-pub pass_ends : (needs : List PathNeed) (old new : Grown) (grew : Bool) → PassSoFar needs [] old new grew
-    → IsPass needs old new grew
-pass_ends needs old new grew so_far = record {
-  given = so_far.given;
-  more = so_far.more;
-  added = so_far.added;
-  needed = so_far.needed;
-  closed = λ none. (so_far.closed none).1;
-  fewer = so_far.fewer;
-}
-
 module _ (needs left : List PathNeed) (n : PathNeed) (old new : Grown) (grew : Bool)
     (so_far : PassSoFar needs (n ∷ left) old new grew) where
-  -- the next need is met
-  pub pass_on : is_unmet (grown_prefixes new) n ≡ false → PassSoFar needs left old new grew
-  pass_on shut = record {
-    given = so_far.given;
-    more = so_far.more;
-    added = so_far.added;
-    needed = so_far.needed;
-    among = λ test some. so_far.among test (or_right (test n) _ some);
-    closed = λ none.
-        let before = so_far.closed none in
-        (before.0, before.1 ∙ ap (λ b. b || list_any (is_unmet (grown_prefixes new)) left) shut);
-    fewer = so_far.fewer;
-  }
-
   grown_is : grown_prefixes new ≡ grown_prefixes old ++ so_far.more
   grown_is = ap₂ (λ given added. given ++ added) so_far.given so_far.added
       ∙ sym (append_assoc old.given old.added so_far.more)
@@ -327,9 +278,6 @@ module _ (needs left : List PathNeed) (n : PathNeed) (old new : Grown) (grew : B
             (λ none. ap (λ g. unmatched needs (grown_prefixes g)) (so_far.closed none).0) so_far.fewer;
       }
 
-front_taken : {X : Type 0} (x : X) (left : List X) → take (length (x ∷ left) - 1) (drop 1 (x ∷ left)) ≡ left
-front_taken x left = ap (λ n. take n left) (let e : length (x ∷ left) - 1 ≡ length left = omega arith in e) ∙ take-length left
-
 -- the pass adds the wanted path of the next need
 pub pass_adds : (needs : List PathNeed) (left : List CopyNeed) (d : CopyNeed) (old new next : Grown) (grew : Bool)
     → 1 ≤ length left → PassSoFar needs (map need_view left) old new grew → IsTrue (each_matches_itself needs)
@@ -338,7 +286,7 @@ pub pass_adds : (needs : List PathNeed) (left : List CopyNeed) (d : CopyNeed) (o
     → PassSoFar needs (map need_view (take (length left - 1) (drop 1 left))) old next true
 pass_adds needs [] d old new next grew some so_far itself open_now is = absurd (omega arith)
 pass_adds needs (n ∷ left) d old new next grew some so_far itself open_now is =
-    subst (λ l. PassSoFar needs (map need_view l) old next true) (sym (front_taken n left))
+    subst (λ l. PassSoFar needs (map need_view l) old next true) (sym (take_rest (n ∷ left) 1))
     (pass_grows needs (map need_view left) (need_view n) old new grew so_far next open_now self_matched is)
   where
     self_matched : matches_itself n.wanted.now ≡ true

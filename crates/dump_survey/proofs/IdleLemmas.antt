@@ -1,23 +1,5 @@
 -- The idle bare prefixes after one more record, and what is reported of the prefixes.
-use Rattle.dump_survey.proofs.Prelude.{◌≡◌, ℕ, Bool, true, false, not, ◌&&◌, ◌||◌, List, [], ◌∷◌, ◌++◌, map, Option, Some, None, option_map, bytes_eq, refl, sym, ap, ap₂, ◌∙◌, append_assoc, if◌then◌else◌, and-true, or-false, list_any, cons_option, or_left, or_right, map-append, list_any-append, bytes_eq-Decides, DumpRecord, bare_prefix, bare_path, begins_path, is_node, is_copy, node_path, copy_path, makes_copy, PrefixFinding, NotCanonical, Idle, ReportedPrefix, PrefixReport, is_short_prefix, prefix_view, reported_of_prefix, reported_prefixes, HaveSame, is_among, AreWithout, is_begun_by, is_below_copy, is_touched_by, AreIdle, reported_by, prefixes_by}
-
--- a set of texts, text by text
-
--- the set has one text more, and one text fewer remains to be added
-pub set_more : (all set new : List (List ℕ)) (first : List ℕ) (left : List (List ℕ))
-    → ((text : List ℕ) → is_among text all ≡ (is_among text set || is_among text (first ∷ left)))
-    → HaveSame new (set ++ first ∷ [])
-    → (text : List ℕ) → is_among text all ≡ (is_among text new || is_among text left)
-set_more all set new first left so_far more text =
-    so_far text
-    ∙ (joined (is_among text set) (bytes_eq text first) (is_among text left)
-    ∙ ap (λ b. b || is_among text left)
-    (sym (more text ∙ list_any-append (λ other. bytes_eq text other) set (first ∷ []))))
-  where
-    joined : (a b c : Bool) → (a || (b || c)) ≡ ((a || (b || false)) || c)
-    joined true b c = refl
-    joined false true c = refl
-    joined false false c = refl
+use Rattle.dump_survey.proofs.Prelude.{◌≡◌, ℕ, Bool, true, false, not, ◌&&◌, ◌||◌, List, [], ◌∷◌, ◌++◌, map, Option, Some, None, option_map, bytes_eq, refl, sym, ap, ap₂, ◌∙◌, append_assoc, if◌then◌else◌, and-true, or-false, list_any, cons_option, or_left, or_right, map-append, list_any-append, bytes_eq-Decides, DumpRecord, bare_prefix, bare_path, begins_path, is_node, is_copy, node_path, copy_path, makes_copy, PrefixFinding, NotCanonical, Idle, PrefixReport, is_short_prefix, reported_of_prefix, reported_prefixes, HaveSame, is_among, AreWithout, is_begun_by, is_below_copy, is_touched_by, AreIdle, reported_by, prefixes_by}
 
 -- the texts that begin one of the node's paths are removed
 
@@ -34,12 +16,6 @@ both_without f g old mid new first second text =
 same_without : (f g : List ℕ → Bool) (old new : List (List ℕ)) → ((text : List ℕ) → f text ≡ g text)
     → AreWithout f old new → AreWithout g old new
 same_without f g old new same without text = without text ∙ ap (λ b. is_among text old && not b) (same text)
-
--- for a record that is no node, no text is removed
-pub no_node_leaves : (r : DumpRecord) (old : List (List ℕ)) → is_node r ≡ false → AreWithout (is_begun_by r) old old
-no_node_leaves r old other text =
-    sym (ap (λ n. is_among text old && not (n && (begins_path text (bare_path (node_path r))
-    || (is_copy r && begins_path text (bare_path (copy_path r)))))) other ∙ and-true (is_among text old))
 
 module _ (r : DumpRecord) (old mid : List (List ℕ)) (node : is_node r ≡ true)
     (first : AreWithout (λ text. begins_path text (bare_path (node_path r))) old mid) where
@@ -60,12 +36,6 @@ module _ (r : DumpRecord) (old mid : List (List ℕ)) (node : is_node r ≡ true
       (λ text. begins_path text (bare_path (copy_path r))) old mid new first second)
 
 -- the texts at or below a copy are removed
-
--- for a record that is no node, no text is removed
-pub no_node_copies : (r : DumpRecord) (old : List (List ℕ)) → is_node r ≡ false → AreWithout (is_below_copy r) old old
-no_node_copies r old other text =
-    sym (ap (λ n. is_among text old && not (n && (makes_copy r && begins_path (bare_path (node_path r)) text))) other
-    ∙ and-true (is_among text old))
 
 module _ (r : DumpRecord) (old : List (List ℕ)) (node : is_node r ≡ true) where
   pub no_copy_leaves : makes_copy r ≡ false → AreWithout (is_below_copy r) old old
@@ -124,18 +94,3 @@ module _ (records : List DumpRecord) (prefixes idle : List (List ℕ)) (are : Ar
 
   pub reported_by_idle : prefixes_by idle prefixes ≡ reported_prefixes records prefixes
   reported_by_idle = reported_of_rest [] prefixes refl
-
--- what is reported of the first remaining prefix is the next report
-
-module _ (idle : List (List ℕ)) (items : List ReportedPrefix) (prefix : List ℕ) (left : List (List ℕ)) where
-  pub reported_next : (reported : ReportedPrefix) → reported_by idle prefix ≡ Some (prefix_view reported)
-      → map prefix_view items ++ prefixes_by idle (prefix ∷ left)
-      ≡ map prefix_view (items ++ reported ∷ []) ++ prefixes_by idle left
-  reported_next reported is =
-      ap (λ (t : Option PrefixReport). map prefix_view items ++ cons_option t (prefixes_by idle left)) is
-      ∙ (sym (append_assoc (map prefix_view items) (prefix_view reported ∷ []) (prefixes_by idle left))
-      ∙ ap (λ l. l ++ prefixes_by idle left) (sym (map-append prefix_view items (reported ∷ []))))
-
-  pub none_next : reported_by idle prefix ≡ None
-      → map prefix_view items ++ prefixes_by idle (prefix ∷ left) ≡ map prefix_view items ++ prefixes_by idle left
-  none_next is = ap (λ (t : Option PrefixReport). map prefix_view items ++ cons_option t (prefixes_by idle left)) is

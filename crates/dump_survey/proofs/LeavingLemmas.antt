@@ -1,6 +1,6 @@
 -- Texts that are removed from a set: the texts that begin a path. These are the path's parts before a slash, the path
 -- and the empty text.
-use Rattle.dump_survey.proofs.Prelude.{◌≡◌, ◌≢◌, ℕ, ◌+◌, ◌<◌, ◌≤◌, Bool, true, false, not, ◌&&◌, ◌||◌, List, [], ◌∷◌, take, length, get_or, map, bytes_eq, cond, filter, refl, sym, ap, ap₂, ◌∙◌, inl, inr, arith, and-false, and-true, or-false, list_any, is_at, remove_key, slice_cmp, nat_cmp, or_cases, or_parts, both_ways, false_from_ne_true, nat_tests, is_eq-slice_cmp, bytes_eq-Decides, first_true, begins_path, AreWithin, cut_begins, none_begins, whole_begins, is_among, AreWithout}
+use Rattle.dump_survey.proofs.Prelude.{◌≡◌, ◌≢◌, ℕ, ◌+◌, ◌<◌, ◌≤◌, Bool, true, false, not, ◌&&◌, ◌||◌, List, [], ◌∷◌, take, length, get_or, map, bytes_eq, cond, filter, refl, sym, ap, ap₂, ◌∙◌, inl, inr, arith, and-false, and-true, or-false, list_any, is_at, remove_key, slice_cmp, nat_cmp, or_cases, or_parts, both_ways, false_from_ne_true, nat_tests, is_eq-slice_cmp, bytes_eq-Decides, first_true, begins_path, AreWithin, cut_begins, none_begins, is_among, AreWithout}
 use Rattle.dump_survey.proofs.ParentLemmas.{any_found}
 use Rattle.std.proofs.Common.{nat_lt}
 use borrow.Author.Count.{below_more}
@@ -144,10 +144,6 @@ front_begins path n low slash =
     sym (or-false (begins_path (take n path) path))
     ∙ cut_begins path n low slash (take n path ∷ []) (ap (λ b. b || false) (itself (take n path)))
 
-path_begins : (path : List ℕ) → begins_path path path ≡ true
-path_begins path = sym (or-false (begins_path path path))
-    ∙ whole_begins path (path ∷ []) (ap (λ b. b || false) (itself path))
-
 -- a text that begins the path differs from one that doesn't
 not_same : (path text other : List ℕ) → begins_path text path ≡ false → begins_path other path ≡ true
     → bytes_eq text other ≡ false
@@ -163,17 +159,6 @@ pub record HaveLeft (old : List (List ℕ)) (path : List ℕ) (place : ℕ) (new
   pub no_front : (k : ℕ) → k < place → get_or path k 0 ≡ 47 → is_among (take k path) new ≡ false
 
 module _ (old : List (List ℕ)) (path : List ℕ) where
-  pub both_left : (mid new : List (List ℕ)) → AreWithout (λ other. bytes_eq other []) old mid
-      → AreWithout (λ other. bytes_eq other path) mid new → HaveLeft old path 0 new
-  both_left mid new first second = record {
-    fewer = λ text is. was_among _ old mid first text (was_among _ mid new second text is);
-    stay = λ text none. has_stayed _ mid new second text (not_same path text path none (path_begins path))
-        ∙ has_stayed _ old mid first text (not_same path text [] none refl);
-    no_empty = was_none _ mid new second [] (is_gone _ old mid first [] refl);
-    no_whole = is_gone _ mid new second path (itself path);
-    no_front = λ k low. absurd (omega arith);
-  }
-
   module _ (place : ℕ) (mid : List (List ℕ)) (left : HaveLeft old path place mid) where
     pub front_left : (new : List (List ℕ)) → place < length path → get_or path place 0 ≡ 47
         → AreWithout (λ other. bytes_eq other (take place path)) mid new → HaveLeft old path (place + 1) new

@@ -1,15 +1,12 @@
 -- Whether a kept node names a revision after a dropped one, record by record.
 use Rattle.dump_survey.proofs.Prelude.{◌≡◌, ◌↔◌, Bool, true, false, IsTrue, not, ◌&&◌, ◌||◌, ◌==◌, List, [], ◌∷◌, ◌++◌, length, Option, Some, None, is_some, if◌then◌else◌, refl, sym, ap, ap₂, ◌∙◌, and-true, or-false, or_assoc, list_all, list_any, and_parts, DumpRecord, Settings, keeps_path, is_revision_record, is_node, is_kept_node, node_path, Group, group_of, groups, keeps_group, keeps_empty, every_dump_finding, copies_from_before, is_found_in_dump, HasUnreadRevision, AreDumpFindingsOf, NamesRevision, TellsNaming, nodes_name, groups_name, groups_name_behind, same_truth, names_test, test_tells, behind_told, Present, Tally, is_behind_dropped, leaves_number, leave_number, LeaveNumber, no_tally, keeps_present, revision_tally, node_tally, other_tally, next_tally, tally_behind, is_tallied, tally_findings}
 use Rattle.dump_survey.proofs.TallyLemmas.{is_single, filter_same, closes, closes_none, some_left, nodes, nodes_more, nodes_none, each_tallied}
+use Rattle.std.proofs.Math.Bool.{and-false}
 
 none_of : (a b : Bool) → (a && (b && false)) ≡ false
 none_of true true = refl
 none_of true false = refl
 none_of false b = refl
-
-none_here : (a : Bool) → (a && false) ≡ false
-none_here true = refl
-none_here false = refl
 
 neither : (b : Bool) → (if b then false else false) ≡ false
 neither true = refl
@@ -103,7 +100,7 @@ module _ (settings : Settings) (names : DumpRecord → Bool) where
         || leave_number settings names (node_tally t (is_kept_node settings r) (copies_from_before t.first r) p) records)
         ≡ (not settings.renumber && names_later t p (nodes (r ∷ records)) (groups records))
     left_at node None is =
-        ap₂ (λ b c. b || c) (none_here (not settings.renumber))
+        ap₂ (λ b c. b || c) (and-false (not settings.renumber))
         (more (node_tally t (is_kept_node settings r) (copies_from_before t.first r) None)
         ∙ ap (λ q. not settings.renumber && names_later t q (nodes records) (groups records)) is)
     left_at node (Some p) is =
@@ -134,7 +131,7 @@ module _ (settings : Settings) (names : DumpRecord → Bool) where
   left_is t [] single =
       sym (ap₂ (λ b c. not settings.renumber && (b || c)) (none_of (is_some t.present) (not t.all_kept))
       (neither (t.all_kept && closes settings t.present []))
-      ∙ none_here (not settings.renumber))
+      ∙ and-false (not settings.renumber))
   left_is t (r ∷ records) single =
       let parts = and_parts (is_single r) (list_all is_single records) single in
       left_step t r records (λ u. left_is u records parts.1) (is_revision_record r) (is_node r) refl parts.0

@@ -2,7 +2,8 @@
 use Rattle.dump_survey.proofs.Prelude.{◌≡◌, ℕ, ◌+◌, ◌-◌, ◌≤◌, ◌<◌, Bool, true, false, not, ◌&&◌, ◌||◌, List, [], ◌∷◌, ◌++◌, length, map, take, get_or, reverse, Option, Some, None, option_map, bytes_eq, Bor, Vec, Global, Result, Ok, Err, cond, refl, sym, ap, ap₂, ◌∙◌, subst, arith, append-nil, append_assoc, list_any, filter_map, cons_option, IsPermutation, list_any-IsPermutation, any_mapped, or_from, and_parts, and_from, take-length, map-append, take_more, reverse-append, reverse-reverse, list_any-append, filter_map-append, DumpRecord, Ending, HasRecords, bare_prefix, bare_path, begins_path, matches_path, BeginSame, Side, Include, Exclude, Settings, side_keeps, is_node, is_copy, node_path, is_whole_file, copy_path, Memory, CopyNeed, with_prefixes, stops_at, wanted_path, matches_itself, is_wanted, AreWanted, covers, uncovered, are_apart, stops_somewhere, ArePrefixesToAdd, ArePrefixesToAddIn, HasCollected, NeedCollector, PathNeed, need_view, need_of, needs_of, needs_source, copy_need, is_matched, is_unmet, AreNeeded, each_matches_itself}
 use Rattle.std.proofs.Common.{unwrap_or}
 use Rattle.std.specs.Result.{IfOk}
-use Rattle.dump_survey.proofs.GrowingPrefixLemmas.{any_both, needs_path, uncovered_same, uncovered_apart}
+use Rattle.dump_survey.proofs.GrowingPrefixLemmas.{needs_path, uncovered_same, uncovered_apart}
+use Rattle.dump_trees.proofs.paths.SiblingLemmas.{any_more}
 
 -- record by record
 
@@ -31,9 +32,6 @@ pub record UncoveredSoFar (paths left set top : List (List ℕ)) : Type 0 where
   pub begins : (text : List ℕ)
       → list_any (λ prefix. begins_path prefix text) set ≡ list_any (λ path. begins_path (bare_prefix path) text) behind
   pub top_is : top ≡ reverse (uncovered behind)
-
-pub none_behind : (paths : List (List ℕ)) → UncoveredSoFar paths paths [] []
-none_behind paths = record { behind = []; paths_are = sym (append-nil paths); begins = λ text. refl; top_is = refl }
 
 or_swapped : (a b : Bool) → (a || (b || false)) ≡ (b || a)
 or_swapped true true = refl
@@ -201,7 +199,7 @@ none_stops settings records =
 need_wanted : (settings : Settings) (records : List DumpRecord) (path : List ℕ)
     → needs_path (needs_of settings.side records) settings.prefixes path ≡ true → is_wanted settings records path ≡ true
 need_wanted settings records path some =
-    any_both _ (λ r. stops_at settings r && bytes_eq (wanted_path settings.side r) path) each records
+    any_more _ (λ r. stops_at settings r && bytes_eq (wanted_path settings.side r) path) each records
     (sym (any_filtered (λ (n : PathNeed). is_unmet settings.prefixes n && bytes_eq n.wanted path)
     (need_of settings.side) records)
     ∙ some)

@@ -1,13 +1,18 @@
 -- The parent directories to create before loading.
-use Rattle.dump_survey.proofs.Prelude.{◌≡◌, ◌≢◌, ℕ, ◌+◌, ◌-◌, ◌<◌, ◌≤◌, Bool, true, false, not, ◌&&◌, ◌||◌, ◌==◌, List, [], ◌∷◌, ◌++◌, take, drop, length, get_or, map, flat_map, filter, bytes_eq, if◌then◌else◌, Bor, refl, sym, ap, ap₂, ◌∙◌, arith, append_assoc, append-nil, list_any, slice_cmp, is_eq, match_ordering, nat_cmp, Ordering, Less, Equal, Greater, insert_key, nat_tests, take_more, drop_more, drop_all, map-append, take-length, is_eq-slice_cmp, bytes_eq-Decides, is_at, or_from, begins_path, AreWithin, within_wider, Settings, keeps_path, each_once, fronts, with_new, BeginSame, HaveSame}
+use Rattle.dump_survey.proofs.Prelude.{◌≡◌, ◌≢◌, ℕ, ◌+◌, ◌-◌, ◌<◌, ◌≤◌, Bool, true, false, not, ◌&&◌, ◌||◌, ◌==◌, List, [], ◌∷◌, ◌++◌, take, drop, length, get_or, map, flat_map, filter, bytes_eq, if◌then◌else◌, Bor, refl, sym, ap, ap₂, ◌∙◌, arith, append_assoc, append-nil, list_any, slice_cmp, is_eq, match_ordering, nat_cmp, Ordering, Less, Equal, Greater, insert_key, nat_tests, take_more, drop_more, drop_all, map-append, is_eq-slice_cmp, bytes_eq-Decides, is_at, or_from, begins_path, AreWithin, within_wider, Settings, keeps_path, each_once, fronts, with_new, BeginSame, HaveSame}
 use Rattle.std.proofs.Common.{nat_lt}
+use Rattle.std.proofs.lemmas.List.{take_rest}
 
 -- a directory that is looked up
 
-swapped : (a b c : Bool) → (a || (b || c)) ≡ (b || (a || c))
+pub swapped : (a b c : Bool) → (a || (b || c)) ≡ (b || (a || c))
 swapped true true c = refl
 swapped true false c = refl
 swapped false b c = refl
+
+pub twice : (a b : Bool) → (a || b) ≡ (a || (a || b))
+twice true b = refl
+twice false b = refl
 
 pub any_inserted : {V : Type 0} (items : V → List ℕ) (p : List ℕ → Bool) (k : V) (ks : List V)
     → list_any p (map items (insert_key (λ x y. slice_cmp nat_cmp (items x) (items y)) ks k))
@@ -15,10 +20,6 @@ pub any_inserted : {V : Type 0} (items : V → List ℕ) (p : List ℕ → Bool)
 any_inserted items p k [] = refl
 any_inserted {V} items p k (x ∷ xs) = at (any_inserted items p k xs) (slice_cmp nat_cmp (items k) (items x)) refl
   where
-    twice : (a b : Bool) → (a || b) ≡ (a || (a || b))
-    twice true b = refl
-    twice false b = refl
-
     at : list_any p (map items (insert_key (λ x y. slice_cmp nat_cmp (items x) (items y)) xs k)) ≡
         (p (items k) || list_any p (map items xs))
         → (o : Ordering) → slice_cmp nat_cmp (items k) (items x) ≡ o
@@ -202,9 +203,6 @@ prefix_adds settings reported new bare others added =
     ∙ (once_append reported (left_of settings (fronts bare)) (left_of settings (flat_map fronts others))
     ∙ ap (λ t. each_once t (left_of settings (flat_map fronts others))) (sym added))
 
-first_left : {X : Type 0} (x : X) (left : List X) → take (length (x ∷ left) - 1) (drop 1 (x ∷ left)) ≡ left
-first_left x left = ap (λ n. take n left) (let e : length (x ∷ left) - 1 ≡ length left = omega arith in e) ∙ take-length left
-
 pub next_adds : (settings : Settings) (left : List (Bor (List ℕ))) (d : Bor (List ℕ)) (reported new : List (List ℕ))
     → 1 ≤ length left → new ≡ each_once reported (left_of settings (fronts (get_or left 0 d).now))
     → each_once reported (left_of settings (flat_map fronts (map (λ prefix. prefix.now) left)))
@@ -213,4 +211,4 @@ next_adds settings [] d reported new some added = absurd (omega arith)
 next_adds settings (prefix ∷ left) d reported new some added =
     prefix_adds settings reported new prefix.now (map (λ (p : Bor (List ℕ)). p.now) left) added
     ∙ ap (λ (l : List (Bor (List ℕ))). each_once new (left_of settings (flat_map fronts (map (λ p. p.now) l))))
-    (sym (first_left prefix left))
+    (sym (take_rest (prefix ∷ left) 1))

@@ -3,9 +3,7 @@ use Rattle.dump_survey.proofs.Prelude.{◌≡◌, ℕ, ◌+◌, Bool, true, fals
 use Rattle.std.proofs.Common.{nat_lt}
 use borrow.Author.Tests.{ltb-true, ltb-false}
 use Rattle.std.specs.List.{slice_get}
-
-eq_sym : (a b : ℕ) → nat_eq a b ≡ nat_eq b a
-eq_sym a b = grind arith
+use Rattle.dump_trees.proofs.paths.KeptPaths.{eq_sym}
 
 -- if nothing follows a front and a slash, the text doesn't begin with these
 none_behind : (front text : List ℕ) → behind_slash front text ≡ None → starts_with nat_eq text (front ++ 47 ∷ []) ≡ false
@@ -58,16 +56,6 @@ begins_behind (b ∷ bare) text (Some rest) there other reported =
 pub whole_text : (path : List ℕ) (b : ℕ) (text : List ℕ) → bare_path path ≡ b ∷ text
     → path_text (path_of path) ≡ 47 ∷ b ∷ text
 whole_text path b text is = ap (λ t. path_text (names_of t)) is ∙ split_text (b ∷ text)
-
-pub root_text : (path : List ℕ) → bare_path path ≡ [] → path_text (path_of path) ≡ []
-root_text path is = ap (λ t. path_text (names_of t)) is
-
--- each prefix is below the empty path
-pub below_root : (path bare : List ℕ) → bare_path path ≡ [] → IsRestBelow path bare bare
-below_root path bare is = record {
-  below = ap (λ t. starts_with nat_eq (47 ∷ bare) (t ++ 47 ∷ [])) (root_text path is);
-  rest_is = ap (λ (t : List ℕ). drop (length t) (47 ∷ bare)) (root_text path is);
-}
 
 -- what is found below another path is exactly the rest
 pub below_path : (path bare : List ℕ) (b : ℕ) (text : List ℕ) (found : Option (Bor (List ℕ)))

@@ -23,7 +23,7 @@ pub use Rattle.std.specs.BTreeMap.{is_at}
 pub use Rattle.std.specs.BTreeSet.{insert_key}
 pub use Rattle.std.specs.Cmp.Lexicographic.{slice_cmp}
 pub use Rattle.std.specs.Io.KnownBytes.{Appends}
-pub use Rattle.std.specs.List.{AllZip, concat, cons_option, filter_map, last_or, list_all, list_any, onto_first, slice_split, starts_with}
+pub use Rattle.std.specs.List.{AllZip, concat, cons_option, filter_map, last_or, list_all, list_any, slice_split, starts_with}
 pub use Rattle.std.specs.List.Sorted.{IsPermutation}
 pub use Rattle.std.specs.Ordering.{is_eq, match_ordering, nat_cmp}
 pub use Rattle.std.specs.Result.{OnErr, OnOk}
@@ -49,10 +49,10 @@ pub use Rattle.dump_history.proofs.values.WorkedDump.{line, one, other, record_a
 pub use Rattle.dump_history.specs.DumpChanges.{counts_from, has_ordered_nodes}
 pub use Rattle.dump_history.specs.Findings.{AreDumpFindingsOf, AreFindingsOf, AreNodeFaultsOf, HasUnreadRevision, IsReadBlock, IsUnreadRevision, NodeFaults, begins_at, copies_from_before, cuts, every_dump_finding, every_finding, first_has_node, has_kept_path, has_kept_source, has_source_before, is_alarm, is_exclude, is_found, is_found_in_dump, is_obstacle, makes_copy, rise}
 pub use Rattle.dump_history.specs.NumberGaps.{NamesRevision, SetsMergeinfo, go_up}
-pub use Rattle.dump_history.specs.RecordChanges.{Patching, copy_path, is_plain_line, makes}
+pub use Rattle.dump_history.specs.RecordChanges.{Patching, copy_path, makes}
 pub use Rattle.dump_history.specs.SurveyLaws.{AreFindingsBehind, DumpRestricts, HaveFindingsBehind, none_is}
 pub use Rattle.dump_history.specs.steps.NamingTests.{TellsNaming, groups_name, groups_name_behind, nodes_name}
-pub use Rattle.dump_history.specs.steps.NodeReading.{copy_faults, copy_refused, faults_read, has_up_to, is_missing_number, is_unread_value, names_missing_source, names_outside, no_node_faults, property_faults}
+pub use Rattle.dump_history.specs.steps.NodeReading.{copy_faults, copy_refused, faults_read, has_up_to, is_missing_number, is_unread_value, names_missing_source, names_outside, property_faults}
 pub use Rattle.dump_records.proofs.CutLemmas.{count_fits}
 pub use Rattle.dump_records.proofs.ListLaw.{each_dump_has_one_list}
 pub use Rattle.dump_records.proofs.Prefixes.{begins_once, begins_prefix, is_front, one_more, whole_list}
@@ -62,7 +62,7 @@ pub use Rattle.dump_records.specs.HeaderRules.{header_number}
 pub use Rattle.dump_records.specs.RecordText.{DumpRecord, is_lawful, record_text}
 pub use Rattle.dump_records.specs.steps.CutRecords.{EndsAfter, IsRecordOf}
 pub use Rattle.dump_records.specs.steps.CutterState.{CutterState}
-pub use Rattle.dump_records.specs.steps.RecordViews.{CutStep, part_of_node, record_dump, record_item, record_number}
+pub use Rattle.dump_records.specs.steps.RecordViews.{CutStep, record_dump, record_item, record_number}
 pub use Rattle.dump_rules.proofs.BarePrefixLemmas.{cut_begins, empty_begins, none_begins, whole_begins, within_wider}
 pub use Rattle.dump_rules.proofs.PrefixLemmas.{any_mapped}
 pub use Rattle.dump_rules.proofs.ReachLemmas.{count_at_point}
@@ -113,18 +113,17 @@ pub use Rattle.dump_survey.specs.steps.Steps.{ArePrefixesReported, ComesNext, Is
 pub use Rattle.dump_survey.specs.steps.Surveyed.{reported_of_finding, reported_of_node}
 pub use Rattle.dump_survey.specs.steps.Surveying.{Surveying, Surveys}
 pub use Rattle.dump_survey.specs.steps.Tally.{first_with, is_above_last, is_tallied, keeps_open, keeps_present, least_behind, lesser, next_tally, no_tally, node_tally, numbers_of, other_tally, revision_tally, tally_behind, tally_findings}
-pub use Rattle.dump_text.proofs.BlockLemmas.{has_value}
 pub use Rattle.dump_text.proofs.BoolLemmas.{both_true, false_true, first_false, first_true, not_false, not_so, not_true, second_false, second_true}
 pub use Rattle.dump_text.proofs.PropertyLemmas.{entry_parts, left_of, property_block_once}
 pub use Rattle.dump_text.proofs.ValueLemmas.{some_copied}
-pub use Rattle.dump_text.specs.HeaderBlock.{block_text, lines_bytes}
-pub use Rattle.dump_text.specs.HeaderLine.{Header, has_byte, has_header, header_text, header_value}
-pub use Rattle.dump_text.specs.Names.{action_name, copy_path_name, copy_revision_name, property_length_name, revision_name}
+pub use Rattle.dump_text.specs.HeaderBlock.{block_text}
+pub use Rattle.dump_text.specs.HeaderLine.{has_header}
+pub use Rattle.dump_text.specs.Names.{copy_revision_name, property_length_name, revision_name}
 pub use Rattle.dump_text.specs.PropertyList.{AreEntries, IsEntry, IsPropertyBlock, Property, sized_text}
 pub use Rattle.dump_text.specs.steps.PropertyViews.{HasEntriesLeft, entries_text, entry_property, props_bytes}
 pub use Rattle.dump_trees.proofs.paths.KeptPaths.{reaches_more}
-pub use Rattle.dump_trees.proofs.paths.PathNames.{split, split_text}
-pub use Rattle.dump_trees.specs.Paths.{NodePath, is_short, names_of, path_of, path_text}
+pub use Rattle.dump_trees.proofs.paths.PathNames.{split_text}
+pub use Rattle.dump_trees.specs.Paths.{NodePath, names_of, path_of, path_text}
 pub use Rattle.dump_trees.specs.Quiet.{cuts_alike}
 pub use Rattle.dump_trees.specs.Restriction.{is_above_some, is_root}
 pub use Rattle.dump_writer.specs.SinkWords.{HasFailedSince, IsPrefixOf}
@@ -138,7 +137,6 @@ pub use Rattle.dump_rules.specs.declared.options.Side.TheVariants.{Exclude, Incl
 pub use Rattle.dump_survey.specs.declared.report.counts.Counts.{Counts}
 pub use Rattle.dump_survey.specs.declared.findings.node_finding.Found.{Found}
 pub use Rattle.dump_survey.specs.declared.findings.node_finding.Losses.{Losses}
-pub use Rattle.dump_survey.specs.declared.report.revision_map.KeptNumbers.{KeptNumbers}
 pub use Rattle.dump_survey.specs.declared.report.revision_map.NumberCollector.{NumberCollector}
 pub use Rattle.dump_survey.specs.declared.advice.copy_needs.NeedCollector.{NeedCollector}
 pub use Rattle.dump_survey.specs.declared.advice.omitted_mergeinfo.LineCounter.{LineCounter}
@@ -147,7 +145,6 @@ pub use Rattle.dump_survey.specs.declared.findings.places.DumpPlaces.{DumpPlaces
 pub use Rattle.dump_survey.specs.declared.findings.places.Place.{Place}
 pub use Rattle.dump_survey.specs.declared.findings.prefix_findings.PrefixFinding.{PrefixFinding}
 pub use Rattle.dump_survey.specs.declared.findings.prefix_findings.PrefixFinding.TheVariants.{Idle, NotCanonical}
-pub use Rattle.dump_survey.specs.declared.findings.prefix_findings.ReportedPrefix.{ReportedPrefix}
 pub use Rattle.dump_survey.specs.declared.findings.revision_numbers.Numbers.{Numbers}
 pub use Rattle.dump_survey.specs.declared.findings.surveyor.End.{End}
 pub use Rattle.dump_survey.specs.declared.findings.surveyor.Known.{Known}
@@ -158,7 +155,6 @@ pub use Rattle.dump_survey.specs.declared.findings.tally.DumpFindings.{DumpFindi
 pub use Rattle.dump_survey.specs.declared.findings.tally.Present.{Present}
 pub use Rattle.dump_survey.specs.declared.findings.tally.Tally.{Tally}
 pub use Rattle.dump_survey.specs.declared.findings.reported.SurveyedNode.{SurveyedNode}
-pub use Rattle.dump_survey.specs.declared.findings.reported.ReportedFinding.{ReportedFinding}
 pub use Rattle.dump_text.specs.declared.fault.FaultKind.{FaultKind}
 pub use Rattle.dump_text.specs.declared.fault.FaultKind.TheVariants.{CopySource}
 pub use Rattle.dump_text.specs.declared.props.Entry.{Entry}

@@ -1,5 +1,5 @@
 -- What the filter rejects in a kept node: the revision of its copy source, and its mergeinfo, property by property.
-use Rattle.dump_survey.proofs.Prelude.{◌≡◌, ℕ, Bool, true, false, not, ◌&&◌, ◌||◌, List, [], ◌∷◌, ◌++◌, Option, Some, None, refl, sym, ap, ap₂, ◌∙◌, subst, or-false, or_assoc, list_any, copy_revision_name, Property, IsPropertyBlock, Props, Entry, entry_property, props_bytes, both_true, header_number, DumpRecord, Settings, value_reads, value_misses, value_foreign, is_mergeinfo, is_node, is_kept_node, HasPropertyBlock, ArePropertiesOf, entry_value, kept_revisions, stays_copy, present_number, NodeFaults, AreNodeFaultsOf, has_kept_path, is_unread_value, names_missing_source, names_outside, is_missing_number, copy_refused, property_faults, faults_read, copy_faults, no_node_faults, faults_of_kept, faults_of_unread, Numbers, AreFaultsBy, is_missing, misses_revision, AreNumbersBehind}
+use Rattle.dump_survey.proofs.Prelude.{◌≡◌, ℕ, Bool, true, false, not, ◌&&◌, ◌||◌, List, [], ◌∷◌, ◌++◌, Option, Some, None, refl, sym, ap, ap₂, ◌∙◌, subst, or-false, or_assoc, list_any, copy_revision_name, Property, IsPropertyBlock, Props, Entry, entry_property, props_bytes, both_true, header_number, DumpRecord, Settings, value_reads, value_misses, value_foreign, is_mergeinfo, is_node, is_kept_node, HasPropertyBlock, ArePropertiesOf, entry_value, kept_revisions, stays_copy, present_number, NodeFaults, AreNodeFaultsOf, has_kept_path, is_unread_value, names_missing_source, names_outside, is_missing_number, copy_refused, property_faults, faults_read, copy_faults, faults_of_kept, faults_of_unread, Numbers, AreFaultsBy, is_missing, misses_revision, AreNumbersBehind}
 use Rattle.std.specs.Prelude.{nat_lt}
 
 abbrev made : Bool → Bool → Bool → Bool → NodeFaults
@@ -10,10 +10,6 @@ made copy unread missing outside =
 -- revision.
 
 module _ (s : Settings) (first present : ℕ) (e : Entry) where
-  pub refused_of_other : is_mergeinfo (entry_property e) ≡ false
-      → no_node_faults ≡ property_faults s first present (entry_property e)
-  refused_of_other other = rw other refl
-
   pub refused_of_unread : is_mergeinfo (entry_property e) ≡ true → value_reads e.value.now ≡ false
       → made false true false false ≡ property_faults s first present (entry_property e)
   refused_of_unread named unread = rw (named, entry_value e, unread) refl
@@ -105,29 +101,3 @@ module _ (s : Settings) (numbers : Numbers) (r : DumpRecord) (node : is_node r �
       let same : ArePropertiesOf r None = subst (ArePropertiesOf r) is of in
       subst (λ b. AreNodeFaultsOf s before r (copy_faults b)) (sym (copy_is ∙ copy_by before behind))
       (faults_of_unread s before r (λ has. let bad : false ≡ true = same.there.1 has in cc))
-
--- the revision that a node is copied from
-
-module _ (s : Settings) (numbers : Numbers) (r : DumpRecord) (found : Option ℕ)
-    (is : found ≡ header_number copy_revision_name r.headers) where
-  pub no_copy_misses : found ≡ None → false ≡ misses_revision s numbers r
-  no_copy_misses none =
-      sym (ap (λ o. (s.renumber && is_kept_node s r && stays_copy s r) && is_missing numbers o) (sym is ∙ none)
-      ∙ never (s.renumber && is_kept_node s r && stays_copy s r))
-    where
-      never : (b : Bool) → (b && false) ≡ false
-      never true = refl
-      never false = refl
-
-  pub copy_misses : (number : ℕ) → found ≡ Some number → is_node r ≡ true → has_kept_path s r ≡ true
-      → (s.renumber && (stays_copy s r && is_missing numbers (Some number))) ≡ misses_revision s numbers r
-  copy_misses number some node kept =
-      by s.renumber (stays_copy s r)
-      ∙ sym (ap₂ (λ k o. (s.renumber && k && stays_copy s r) && is_missing numbers o)
-      (both_true (is_node r) (has_kept_path s r) node kept) (sym is ∙ some))
-    where
-      by : (a b : Bool) → (a && (b && is_missing numbers (Some number)))
-          ≡ ((a && true && b) && is_missing numbers (Some number))
-      by true true = refl
-      by true false = refl
-      by false b = refl

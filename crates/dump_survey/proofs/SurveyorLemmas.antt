@@ -1,7 +1,8 @@
 -- What a surveyor knows after one more record, and what it finds when the records end.
-use Rattle.dump_survey.proofs.Prelude.{◌≡◌, ◌⊎◌, ◌↔◌, ℕ, ◌+◌, ◌^◌, ◌<◌, ◌≤◌, Bool, true, false, not, ◌&&◌, ◌||◌, List, [], ◌∷◌, ◌++◌, length, length-append, map, filter, cond, Option, Some, None, refl, sym, ap, ap₂, ◌∙◌, subst, arith, inl, inr, Result, Ok, Err, IsTrue, MatchBool, list_all, and_from, Record, DumpRecord, record_text, is_lawful, IsCutInto, BeginsWithRecords, HasRecords, CutterState, EndsAfter, IsRecordOf, record_item, record_number, CutStep, count_fits, each_dump_has_one_list, begins_prefix, one_more, whole_list, Settings, bare_prefix, is_revision_record, is_node, alone, Place, DumpFindings, Tally, leaves_number, LeaveNumber, no_tally, next_tally, numbers_of, tally_behind, tally_findings, no_places, AreNextPlaces, ArePlaces, Finding, every_finding, is_found, AreFindingsOf, IsUnreadRevision, HasUnreadRevision, AreDumpFindingsOf, TellsNaming, findings_once, Found, End, Known, SurveyEnd, Step, Node, Finished, Memory, Numbers, has_found, node_faults, IsFoundIn, AreNumbersBehind, SurveyedNode, NodeReport, IsReportedOfNode, IsReportedOf, reported_in, report_with_prefix, listed, reported_of_finding, reported_of_node, listed_findings, survey_ending, HaveSame, PrefixReport, AreWithout, is_touched_by, prefixes_by, Surveying, Surveys, IsStepOf, ReportsEnd, ComesNext, open_behind, SurveyStep, ArePrefixesReported}
+use Rattle.dump_survey.proofs.Prelude.{◌≡◌, ◌⊎◌, ◌↔◌, ℕ, ◌+◌, ◌^◌, ◌<◌, ◌≤◌, Bool, true, false, not, ◌&&◌, ◌||◌, List, [], ◌∷◌, ◌++◌, length, length-append, map, filter, cond, Option, Some, None, refl, sym, ap, ap₂, ◌∙◌, subst, arith, inl, inr, Result, Ok, Err, IsTrue, MatchBool, list_all, and_from, Record, DumpRecord, record_text, is_lawful, IsCutInto, BeginsWithRecords, HasRecords, CutterState, EndsAfter, IsRecordOf, record_item, record_number, CutStep, one_more, whole_list, Settings, bare_prefix, is_revision_record, is_node, alone, Place, DumpFindings, Tally, leaves_number, LeaveNumber, no_tally, next_tally, numbers_of, tally_behind, tally_findings, no_places, AreNextPlaces, ArePlaces, Finding, every_finding, is_found, AreFindingsOf, IsUnreadRevision, HasUnreadRevision, AreDumpFindingsOf, TellsNaming, findings_once, Found, End, Known, SurveyEnd, Step, Node, Finished, Memory, Numbers, has_found, node_faults, IsFoundIn, AreNumbersBehind, SurveyedNode, NodeReport, IsReportedOfNode, IsReportedOf, reported_in, report_with_prefix, listed, reported_of_finding, reported_of_node, listed_findings, survey_ending, HaveSame, PrefixReport, AreWithout, is_touched_by, prefixes_by, Surveying, Surveys, IsStepOf, ReportsEnd, ComesNext, open_behind, SurveyStep, ArePrefixesReported}
 use Rattle.std.specs.Result.{IfOk}
 use Rattle.dump_records.specs.declared.cutter.Cut.TheVariants as cuts
+use Rattle.dump_records.proofs.CutterLemmas.{begins_with_none}
 use Rattle.dump_survey.specs.declared.findings.surveyor.Step.TheVariants.{Other}
 use Rattle.dump_survey.proofs.IdleLemmas.{all_idle, idle_more, reported_by_idle}
 use Rattle.dump_survey.proofs.TallyLemmas.{is_single, filter_same, tally_more, count_within, present_number, present_is}
@@ -37,30 +38,6 @@ pub comes_next : (dump : List ℕ) (before : List DumpRecord) (number : ℕ) (r 
     → BeginsWithRecords dump (before ++ r ∷ [])
 comes_next dump before number r begins count next =
     one_more dump before r begins ∣ subst (λ n. IsRecordOf dump n r) (sym count) next ∣₁
-
-module _ (dump : List ℕ) (cutter after : CutterState) (before : List DumpRecord) (dump_is : cutter.dump ≡ dump)
-    (begins : BeginsWithRecords dump before) (count : length before ≡ cutter.number) (item : Record)
-    (step : CutStep cutter (cuts.Item item) after) where
-  -- so does the record that a cutter returns
-  pub begins_next : BeginsWithRecords dump (before ++ record_item item ∷ [])
-  begins_next = subst (λ d. BeginsWithRecords d (before ++ record_item item ∷ [])) dump_is
-      (comes_next cutter.dump before cutter.number (record_item item)
-      (subst (λ d. BeginsWithRecords d before) (sym dump_is) begins) count step.2)
-
-  -- and the cutter is nearer to the end of the dump
-  pub nearer_by_one : (after.number ≡ cutter.number + 1) × (after.number ≤ length dump)
-  nearer_by_one =
-      let more = begins_next in
-      let fits = count_fits 0 0 dump more.0 (before ++ record_item item ∷ []) more.1 in
-      let size = length-append before (record_item item ∷ []) in
-      let number = ap (λ (c : CutterState). c.number) step.3 in
-      (number, omega (arith, count))
-
--- each dump begins with the empty list of records
-pub begins_with_none : (dump : List ℕ) → BeginsWithRecords dump []
-begins_with_none dump =
-    let (records, ending, has, once) = each_dump_has_one_list dump in
-    begins_prefix dump [] records (has.0, has.1, has.2)
 
 -- the state before the first record
 pub at_first : (dump : List ℕ) (settings : Settings) (prefixes : List (List ℕ)) (known : Known) (cutter : CutterState)

@@ -40,7 +40,7 @@ pub use Rattle.dump_text.specs.steps.ValuePlaces.{IsSpanOf, is_there, no_span, v
 pub use Rattle.dump_text.specs.steps.Views.{block_after, block_dump, block_headers, block_place, line_header, lines_left, lines_text}
 pub use Rattle.dump_text.specs.declared.fault.FaultKind.{FaultKind}
 pub use Rattle.dump_text.specs.declared.names.HeaderName.{HeaderName}
-pub use Rattle.dump_text.specs.declared.names.HeaderName.TheVariants.{ContentLength, FormatVersion, NodeAction, NodeCopyfromPath, NodeCopyfromRev, NodeKind, NodePath, PropContentLength, PropDelta, RevisionNumber, TextContentLength, TextContentMd5, TextContentSha1, TextCopySourceMd5, TextCopySourceSha1, TextDelta, Uuid}
+pub use Rattle.dump_text.specs.declared.names.HeaderName.TheVariants.{FormatVersion}
 pub use Rattle.dump_text.specs.declared.parts.Parts.{Parts}
 pub use Rattle.dump_text.specs.declared.parts.Parts.TheVariants.{Deleted, Set}
 pub use Rattle.dump_text.specs.declared.props.Entry.{Entry}

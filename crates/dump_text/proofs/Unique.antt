@@ -1,5 +1,5 @@
 -- A text begins with at most one block.
-use Rattle.dump_text.proofs.Prelude.{◌≡◌, ℕ, zero, suc, nat_lt, refl, sym, ◌∙◌, ap, subst, true, false, ◌&&◌, not, ◌==◌, List, [], ◌∷◌, ◌++◌, length, codes, arith, length-append, flat_map, nat_le, replicate, and_parts, not-true, or_right, list_all, known_names, has_byte, header_text, is_header, is_block, block_text, starts_with_lf, has_empty_line, BeginsWithBlock}
+use Rattle.dump_text.proofs.Prelude.{◌≡◌, ℕ, zero, suc, nat_lt, refl, sym, ◌∙◌, ap, subst, true, false, ◌&&◌, not, ◌==◌, List, [], ◌∷◌, ◌++◌, length, codes, arith, length-append, flat_map, nat_le, replicate, and_parts, not-true, list_all, known_names, has_byte, header_text, is_header, is_block, block_text, starts_with_lf, BeginsWithBlock}
 use Rattle.std.proofs.Common.{append_assoc}
 use Rattle.dump_text.proofs.BoolLemmas.{first_true, second_true, first_false, second_false}
 use Rattle.dump_text.specs.HeaderLine as line
@@ -169,28 +169,3 @@ blank_once (suc m) zero x y fx fy e = let impossible : true ≡ false = subst (�
 blank_once (suc m) (suc n) x y fx fy e =
     let rest = blank_once m n x y fx fy (tail-eq 10 10 (replicate m 10 ++ x) (replicate n 10 ++ y) e) in
     (ap suc rest.0, rest.1)
-
-empty_line_behind : (front text : List ℕ) → has_empty_line text ≡ true → has_empty_line (front ++ text) ≡ true
-empty_line_behind [] text h = h
-empty_line_behind (b ∷ front) text h =
-    or_right (b == 10 && starts_with_lf (front ++ text)) (has_empty_line (front ++ text))
-    (empty_line_behind front text h)
-
-lines_end : (h : line.Header) (hs : List line.Header) (x : List ℕ)
-    → has_empty_line (flat_map ended (h ∷ hs) ++ 10 ∷ x) ≡ true
-lines_end h [] x =
-    subst (λ (t : List ℕ). has_empty_line t ≡ true) (sym (regroup h [] (10 ∷ x)))
-    (empty_line_behind (header_text h) (10 ∷ 10 ∷ x) refl)
-lines_end h (k ∷ ks) x =
-    let more = flat_map ended (k ∷ ks) ++ 10 ∷ x in
-    let behind = or_right (starts_with_lf more) (has_empty_line more) (lines_end k ks x) in
-    subst (λ (t : List ℕ). has_empty_line t ≡ true) (sym (regroup h (k ∷ ks) (10 ∷ x)))
-    (empty_line_behind (header_text h) (10 ∷ more) behind)
-
--- a block has an empty line, so a text without one begins with no block
-pub block_ends : (text : List ℕ) (hs : List line.Header) (x : List ℕ) → BeginsWithBlock text hs x
-    → has_empty_line text ≡ true
-block_ends text [] x b = let impossible : false ≡ true = b.block in cc
-block_ends text (h ∷ hs) x b =
-    let e = b.spelled ∙ append_assoc (flat_map ended (h ∷ hs)) (10 ∷ []) x in
-    subst (λ (t : List ℕ). has_empty_line t ≡ true) (sym e) (lines_end h hs x)

@@ -1,7 +1,6 @@
 -- The names of std, of the definitions and of the lemmas below, for the proofs of this crate.
-pub use Rattle.std.specs.Prelude.{slice_get, take}
+pub use Rattle.std.specs.Prelude.{slice_get}
 pub use Rattle.std.proofs.Common.{IsFalse, IsTrue, MatchBool, ap, append-nil, append_assoc, ap₂, arith, bytes_eq, codes, cond, count_by, drop, filter, if◌then◌else◌, inl, inr, map, nat_eq, nat_le, nat_lt, not, option_map, refl, subst, subst₂, suc, sym, unwrap_or, zero, ◌+◌, ◌<◌, ◌==◌, ◌||◌, ◌∙◌, ◌≡◌, ◌≤◌, ◌⊎◌}
-pub use Rattle.std.proofs.Math.Seq.{take-append_seam}
 pub use Rattle.std.proofs.lemmas.Bool.{MatchBool-at_false, MatchBool-at_true, and_cases, and_from, and_parts, both_ways, cond-false, cond-true, eqb-true, le-leb, le-ltb, leb-true, lt-leb, lt-ltb, ltb-true, not-false, not-true, not_from_false, not_from_true, or_cases, or_from, or_left, or_parts, or_right}
 pub use Rattle.std.proofs.lemmas.List.{nil_from_length}
 pub use Rattle.std.proofs.lemmas.List.Folds.{list_all-append}

@@ -9,5 +9,6 @@ pub mod PlainLooks
 pub mod EverKept
 pub mod DeleteLemmas
 pub mod PlacedCopies
+pub mod FirstChanges
 pub mod EverSiblings
 pub mod RestLemmas

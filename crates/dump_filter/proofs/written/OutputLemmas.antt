@@ -1,17 +1,6 @@
 -- What is written for a record, from its parts.
-use Rattle.dump_filter.proofs.Prelude.{◌≡◌, ℕ, Bool, false, List, ◌++◌, ap, sym, ◌∙◌, subst, append_assoc, codes, Some, None, Result, Ok, Err, revision_name, Header, block_text, Property, DumpRecord, CopyChange, Same, Changes, with_lengths, revision_properties, new_block, AreLengths, new_record, whole_text, copied_headers, revision_own, node_own, put_all}
-use Rattle.std.specs.Result.{OnOk, IfOk}
+use Rattle.dump_filter.proofs.Prelude.{◌≡◌, ℕ, Bool, false, List, ◌++◌, ap, sym, ◌∙◌, subst, append_assoc, codes, Some, None, revision_name, Header, block_text, Property, DumpRecord, CopyChange, Same, Changes, with_lengths, revision_properties, new_block, AreLengths, new_record, whole_text, copied_headers, revision_own, node_own, put_all}
 use Rattle.dump_filter.proofs.written.LineLemmas.{lengths_are}
-
--- a claim about an Ok result implies a weaker one
-pub on_ok : {T E : Type 0} (r : Result T E) (P Q : Type 0) → (P → Q) → OnOk r P → OnOk r Q
-on_ok (Ok x) P Q f p = f p
-on_ok (Err e) P Q f p = tt
-
--- a claim about the value of an Ok result implies a weaker one
-pub if_ok : {T E : Type 0} (r : Result T E) (P Q : T → Type 0) → ((x : T) → P x → Q x) → IfOk r P → IfOk r Q
-if_ok (Ok x) P Q f p = f x p
-if_ok (Err e) P Q f p = tt
 
 -- the lines, and what follows them
 pub lines_out : (old lines props text end one new : List ℕ) → one ≡ old ++ lines → new ≡ one ++ (props ++ text ++ end)

@@ -1,6 +1,7 @@
 -- The groups of what is written, read again: those of the kept groups, with their kept nodes.
 use Rattle.dump_history.proofs.Prelude.{◌≡◌, ◌==◌, Bool, true, ◌&&◌, ◌||◌, refl, sym, ap, ◌∙◌, subst, take_while, if◌then◌else◌, MatchBool, list_any, take_while-cons, first_false, second_false, absurd_bool, DumpRecord, is_lawful, Settings, KeptRevisions, is_revision_record, is_node, is_kept_node, Group, group_of, groups, group_number, is_bare, has_kept_node, keeps_empty, keeps_group, is_written, alone, AllLawful, IsReadAgain, AreReadAgain}
 use Rattle.std.proofs.Common.{ℕ, false, List, [], ◌∷◌}
+use Rattle.std.proofs.Math.Bool.{and-true}
 
 module _ (settings : Settings) (kept : KeptRevisions) where
   -- the second record is what is written of the first one, read again
@@ -52,11 +53,7 @@ module _ (settings : Settings) (kept : KeptRevisions) where
 
   is_written-revision : (r : DumpRecord) (after : List DumpRecord) → is_revision_record r ≡ true
       → is_written settings true r after ≡ keeps_group settings (group_of r after)
-  is_written-revision r after rev = rw rev (also_true (keeps_group settings (group_of r after)))
-    where
-      also_true : (b : Bool) → (b && true) ≡ b
-      also_true true = refl
-      also_true false = refl
+  is_written-revision r after rev = rw rev (and-true (keeps_group settings (group_of r after)))
 
   is_written-other : (r : DumpRecord) (after : List DumpRecord) → is_revision_record r ≡ false
       → is_written settings true r after ≡ (if is_node r then is_kept_node settings r else true)

@@ -9,10 +9,10 @@ use Rattle.dump_trees.proofs.changes.CutLemmas.{gives_root}
 use Rattle.dump_history.specs.ExpandedText.{made_in_stead}
 use Rattle.dump_history.specs.CutDumps.{leaves_no_gap, FiltersExpansion, TreeRelation, TreeRestricts, LoadsNew, LoadsNumbered, ExcludedDumpLoads, ExcludedDumpLoadsNumbered}
 use Rattle.dump_history.proofs.again.DumpAgain.{numbered_from, kept_revisions_are}
-use Rattle.dump_history.proofs.restricted.FrontSize.{trees_count}
 use Rattle.dump_history.proofs.expanded.ExpandedLaw.{expanded_dump_loads}
 use Rattle.dump_history.proofs.expanded.SteadLemmas.{with_records, filtered_texts_restrict}
 use Rattle.dump_history.proofs.cuts.OwnNumbers.{numbers_are_kept, own_images, filter_same, zip_from_gets, zip_length, same_properties}
+use Rattle.dump_trees.proofs.cuts.CheckedLoads.{loaded_size}
 
 module _ (patched : Patching) (settings : Settings) (dump filtered : List ℕ) (records again : List DumpRecord)
     (revisions : List (List Change)) (trees : List Tree)
@@ -63,7 +63,7 @@ module _ (patched : Patching) (settings : Settings) (dump filtered : List ℕ) (
     groups_count =
         zip_length (MakeChanges patched) (groups again) ([] ∷ made_in_stead records f.steads revisions)
         expansion_loads.0.makes.changes
-        ∙ sym (trees_count root_alone (made_in_stead records f.steads revisions) trees expansion_loads.0.loads)
+        ∙ sym (loaded_size root_alone (made_in_stead records f.steads revisions) trees expansion_loads.0.loads)
 
     kept_count : length (kept_revisions settings again).numbers ≡ length trees
     kept_count = ap (λ (gs : List Group). length (map group_number gs)) (filter_same settings pad (groups again))

@@ -1,5 +1,5 @@
 -- The law of trimmed dumps that are renumbered.
-use Rattle.dump_history.proofs.Prelude.{◌≡◌, Bool, true, ◌++◌, drop, refl, sym, ap, ◌∙◌, subst, or_left, MatchBool, MatchBool-at_false, slice_get, AllZip, Property, Settings, KeptRevisions, HasPropertyList, Group, groups, keeps, keeps_group, keeps_revision, kept_revisions, image, Tree, root_alone, Change, NewProperty, NewNumber, IsWrittenNumber, AreNewChanges, AreNewRevisions, kept_of, IsNewProperty, KeepsProperties}
+use Rattle.dump_history.proofs.Prelude.{◌≡◌, Bool, true, ◌++◌, drop, refl, sym, ap, ◌∙◌, subst, or_left, MatchBool-at_false, slice_get, AllZip, Property, Settings, KeptRevisions, HasPropertyList, Group, groups, keeps, keeps_group, keeps_revision, kept_revisions, image, Tree, root_alone, Change, NewProperty, NewNumber, IsWrittenNumber, AreNewChanges, AreNewRevisions, kept_of, IsNewProperty, KeepsProperties}
 use Rattle.std.proofs.Common.{false, List, [], ◌∷◌, length}
 use Rattle.std.specs.Prelude.{filter}
 use Rattle.std.proofs.lemmas.Bool.{MatchBool-at_true}
@@ -8,7 +8,7 @@ use Rattle.dump_filter.specs.NewContent.{revision_properties}
 use Rattle.dump_trees.specs.Changes.{History}
 use Rattle.dump_trees.specs.HistoryLaws.{ImagesRestrict}
 use Rattle.dump_trees.specs.Trimming.{AreTrimmedChanges, AreTrimmedFiltered}
-use Rattle.dump_trees.proofs.expansions.TrimmedNumbers.{trimmed_filtered}
+use Rattle.dump_trees.proofs.expansions.TrimmedNumbers.{trimmed_filtered, at_true, at_false}
 use Rattle.dump_history.specs.WrittenNodes.{WrittenNode}
 use Rattle.dump_history.specs.TrimmedDumps.{part_groups, changes_behind, revisions_with, IsTrimmedText, AreTrimming, stays_empty, AreFilteredTrimming, TrimmedDumpLoadsRenumbered}
 use Rattle.dump_history.proofs.again.NodeChanges.{entries_kept}
@@ -17,15 +17,9 @@ use Rattle.dump_history.proofs.restricted.LoadsOnce.{whole_records_once}
 use Rattle.dump_history.proofs.cuts.OwnNumbers.{numbers_are_kept}
 use Rattle.dump_history.proofs.cuts.TrimmedTexts.{trimmed_texts_are_dumps}
 
-at_true : (A B : Type 0) (b : Bool) → b ≡ true → A → MatchBool b A B
-at_true A B b is a = subst (λ c. MatchBool c A B) (sym is) a
-
-at_false : (A B : Type 0) (b : Bool) → b ≡ false → B → MatchBool b A B
-at_false A B b is a = subst (λ c. MatchBool c A B) (sym is) a
-
 module _ (settings : Settings) (IsNew : NewProperty) (IsNumber : NewNumber) where
   -- the changes of a revision
-  changes_trimmed : (history : History) (changes new : List Change) (behind : List (List WrittenNode)) (before : Tree)
+  pub changes_trimmed : (history : History) (changes new : List Change) (behind : List (List WrittenNode)) (before : Tree)
       → AreNewChanges settings IsNew IsNumber changes new → AreTrimming settings history before changes behind
       → AreTrimmedChanges settings IsNew IsNumber history before changes (changes_behind behind new)
   changes_trimmed history [] new behind before none nothing = ap (λ b. changes_behind b new) nothing

@@ -1,10 +1,9 @@
 -- The law of dumps whose copies are trimmed.
-use Rattle.dump_history.proofs.Prelude.{◌≡◌, ◌==◌, Bool, true, ◌++◌, drop, refl, sym, ap, ◌∙◌, subst, or_right, MatchBool, MatchBool-at_false, slice_get, list_any, AllZip, Settings, KeptRevisions, kept_revisions, groups, keeps, keeps_revision, Tree, root_alone, Change, Made, NewProperty, IsNewMade, IsNewChange, IsWrittenNumber, EmptyRule, AreNewChanges, AreNewRevisions, kept_of, IsNewProperty, KeepsProperties}
+use Rattle.dump_history.proofs.Prelude.{◌≡◌, ◌==◌, Bool, true, ◌++◌, drop, refl, sym, ap, ◌∙◌, subst, or_right, MatchBool-at_false, slice_get, list_any, AllZip, Settings, KeptRevisions, kept_revisions, groups, keeps, keeps_revision, Tree, root_alone, Change, Made, NewProperty, IsNewMade, IsNewChange, IsWrittenNumber, EmptyRule, AreNewChanges, AreNewRevisions, kept_of, IsNewProperty, KeepsProperties}
 use Rattle.std.proofs.Common.{false, List, [], ◌∷◌, Option, Some, None, length, is_some, not, ◌&&◌}
 use Rattle.std.proofs.lemmas.Bool.{MatchBool-at_true}
 use Rattle.dump_filter.specs.Groups.{is_pad, keeps_empty}
-use Rattle.dump_trees.specs.Changes.{History}
-use Rattle.dump_trees.specs.Trimming.{AreTrimmedChanges, IsSameNumber, AreTrimmedRevisions}
+use Rattle.dump_trees.specs.Trimming.{IsSameNumber, AreTrimmedRevisions}
 use Rattle.dump_filter.specs.FilterLaws.{keep_all}
 use Rattle.dump_trees.specs.Quiet.{is_quiet_kept}
 use Rattle.dump_trees.specs.Restriction.{is_lost}
@@ -13,19 +12,15 @@ use Rattle.dump_trees.proofs.expansions.CaseLemmas.{separated_expands}
 use Rattle.dump_trees.proofs.expansions.TrimmedHistories.{trimmed_history}
 use Rattle.dump_history.specs.WrittenNodes.{WrittenNode}
 use Rattle.dump_history.specs.CutDumps.{leaves_no_gap}
-use Rattle.dump_history.specs.TrimmedDumps.{part_groups, changes_behind, revisions_with, IsTrimmedText, AreTrimming, AreAllTrimming, TrimmedDumpLoads, EachChangeStays, EachBranchIsCutAlike}
+use Rattle.dump_history.specs.TrimmedDumps.{part_groups, changes_behind, revisions_with, IsTrimmedText, AreAllTrimming, TrimmedDumpLoads, EachChangeStays, EachBranchIsCutAlike}
 use Rattle.dump_history.proofs.again.GroupChanges.{empty_rule}
 use Rattle.dump_history.proofs.again.NodeChanges.{entries_kept}
 use Rattle.dump_history.proofs.restricted.FilteredLaw.{is_left}
 use Rattle.dump_history.proofs.restricted.LoadsOnce.{whole_records_once}
 use Rattle.dump_history.proofs.cuts.OwnNumbers.{numbers_are_kept, filter_same, same_properties}
 use Rattle.dump_history.proofs.cuts.TrimmedTexts.{trimmed_texts_are_dumps}
-
-at_true : (A B : Type 0) (b : Bool) → b ≡ true → A → MatchBool b A B
-at_true A B b is a = subst (λ c. MatchBool c A B) (sym is) a
-
-at_false : (A B : Type 0) (b : Bool) → b ≡ false → B → MatchBool b A B
-at_false A B b is a = subst (λ c. MatchBool c A B) (sym is) a
+use Rattle.dump_trees.proofs.expansions.TrimmedNumbers.{at_true, at_false}
+use Rattle.dump_history.proofs.cuts.RenumberedLaw.{changes_trimmed}
 
 -- what is written of changes, if the numbers don't change
 
@@ -59,39 +54,20 @@ module _ (settings : Settings) (kept : KeptRevisions) (stays : settings.renumber
   }
 
   module _ (IsNew : NewProperty) where
-    -- the changes of a revision
-    changes_trimmed : (history : History) (changes new : List Change) (behind : List (List WrittenNode)) (before : Tree)
-        → AreNewChanges settings IsNew (IsWrittenNumber settings kept) changes new
-        → AreTrimming settings history before changes behind
-        → AreTrimmedChanges settings IsNew IsSameNumber history before changes (changes_behind behind new)
-    changes_trimmed history [] new behind before none nothing = ap (λ b. changes_behind b new) nothing
-    changes_trimmed history (c ∷ changes) new behind before are trims =
-        sides (λ rest more t. changes_trimmed history changes rest more t) (keeps settings c.path) refl
+    -- the changes of a revision, which keep their numbers
+    own_changes : (changes new : List Change) → AreNewChanges settings IsNew (IsWrittenNumber settings kept) changes new
+        → AreNewChanges settings IsNew IsSameNumber changes new
+    own_changes [] new are = are
+    own_changes (c ∷ changes) new are = sides (λ rest. own_changes changes rest) (keeps settings c.path) refl
       where
-        Later : Type 0
-        Later = (rest : List Change) (more : List (List WrittenNode)) (t : Tree)
-            → AreNewChanges settings IsNew (IsWrittenNumber settings kept) changes rest
-            → AreTrimming settings history t changes more
-            → AreTrimmedChanges settings IsNew IsSameNumber history t changes (changes_behind more rest)
-
-        sides : Later → (b : Bool) → keeps settings c.path ≡ b
-            → AreTrimmedChanges settings IsNew IsSameNumber history before (c ∷ changes) (changes_behind behind new)
-        sides later true is =
+        sides : ((rest : List Change) → AreNewChanges settings IsNew (IsWrittenNumber settings kept) changes rest
+            → AreNewChanges settings IsNew IsSameNumber changes rest)
+            → (b : Bool) → keeps settings c.path ≡ b → AreNewChanges settings IsNew IsSameNumber (c ∷ changes) new
+        sides further true is =
             let (one, rest, written, is_new, others) = MatchBool-at_true _ _ is are in
-            let (nodes, more, rests, listed, deleted, trimmed, further) = MatchBool-at_true _ _ is trims in
-            at_true _ _ (keeps settings c.path) is (
-              one,
-              rests,
-              changes_behind more rest,
-              (λ i. changes_behind (listed i) (written i))
-                  ∙ ap (λ ds. one ∷ (ds ++ changes_behind more rest)) deleted,
-              own_change IsNew c one is_new,
-              trimmed,
-              λ after at. later rest more after others (further after at),
-            )
-        sides later false left =
-            at_false _ _ (keeps settings c.path) left (λ after at. later new behind after (MatchBool-at_false _ _ left are)
-            (MatchBool-at_false _ _ left trims after at))
+            at_true _ _ (keeps settings c.path) is (one, rest, written, own_change IsNew c one is_new, further rest others)
+        sides further false left =
+            at_false _ _ (keeps settings c.path) left (further new (MatchBool-at_false _ _ left are))
 
     -- the revisions, if each stays
     revisions_trimmed : (rule : EmptyRule) → ((changes : List Change) → rule changes ≡ true)
@@ -107,7 +83,8 @@ module _ (settings : Settings) (kept : KeptRevisions) (stays : settings.renumber
           changes_behind first new,
           revisions_with rest others,
           (λ i. revisions_with (listed i) (is i)),
-          changes_trimmed (slice_get trees) changes new first youngest one trims,
+          changes_trimmed settings IsNew IsSameNumber (slice_get trees) changes new first youngest (own_changes changes new one)
+              trims,
           λ tree at. revisions_trimmed rule all revisions others rest (trees ++ tree ∷ []) tree more (further tree at),
         )
       where

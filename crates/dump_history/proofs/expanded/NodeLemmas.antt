@@ -154,9 +154,6 @@ module _ (number place version : ℕ) (after : List ℕ) (above : 0 < number) wh
   alone_is : (n : ℕ) → (n == n + 0) ≡ true
   alone_is n = grind arith
 
-  same_is : (n : ℕ) → (n == n) ≡ true
-  same_is n = equals_itself n
-
   making_plain : (replaces : Bool) → has_byte 10 (making_word replaces) ≡ false
   making_plain true = refl
   making_plain false = refl
@@ -184,7 +181,7 @@ module _ (number place version : ℕ) (after : List ℕ) (above : 0 < number) wh
         number_of-spelled _ f.block.small,
         number_of-spelled _ f.size.small,
         number_of-spelled _ f.sum.small,
-        same_is (length (property_block_text entries) + length text),
+        equals_itself (length (property_block_text entries) + length text),
       ) refl
   file_lawful replaces path entries text (Some md5) None f =
       rw (
@@ -192,7 +189,7 @@ module _ (number place version : ℕ) (after : List ℕ) (above : 0 < number) wh
         number_of-spelled _ f.block.small,
         number_of-spelled _ f.size.small,
         number_of-spelled _ f.sum.small,
-        same_is (length (property_block_text entries) + length text),
+        equals_itself (length (property_block_text entries) + length text),
       ) refl
   file_lawful replaces path entries text None (Some sha1) f =
       rw (
@@ -200,7 +197,7 @@ module _ (number place version : ℕ) (after : List ℕ) (above : 0 < number) wh
         number_of-spelled _ f.block.small,
         number_of-spelled _ f.size.small,
         number_of-spelled _ f.sum.small,
-        same_is (length (property_block_text entries) + length text),
+        equals_itself (length (property_block_text entries) + length text),
       ) refl
   file_lawful replaces path entries text (Some md5) (Some sha1) f =
       rw (
@@ -208,7 +205,7 @@ module _ (number place version : ℕ) (after : List ℕ) (above : 0 < number) wh
         number_of-spelled _ f.block.small,
         number_of-spelled _ f.size.small,
         number_of-spelled _ f.sum.small,
-        same_is (length (property_block_text entries) + length text),
+        equals_itself (length (property_block_text entries) + length text),
       ) refl
 
   file_record : (replaces : Bool) (path : List ℕ) (entries : List Property) (text : List ℕ) (md5 sha1 : Option (List ℕ))

@@ -7,8 +7,9 @@ use Rattle.dump_history.proofs.again.GroupsAgain.{keeps_first, AreGroupsAgain, g
 use Rattle.dump_history.proofs.again.GroupChanges.{GroupsMake, empty_rule, AreNumberedFrom}
 use Rattle.dump_history.proofs.again.GroupNumbers.{renumbered_again, same_again, properties_again}
 use Rattle.dump_history.proofs.again.OrderAgain.{none_behind, order_again}
-use Rattle.dump_history.proofs.restricted.FrontSize.{kept_count, trees_count}
+use Rattle.dump_history.proofs.restricted.FrontSize.{kept_count}
 use Rattle.dump_history.proofs.again.DumpAgain.{groups_are, numbered_from, counted_from, kept_revisions_are, none_named, CountToGap, counts_without, counts_with, revisions_change}
+use Rattle.dump_trees.proofs.cuts.CheckedLoads.{loaded_size}
 
 -- the clean text that the filter writes of a dump that makes these revisions
 module _ (patched : Patching) (settings : Settings) (dump text : List ℕ) (records : List DumpRecord)
@@ -165,7 +166,7 @@ filtered_front_restricts patched settings dump text records front rest trees cle
           ∙ kept_count patched settings (groups records) front rest (groups_are records).1
           (numbered_from 0 (groups records) makes.numbered) makes.changes
           ∙ ap (λ n. length (filter (keeps_group settings) (take n (groups records))))
-          (sym (trees_count root_alone front trees loads)),
+          (sym (loaded_size root_alone front trees loads)),
       subst (λ (k : KeptRevisions). ImagesRestrict settings
           (IsNewProperty settings (kept_revisions settings records)) (image k) trees part.others) same part.images,
       left.properties,

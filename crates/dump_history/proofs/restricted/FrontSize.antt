@@ -1,6 +1,6 @@
 -- How many of the first revisions of a dump the filter keeps.
-use Rattle.dump_history.proofs.Prelude.{◌≡◌, suc, ◌+◌, Bool, true, ◌++◌, length, refl, ap, ◌∙◌, arith, if◌then◌else◌, take, Settings, Group, group_number, keeps_group, Tree, Change, loaded_over, keeps_revision, kept_from, kept_of, loaded_length, Patching}
-use Rattle.std.proofs.Common.{ℕ, false, List, [], ◌∷◌, Some}
+use Rattle.dump_history.proofs.Prelude.{◌≡◌, suc, ◌+◌, Bool, true, ◌++◌, length, refl, ap, ◌∙◌, if◌then◌else◌, take, Settings, Group, group_number, keeps_group, Change, keeps_revision, kept_from, kept_of, Patching}
+use Rattle.std.proofs.Common.{ℕ, false, List, [], ◌∷◌}
 use Rattle.std.specs.Prelude.{filter}
 use Rattle.dump_history.proofs.again.GroupChanges.{GroupsMake, empty_rule, AllHaveNodes, AreNumberedFrom, later_number, kept_group}
 use Rattle.dump_history.proofs.again.DumpAgain.{first_kept}
@@ -34,10 +34,3 @@ kept_count patched settings [] front rest are numbered make = absurd make
 kept_count patched settings (g ∷ gs) front rest are numbered make =
     rw (first_kept patched settings g numbered.0)
     (ap suc (front_count patched settings 0 gs front rest are.1 numbered.1 make.1))
-
--- a repository has one tree more than revisions were loaded over its first tree
-pub trees_count : (first : Tree) (front : List (List Change)) (trees : List Tree) → loaded_over first front ≡ Some trees
-    → length trees ≡ suc (length front)
-trees_count first front trees is =
-    loaded_length (first ∷ []) first front trees is
-    ∙ (let one : length (first ∷ []) + length front ≡ suc (length front) = omega arith in one)

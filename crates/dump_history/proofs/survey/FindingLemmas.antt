@@ -4,6 +4,7 @@ use Rattle.dump_history.proofs.Prelude.{◌≡◌, ◌⊎◌, ◌↔◌, ◌<◌
 use Rattle.std.proofs.Common.{ℕ, false, List, [], ◌∷◌, filter, Some}
 use Rattle.std.specs.Prelude.{nat_lt, nat_le}
 use Rattle.dump_history.proofs.again.NodeChanges.{makes_change, node_change, change_is}
+use Rattle.std.proofs.lemmas.Bool.{not-false}
 
 -- some element that passes one test passes another one exactly if some element passes both
 pub any_filtered : {X : Type 0} (test p : X → Bool) (xs : List X)
@@ -306,18 +307,14 @@ module _ (patched : Patching) (settings : Settings) (r : DumpRecord) (m : NodeFa
   change_made : (ps : List Property) → makes_change r ≡ true → change_of patched r ps ≡ Some (node_change patched r ps)
   change_made ps is = ap (λ b. if b then Some (node_change patched r ps) else None) is
 
-  denied : (b : Bool) → not b ≡ false → b ≡ true
-  denied true is = refl
-  denied false is = cc
-
   made_where_none : (ps : List Property) → HasPropertyList r ps
       → list_any is_obstacle (findings_of settings r (Some ps) m) ≡ false → (c : Change) × MakesChange patched r c
   made_where_none ps list none =
       let all = sym (obstacles ps) ∙ none in
       let further = second_false (has_undefined_delta r) _ all in
       let last = second_false (not (has_known_action r)) _ further in
-      let known = denied (has_known_action r) (first_false (not (has_known_action r)) _ further) in
-      let plain = denied (loads_as_written r ps) (first_false (not (loads_as_written r ps)) false last) in
+      let known = not-false (has_known_action r) (first_false (not (has_known_action r)) _ further) in
+      let plain = not-false (loads_as_written r ps) (first_false (not (loads_as_written r ps)) false last) in
       let both = both_true (has_known_action r) (not (has_undefined_delta r)) known
       (not_false (has_undefined_delta r) (first_false (has_undefined_delta r) _ all)) in
       (node_change patched r ps, (ps, list, plain, change_made ps both))

@@ -1,11 +1,13 @@
 -- If a survey finds nothing, the premise of the law of filtered dumps is true.
-use Rattle.dump_history.proofs.Prelude.{◌≡◌, zero, suc, Bool, true, not, ◌&&◌, ◌||◌, ◌==◌, ◌++◌, length, take_while, if◌then◌else◌, MatchBool, Option, None, refl, sym, ap, ◌∙◌, subst, inl, append_assoc, AllZip, list_all, list_any, last_or, eqb-true, both_ways, nil_from_length, Order, first_true, second_true, first_false, second_false, both_true, not_true, not_so, DumpRecord, Settings, is_revision_record, is_node, Group, group_of, groups, revision_numbers, is_bare, ends_in_group, AreFaultFree, Change, is_quiet, are_quiet, Patching, MakesChange, counts_from, has_ordered_nodes, MakeChanges, MakeRevisions, NamesRevisionBehind, KeepsNamedNumbers, MakePartRevisions, Finding, begins_at, has_source_before, AreFindingsOf, is_obstacle, is_alarm, every_dump_finding, rise, first_has_node, is_found_in_dump, HasUnreadRevision, AreDumpFindingsOf, AreFindingsBehind, HaveFindingsBehind, none_is, RestrictsFrom, SurveyedDumpRestricts, SurveyedDumpFrontRestricts}
-use Rattle.std.proofs.Common.{ℕ, false, List, [], ◌∷◌, Some}
+use Rattle.dump_history.proofs.Prelude.{◌≡◌, zero, suc, Bool, true, not, ◌&&◌, ◌||◌, ◌==◌, ◌++◌, length, take_while, if◌then◌else◌, MatchBool, None, refl, sym, ap, ◌∙◌, subst, inl, append_assoc, AllZip, list_all, list_any, last_or, eqb-true, both_ways, nil_from_length, Order, first_true, second_true, first_false, second_false, both_true, not_true, not_so, DumpRecord, Settings, is_revision_record, is_node, Group, group_of, groups, revision_numbers, is_bare, ends_in_group, AreFaultFree, Change, is_quiet, are_quiet, Patching, MakesChange, counts_from, has_ordered_nodes, MakeChanges, MakeRevisions, NamesRevisionBehind, KeepsNamedNumbers, MakePartRevisions, Finding, begins_at, has_source_before, AreFindingsOf, is_obstacle, is_alarm, every_dump_finding, rise, first_has_node, is_found_in_dump, HasUnreadRevision, AreDumpFindingsOf, AreFindingsBehind, HaveFindingsBehind, none_is, RestrictsFrom, SurveyedDumpRestricts, SurveyedDumpFrontRestricts}
+use Rattle.std.proofs.Common.{ℕ, false, List, [], ◌∷◌}
 use Rattle.dump_history.proofs.survey.FindingLemmas.{none_passes, obstacles_exact, alarms_exact}
 use Rattle.dump_history.proofs.survey.PartLemmas.{groups_lowered, lowered_quiet}
 use Rattle.dump_history.proofs.restricted.FilteredLaw.{quiet_dump_restricts, quiet_front_restricts}
 use Rattle.dump_history.proofs.restricted.DirectoryLaw.{quiet_dump_restricts_behind}
 use Rattle.dump_history.proofs.restricted.PartLaw.{quiet_part_restricts}
+use Rattle.std.proofs.lemmas.Bool.{not-false}
+use Rattle.dump_rules.proofs.ReachLemmas.{last_or_pushed}
 
 -- what is found in the nodes
 
@@ -128,11 +130,6 @@ module _ (patched : Patching) (settings : Settings) where
 
 -- what is found in the dump
 
--- the last element of a list with one more
-last_pushed : {A : Type 0} (o : Option A) (xs : List A) (x : A) → last_or o (xs ++ x ∷ []) ≡ Some x
-last_pushed o [] x = refl
-last_pushed o (y ∷ xs) x = last_pushed (Some y) xs x
-
 may_stand : (node follows : Bool) → (node && not follows) ≡ false → (not node || follows) ≡ true
 may_stand true true none = refl
 may_stand true false none = cc
@@ -148,7 +145,7 @@ module _ (settings : Settings) (all : List DumpRecord) (free : AreFaultFree sett
       (has_ordered_nodes (is_revision_record r || is_node r) rest)
       (may_stand (is_node r) (ends_in_group (last_or None before))
       (not_so (is_node r && not (ends_in_group (last_or None before))) (λ out. free before rest r at Order (inl out))))
-      (subst (λ o. has_ordered_nodes (ends_in_group o) rest ≡ true) (last_pushed None before r)
+      (subst (λ o. has_ordered_nodes (ends_in_group o) rest ≡ true) (last_or_pushed None before r)
       (order_behind (before ++ r ∷ []) rest (at ∙ sym (append_assoc before (r ∷ []) rest))))
 
   pub order_of : has_ordered_nodes false all ≡ true
@@ -164,20 +161,16 @@ module _ (settings : Settings) (records : List DumpRecord) (nothing : AreDumpFin
   each_none = none_passes (λ f. is_found_in_dump settings records nothing.0 f) every_dump_finding
       (sym nothing.2)
 
-  denied : (b : Bool) → not b ≡ false → b ≡ true
-  denied true is = refl
-  denied false is = cc
-
   some_group : (length (groups records) == 0) ≡ false
   some_group = first_false (length (groups records) == 0) _ each_none
 
   is_numbered : counts_from (begins_at records) (revision_numbers records) ≡ true
-  is_numbered = denied (counts_from (begins_at records) (revision_numbers records))
+  is_numbered = not-false (counts_from (begins_at records) (revision_numbers records))
       (first_false (not (counts_from (begins_at records) (revision_numbers records))) _
       (second_false (length (groups records) == 0) _ each_none))
 
   pub numbers_rise : rise (revision_numbers records) ≡ true
-  numbers_rise = denied (rise (revision_numbers records))
+  numbers_rise = not-false (rise (revision_numbers records))
       (first_false (not (rise (revision_numbers records))) _
       (second_false (not (counts_from (begins_at records) (revision_numbers records))) _
       (second_false (length (groups records) == 0) _ each_none)))
@@ -207,7 +200,7 @@ module _ (settings : Settings) (records : List DumpRecord) (nothing : AreDumpFin
   no_source_before = first_false (has_source_before (begins_at records) (groups records)) _ behind_first
 
   pub nodes_stand : has_ordered_nodes false records ≡ true
-  nodes_stand = denied (has_ordered_nodes false records) (first_false (not (has_ordered_nodes false records)) _
+  nodes_stand = not-false (has_ordered_nodes false records) (first_false (not (has_ordered_nodes false records)) _
       (second_false (has_source_before (begins_at records) (groups records)) _ behind_first))
 
   none_left : (not settings.renumber && nothing.0.named) ≡ false
@@ -228,12 +221,8 @@ no_changes : (patched : Patching) (g : Group) (changes : List Change) → not (i
     → MakeChanges patched g changes → changes ≡ []
 no_changes patched g changes bare make =
     none changes (subst (λ nodes. AllZip (MakesChange patched) nodes changes) (nil_from_length g.nodes
-    (eqb-true (length g.nodes) 0 (is_so (is_bare g) bare))) make)
+    (eqb-true (length g.nodes) 0 (not-false (is_bare g) bare))) make)
   where
-    is_so : (b : Bool) → not b ≡ false → b ≡ true
-    is_so true is = refl
-    is_so false is = cc
-
     none : (changes : List Change) → AllZip (MakesChange patched) [] changes → changes ≡ []
     none [] make = refl
     none (c ∷ changes) make = absurd make
@@ -264,11 +253,7 @@ front_behind patched settings (g ∷ gs) first found behind some bare all none =
   where
     bare_group : (g : Group) → not (is_bare g) ≡ false → MakeChanges patched g []
     bare_group g bare = subst (λ nodes. AllZip (MakesChange patched) nodes []) (sym (nil_from_length g.nodes
-        (eqb-true (length g.nodes) 0 (is_so (is_bare g) bare)))) tt
-      where
-        is_so : (b : Bool) → not b ≡ false → b ≡ true
-        is_so true is = refl
-        is_so false is = cc
+        (eqb-true (length g.nodes) 0 (not-false (is_bare g) bare)))) tt
 
 -- if nothing is found, the law of filtered dumps is true
 pub surveyed_dump : SurveyedDumpRestricts

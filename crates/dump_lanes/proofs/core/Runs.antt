@@ -1,7 +1,6 @@
 -- Every run of the pool leads to a sound state.
-use Rattle.dump_lanes.proofs.Prelude.{◌≡◌, ℕ, ◌+◌, ◌<◌, ◌≤◌, All, List, [], ◌∷◌, ◌++◌, length, get_or, option_to_list, sym, ap, ◌∙◌, subst, arith, concat, range_with_len, get_or_default, length-replicate, length-range_with_len, PoolSize, Entry, World, opening, items_in_hands, items_on_the_way, items_released, all_items, Event, is_enabled, after_event, IsRun, times, count_in_flight, IsSound, EveryRunIsSound, Bool, Option}
+use Rattle.dump_lanes.proofs.Prelude.{◌≡◌, ℕ, ◌+◌, ◌<◌, ◌≤◌, All, List, [], ◌∷◌, ◌++◌, length, get_or, option_to_list, sym, ap, ◌∙◌, subst, arith, concat, range_with_len, get_or_default, length-replicate, length-range_with_len, PoolSize, Entry, World, opening, items_on_the_way, items_released, all_items, Event, is_enabled, after_event, IsRun, times, count_in_flight, IsSound, EveryRunIsSound, Bool, Option}
 use Rattle.std.proofs.Common.{IsTrue, length-set}
-use Rattle.dump_lanes.specs.PoolWorld.{items_of}
 use Rattle.dump_lanes.proofs.core.FirstEntry.{by_job, by_done, by_piece}
 use Rattle.dump_lanes.proofs.core.Weights.{weigh, only, each, weigh-append, times_is, length_is, slot_le, within_range, above_range}
 use Rattle.dump_lanes.proofs.core.Places.{AreSized, IsSized, IsEachOnce, weight, once_kept, once_first}
@@ -76,11 +75,6 @@ first_holds size some_worker some_slot = record {
   ending = ending_first size some_worker;
   stop = stop_first size;
 }
-
--- the weights of the lists that the facts mention
-way_weight : (f : ℕ → ℕ) (w : World) → weigh f (items_on_the_way w) ≡ weigh f (items_of w.jobs) + weigh f
-    (items_in_hands w.hands) + weigh f (items_of w.dones)
-way_weight f w = omega (arith, weigh-append)
 
 -- the released items weigh what the finished ones, the one being written and those in the lane weigh
 pub released_weight : (f : ℕ → ℕ) (w : World) → weigh f (items_released w) ≡ weigh f w.finished + weigh f

@@ -1,7 +1,8 @@
 -- If prefixes are excluded, no directory has to be created before the load.
 use Rattle.dump_trees.proofs.Prelude.{◌≡◌, not, cond, refl, ap, ◌∙◌, Exclude, Settings, NodePath, keeps, Node, is_above_some, given, root_alone}
-use Rattle.std.proofs.Common.{ℕ, Bool, true, false, ◌&&◌, List, [], ◌∷◌, Some, None}
+use Rattle.std.proofs.Common.{ℕ, ◌&&◌, List, [], ◌∷◌, Some, None}
 use Rattle.dump_trees.specs.TreeLaws.{GivesRootAlone}
+use Rattle.std.proofs.Math.Bool.{and-false}
 
 -- if prefixes are excluded, the only parent directory is the root
 pub given_alone : (settings : Settings) → settings.side ≡ Exclude → (name : List ℕ) (path : NodePath)
@@ -9,11 +10,7 @@ pub given_alone : (settings : Settings) → settings.side ≡ Exclude → (name 
 given_alone settings side name path =
     ap (λ b. cond b (Some (Node.Directory [])) None)
     (ap (λ s. not (keeps settings (name ∷ path)) && is_above_some s settings.prefixes (name ∷ path)) side
-    ∙ no_more (not (keeps settings (name ∷ path))))
-  where
-    no_more : (b : Bool) → (b && false) ≡ false
-    no_more true = refl
-    no_more false = refl
+    ∙ and-false (not (keeps settings (name ∷ path))))
 
 -- so the parent directories are those of a new repository
 pub gives_root : GivesRootAlone

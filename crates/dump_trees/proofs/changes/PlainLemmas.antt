@@ -93,10 +93,10 @@ edited (Some props) text top tree (Some (Node.File old other)) at =
     (put_at top (Node.File (edited_with props []) other) tree)
 
 -- of two nodes that are put at the top, the second one stays
-put_twice : (o : Option NodePath) (n m : Node) (old : Option Node) → at_top o n (at_top o m old) ≡ at_top o n old
-put_twice None n m old = refl
-put_twice (Some []) n m old = refl
-put_twice (Some (name ∷ rest)) n m old = refl
+pub at_twice : (o : Option NodePath) (n m : Node) (old : Option Node) → at_top o n (at_top o m old) ≡ at_top o n old
+at_twice None n m old = refl
+at_twice (Some []) n m old = refl
+at_twice (Some (name ∷ rest)) n m old = refl
 
 module _ (settings : Settings) (IsNew : NewProperty) (entries : KeepsEntries IsNew) (source top : NodePath)
     (from old new : Tree)
@@ -147,10 +147,10 @@ module _ (settings : Settings) (IsNew : NewProperty) (entries : KeepsEntries IsN
       (put top (Node.File qs text) (put top m plain_tree))
   alike_twice ps qs earlier n m other pair file = record {
     kept = λ path kept. subst₂ (λ a b. IsNewNode IsNew a b)
-        (sym (put_twice (below top path) (Node.File ps text) n (copy_tree path)))
-        (sym (put_twice (below top path) (Node.File qs text) m (plain_tree path)))
+        (sym (at_twice (below top path) (Node.File ps text) n (copy_tree path)))
+        (sym (at_twice (below top path) (Node.File qs text) m (plain_tree path)))
         (once.kept path kept);
-    left = λ path left. put_twice (below top path) (Node.File qs text) m (plain_tree path) ∙ once.left path left;
+    left = λ path left. at_twice (below top path) (Node.File qs text) m (plain_tree path) ∙ once.left path left;
   }
     where
       once : IsRestricted settings IsNew (put top (Node.File ps text) copy_tree)

@@ -3,6 +3,11 @@ use Rattle.dump_trees.proofs.Prelude.{◌≡◌, option_map, cond, bytes_eq, IsT
 use Rattle.std.proofs.Common.{ℕ, Bool, true, false, List, [], ◌∷◌, ◌++◌, Option, Some, None, is_some}
 use Rattle.dump_trees.proofs.paths.KeptPaths.{gives_nothing, gives_above}
 
+-- what is missing is none
+pub none_of : {A : Type 0} (o : Option A) → is_some o ≡ false → o ≡ None
+none_of None is = refl
+none_of (Some x) is = absurd (let bad : true ≡ false = is in cc)
+
 -- paths
 
 -- the rest of a path is what follows the top

@@ -1,6 +1,6 @@
 -- A dump loads exactly if the known kinds allow each change, and each delta applies.
 use Rattle.dump_trees.proofs.Prelude.{◌≡◌, ◌⊎◌, inl, inr, zero, suc, ◌+◌, ◌<◌, ◌≤◌, not, ◌||◌, cond, nat_le, nat_lt, map, refl, sym, ap, ap₂, ◌∙◌, subst, arith, append-nil, append_assoc, option_map, slice_get, list_all, list_all-append, both_ways, and_parts, and_from, not_from_false, le-leb, lt-leb, leb-true, lt-ltb, ltb-true, NodePath, parent_of, Node, Tree, Made, Change, History, step, steps, loaded, loaded_over, IsTrue, IsFalse}
-use Rattle.std.proofs.Common.{ℕ, Bool, true, false, ◌&&◌, List, [], ◌∷◌, ◌++◌, length, Option, Some, None, option_and_then, is_some}
+use Rattle.std.proofs.Common.{ℕ, Bool, true, false, ◌&&◌, List, [], ◌∷◌, ◌++◌, length, Option, Some, None, option_and_then, is_some, length-append}
 use Rattle.std.proofs.lemmas.List.Sums.{sum_by-append}
 use Rattle.std.proofs.lemmas.Option.{slice_get_within, same_Some}
 use Rattle.dump_trees.specs.Looking.{Placed, placed_from, end_of, Origin, origin_of, looked_up, look}
@@ -9,6 +9,9 @@ use Rattle.dump_trees.proofs.histories.KeptNumbers.{length_push, get_last}
 use Rattle.dump_trees.proofs.histories.FrontLemmas.{begun_trees, loaded_length}
 use Rattle.dump_trees.proofs.expansions.LookLemmas.{count_none, count_whole, look_finds, origin_source}
 use Rattle.dump_trees.proofs.cuts.CheckedSteps.{step_is_allowed}
+use Rattle.std.proofs.Math.Bool.{and-false}
+use Rattle.dump_trees.proofs.expansions.BackLemmas.{from_more}
+use Rattle.dump_trees.proofs.changes.TreeLemmas.{none_of}
 
 -- places
 
@@ -19,14 +22,6 @@ AreFrom number placed = list_all (λ (p : Placed). nat_le number p.revision) pla
 -- the changes of one revision
 abbrev pub of_one : ℕ → List Change → List Placed
 of_one number changes = map (λ (c : Change). record { revision = number; change = c }) changes
-
-pub from_more : (number other : ℕ) → number ≤ other → (placed : List Placed) → AreFrom other placed → AreFrom number placed
-from_more number other low [] are = refl
-from_more number other low (p ∷ placed) are =
-    let parts = and_parts (nat_le other p.revision) (list_all (λ (q : Placed). nat_le other q.revision) placed) are in
-    let high = leb-true other p.revision parts.0 in
-    and_from (nat_le number p.revision) (list_all (λ (q : Placed). nat_le number q.revision) placed)
-    (le-leb number p.revision (omega arith)) (from_more number other low placed parts.1)
 
 pub from_append : (number : ℕ) (placed more : List Placed) → AreFrom number placed → AreFrom number more
     → AreFrom number (placed ++ more)
@@ -48,7 +43,7 @@ all_from number (changes ∷ revisions) =
     (from_more number (suc number) (omega arith) (placed_from (suc number) revisions) (all_from (suc number) revisions))
 
 -- none of these is of a revision after this one
-one_up_to : (bound number : ℕ) (changes : List Change) → number ≤ bound
+pub one_up_to : (bound number : ℕ) (changes : List Change) → number ≤ bound
     → list_all (λ (p : Placed). nat_le p.revision bound) (of_one number changes) ≡ true
 one_up_to bound number [] low = refl
 one_up_to bound number (c ∷ changes) low =
@@ -98,14 +93,9 @@ map_append number [] more = refl
 map_append number (c ∷ done) more =
     ap (λ (ps : List Placed). record { revision = number; change = c } ∷ ps) (map_append number done more)
 
-one_length : (number : ℕ) (changes : List Change) → length (of_one number changes) ≡ length changes
+pub one_length : (number : ℕ) (changes : List Change) → length (of_one number changes) ≡ length changes
 one_length number [] = refl
 one_length number (c ∷ changes) = ap suc (one_length number changes)
-
-pub length_append : {A : Type 0} (xs ys : List A) → length (xs ++ ys) ≡ length xs + length ys
-length_append [] ys = (let same : length ys ≡ 0 + length ys = omega arith in same)
-length_append (x ∷ xs) ys =
-    ap suc (length_append xs ys) ∙ (let same : suc (length xs + length ys) ≡ suc (length xs) + length ys = omega arith in same)
 
 -- the changes of whole revisions and some of the next one's, and the other changes of that one
 pub placed_cut : (number : ℕ) (front : List (List Change)) (done more : List Change)
@@ -257,7 +247,7 @@ module _ {X : Type 0} (read : Option Node → X) (told : ℕ → NodePath → X)
           later = placed_from (1 + length begin) rest ++ behind
 
           size : suc (length begin) ≤ suc (length front)
-          size = (let sum = ap length parts ∙ length_append begin rest in omega (arith, sum))
+          size = (let sum = ap length parts ∙ length-append begin rest in omega (arith, sum))
 
           later_late : AreFrom (suc (length begin)) later
           later_late =
@@ -536,7 +526,7 @@ module _ (told : ToldKinds) (first : Tree) (placed : List Placed) where
         end_size : end ≡ here + suc (length changes)
         end_size =
             ap length (placed_cut 1 front done (c ∷ changes))
-            ∙ (length_append (placed_from 1 (front ++ done ∷ [])) (this ∷ of_one (1 + length front) changes)
+            ∙ (length-append (placed_from 1 (front ++ done ∷ [])) (this ∷ of_one (1 + length front) changes)
             ∙ ap (λ n. here + suc n) (one_length (1 + length front) changes))
 
         moved : (done ++ c ∷ []) ++ changes ≡ done ++ c ∷ changes
@@ -592,7 +582,7 @@ module _ (told : ToldKinds) (first : Tree) (placed : List Placed) where
             ∙ append_assoc (placed_from 1 (front ++ changes ∷ [])) later behind)
 
         size : length (front ++ changes ∷ revisions) ≡ length front + suc (length revisions)
-        size = length_append front (changes ∷ revisions)
+        size = length-append front (changes ∷ revisions)
 
         push : length (front ++ changes ∷ []) ≡ suc (length front)
         push = length_push front changes
@@ -628,7 +618,7 @@ module _ (told : ToldKinds) (first : Tree) (placed : List Placed) where
         cases further None at =
             fails_later (length (placed_from 1 (front ++ changes ∷ [])))
             (length (placed_from 1 (front ++ changes ∷ revisions)))
-            (let sum = ap length split ∙ length_append (placed_from 1 (front ++ changes ∷ [])) later in
+            (let sum = ap length split ∙ length-append (placed_from 1 (front ++ changes ∷ [])) later in
             let low : length (placed_from 1 (front ++ changes ∷ []))
             ≤ length (placed_from 1 (front ++ changes ∷ revisions)) = omega (arith, sum) in low)
             (here_pass ∙ ap is_some at)
@@ -663,10 +653,6 @@ tells_each_tree told first revisions trees number tree path tells is there =
 
 -- the first rejection
 
-none_of : {A : Type 0} (o : Option A) → is_some o ≡ false → o ≡ None
-none_of None is = refl
-none_of (Some x) is = absurd (let bad : true ≡ false = is in cc)
-
 pub first_refusal_is_found : (told : ToldKinds) (first : Tree) (front : List (List Change)) (changes : List Change) (c : Change)
     (more : List Change) (rest : List (List Change)) (placed : List Placed) (place : ℕ) →
     placed ≡ placed_from 1 (front ++ (changes ++ c ∷ more) ∷ rest)
@@ -685,7 +671,7 @@ first_refusal_is_found told first front changes c more rest placed place same he
       ∙ (ap₂ (λ ps n. pass told first ps n) (sym two) next
       ∙ (pass_next told first placed place
       ∙ (ap (λ b. pass told first placed place && (b && applies_there first placed place (slice_get placed place))) refused
-      ∙ no_and (pass told first placed place))))),
+      ∙ and-false (pass told first placed place))))),
 )
   where
     this : Placed
@@ -746,10 +732,6 @@ first_refusal_is_found told first front changes c more rest placed place same he
     tells_two : TellsKinds told first (placed_from 1 (front ++ (changes ++ c ∷ []) ∷ []) ++ later)
     tells_two = subst (λ ps. TellsKinds told first ps) two tells
 
-    no_and : (a : Bool) → (a && false) ≡ false
-    no_and true = refl
-    no_and false = refl
-
 -- the place of a change, in the changes of its revision
 
 get_append : {A : Type 0} (xs ys : List A) (place : ℕ) (y : A) → slice_get (xs ++ ys) place ≡ Some y
@@ -798,7 +780,7 @@ place_split number (now ∷ revisions) place p at =
             rest,
             ap (λ rs. now ∷ rs) parts,
             same ∙ (ap (λ n. length (of_one number now) + n) count
-                ∙ sym (length_append (of_one number now) (placed_from (suc number) (front ++ changes ∷ [])))),
+                ∙ sym (length-append (of_one number now) (placed_from (suc number) (front ++ changes ∷ [])))),
           )
     ]
 
@@ -814,11 +796,7 @@ first_refusal_is_there told first revisions placed place p same there tells allo
         pass_next told first placed place
         ∙ (ap (λ b. pass told first placed place && (b && applies_there first placed place (slice_get placed place)))
         refused_there
-        ∙ no_and (pass told first placed place))
-      where
-        no_and : (a : Bool) → (a && false) ≡ false
-        no_and true = refl
-        no_and false = refl
+        ∙ and-false (pass told first placed place))
 
     within : suc place ≤ length placed
     within = slice_get_within placed place p there

@@ -1,11 +1,13 @@
 -- A load takes a change exactly if the kinds at single paths allow it.
-use Rattle.dump_trees.proofs.Prelude.{◌≡◌, not, ◌||◌, cond, refl, sym, ap, ap₂, ◌∙◌, append-nil, option_map, IfSome, Property, NodePath, parent_of, Node, Tree, is_directory_node, grafted, at_or_below, at_top, put, empty_tree, Made, PropertyChange, TextChange, Change, History, is_directory_at, has_directory, deleted, copied, made_in, with_props, with_text, props_put, props_set, text_set, step, is_root}
+use Rattle.dump_trees.proofs.Prelude.{◌≡◌, not, ◌||◌, cond, refl, sym, ap, ap₂, ◌∙◌, append-nil, option_map, IfSome, Property, NodePath, parent_of, Node, Tree, is_directory_node, grafted, at_or_below, put, empty_tree, Made, PropertyChange, TextChange, Change, History, is_directory_at, has_directory, deleted, copied, made_in, with_props, with_text, props_put, props_set, text_set, step, is_root}
 use Rattle.std.proofs.Common.{ℕ, Bool, true, false, ◌&&◌, List, [], ◌∷◌, ◌++◌, Option, Some, None, option_and_then, is_some, is_none}
 use Rattle.std.proofs.lemmas.Option.{same_Some}
 use Rattle.dump_trees.specs.Looking.{left_by, origin_of, node_with_props}
 use Rattle.dump_trees.specs.LoadCheck.{Kind, kind_of_node, kind_at, is_directory, is_file, Kinds, deletion_allowed, kind_left, making_allowed, kind_made, sets_props, source_kind, kinds_before, node_from, node_set, delta_applies, StepIsAllowed}
 use Rattle.dump_trees.proofs.changes.TreeLemmas.{below_top}
 use Rattle.dump_trees.proofs.expansions.BranchLemmas.{parent_apart}
+use Rattle.dump_trees.proofs.changes.PlainLemmas.{put_at}
+use Rattle.dump_trees.proofs.expansions.StandingLemmas.{no_edit}
 
 -- kinds of nodes
 
@@ -100,9 +102,6 @@ made_node history (Some Made.NewFile) left = Some (Node.File [] [])
 made_node history (Some (Made.Copied number source)) left =
     option_and_then (λ tree. tree (source ++ [])) (history number)
 
-put_there : (top : NodePath) (n : Node) (tree : Tree) → put top n tree top ≡ Some n
-put_there top n tree = ap (λ o. at_top o n (tree top)) (below_top top)
-
 -- whether it may be made, by the nodes
 abbrev may_make : History → Option Made → Option Node → Bool → Bool
 may_make history None left parent = true
@@ -136,10 +135,10 @@ made_there : (history : History) (made : Option Made) (top : NodePath) (left : O
 made_there history None top left parent tree there = there.0
 made_there history (Some Made.NewDirectory) top left parent tree there =
     holds_if (λ t. t top ≡ Some (Node.Directory [])) (is_none (tree top) && has_directory tree top)
-    (put top (Node.Directory []) tree) (put_there top (Node.Directory []) tree)
+    (put top (Node.Directory []) tree) (put_at top (Node.Directory []) tree)
 made_there history (Some Made.NewFile) top left parent tree there =
     holds_if (λ t. t top ≡ Some (Node.File [] [])) (is_none (tree top) && has_directory tree top)
-    (put top (Node.File [] []) tree) (put_there top (Node.File [] []) tree)
+    (put top (Node.File [] []) tree) (put_at top (Node.File [] []) tree)
 made_there history (Some (Made.Copied number source)) top left parent tree there = cases (history number)
   where
     cases : (o : Option Tree) → IfSome (option_and_then (λ old. copied source top tree old) o)
@@ -160,12 +159,7 @@ puts_some change top tree (Some node) = refl
 puts_there : (change : PropertyChange) (top : NodePath) (tree : Tree) (o : Option Node)
     → IfSome (option_map (λ node. put top (with_props change node) tree) o) (λ t. t top ≡ option_map (with_props change) o)
 puts_there change top tree None = tt
-puts_there change top tree (Some node) = put_there top (with_props change node) tree
-
-no_edit : (o : Option Node) → o ≡ option_map (with_props (PropertyChange.Edited [])) o
-no_edit None = refl
-no_edit (Some (Node.Directory props)) = refl
-no_edit (Some (Node.File props text)) = refl
+puts_there change top tree (Some node) = put_at top (with_props change node) tree
 
 set_some : (props : Option PropertyChange) (top : NodePath) (old : Option Node) (tree : Tree) → tree top ≡ old
     → is_some (props_set props top tree) ≡ (not (sets_props props) || is_some old)
@@ -380,7 +374,7 @@ text_leaves (Some change) top tree after some is = cases (option_and_then (λ n.
     cases : (o : Option Node) → option_map (λ n. put top n tree) o ≡ Some after → is_some (after top) ≡ true
     cases None bad = absurd (let worse : None ≡ Some after = bad in cc)
     cases (Some n) found =
-        ap (λ (t : Tree). is_some (t top)) (same_Some after (put top n tree) (sym found)) ∙ ap is_some (put_there top n tree)
+        ap (λ (t : Tree). is_some (t top)) (same_Some after (put top n tree) (sym found)) ∙ ap is_some (put_at top n tree)
 
 some_with_props : (props : Option PropertyChange) (o : Option Node) → is_some (node_with_props props o) ≡ is_some o
 some_with_props None o = refl

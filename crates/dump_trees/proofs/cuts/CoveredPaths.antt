@@ -1,12 +1,13 @@
 -- Paths that cover others, and the rests at which they begin to do so.
-use Rattle.dump_trees.proofs.Prelude.{◌≡◌, ◌⊎◌, zero, suc, ◌<◌, cond, refl, sym, ap, ap₂, ◌∙◌, inl, inr, subst, arith, filter, append-nil, append_assoc, both_ways, list_all, and_from, or_cases, or_left, or_right, NodePath, below, Tree, HasDirectories, is_directory_node}
+use Rattle.dump_trees.proofs.Prelude.{◌≡◌, ◌⊎◌, zero, suc, ◌<◌, cond, refl, sym, ap, ◌∙◌, inl, inr, subst, arith, filter, append-nil, append_assoc, both_ways, list_all, and_from, or_cases, or_left, or_right, NodePath, below, Tree, HasDirectories, is_directory_node}
 use Rattle.std.proofs.Common.{ℕ, Bool, true, false, List, [], ◌∷◌, ◌++◌, length, Option, Some, None, is_some, Contains}
-use Rattle.std.proofs.lemmas.Option.{same_Some}
 use Rattle.std.proofs.lemmas.List.Sums.{AllPass-from_list_all}
 use Rattle.std.proofs.lemmas.List.Elements.{All-contains, All-filter, All-contains_itself, filter_passes, Contains-append_left, Contains-append_right, Contains-append_cases}
 use Rattle.dump_trees.specs.Siblings.{is_within}
 use Rattle.dump_trees.specs.Returns.{is_covered, named_rest, rests_below, rests_covered}
 use Rattle.dump_trees.proofs.changes.TreeLemmas.{below_rest, below_found, below_top}
+use Rattle.dump_trees.proofs.paths.SiblingLemmas.{within_rest, within_found, one_in_other}
+use Rattle.dump_trees.proofs.paths.PrefixRests.{same_rest}
 
 -- elements of lists
 
@@ -15,6 +16,10 @@ contains_first x xs = (zero, omega arith, refl)
 
 pub contains_later : {A : Type 0} (y : A) (xs : List A) (x : A) → Contains xs x → Contains (y ∷ xs) x
 contains_later y xs x (k, low, is) = (suc k, omega (arith, low), is)
+
+pub no_elements : {A : Type 0} (xs : List A) → ((x : A) → Contains xs x → ⊥) → xs ≡ []
+no_elements [] none = refl
+no_elements (x ∷ xs) none = absurd (none x (contains_first x xs))
 
 -- the first element or a later one
 pub contains_cases : {A : Type 0} (y : A) (xs : List A) (x : A) → Contains (y ∷ xs) x → (y ≡ x) ⊎ Contains xs x
@@ -56,16 +61,6 @@ filter_has f (y ∷ xs) x there passes =
 
 -- paths
 
-pub within_rest : (top path : NodePath) → is_within top path ≡ true → (rest : NodePath) × (path ≡ top ++ rest)
-within_rest top path is = cases (below top path) refl is
-  where
-    cases : (o : Option NodePath) → below top path ≡ o → is_some o ≡ true → (rest : NodePath) × (path ≡ top ++ rest)
-    cases None at some = absurd (let bad : false ≡ true = some in cc)
-    cases (Some rest) at some = (rest, below_rest top path rest at)
-
-pub within_found : (top rest : NodePath) → is_within top (top ++ rest) ≡ true
-within_found top rest = ap is_some (below_found top rest)
-
 pub within_itself : (top : NodePath) → is_within top top ≡ true
 within_itself top = ap is_some (below_top top)
 
@@ -74,27 +69,6 @@ within_more top path rest is =
     let (more, same) = within_rest top path is in
     subst (λ p. is_within top p ≡ true) (sym (ap (λ p. p ++ rest) same ∙ append_assoc top more rest))
     (within_found top (more ++ rest))
-
--- what follows the same path is the same
-pub same_behind : (top rest other : NodePath) → top ++ rest ≡ top ++ other → rest ≡ other
-same_behind top rest other same =
-    same_Some rest other (sym (below_found top rest) ∙ (ap (below top) same ∙ below_found top other))
-
--- of two paths above a third one, one is at or below the other
-pub one_in_other : (first second first_rest second_rest : NodePath) → first ++ first_rest ≡ second ++ second_rest
-    → ((rest : NodePath) × (first ≡ second ++ rest))
-    ⊎ ((name : List ℕ) × (rest : NodePath) × (second ≡ first ++ name ∷ rest))
-one_in_other first [] first_rest second_rest same = inl (first, refl)
-one_in_other [] (name ∷ second) first_rest second_rest same = inr (name, second, refl)
-one_in_other (other ∷ first) (name ∷ second) first_rest second_rest same =
-    let heads : other ≡ name =
-    (let both : other ∷ (first ++ first_rest) ≡ name ∷ (second ++ second_rest) = same in cc) in
-    let tails : first ++ first_rest ≡ second ++ second_rest =
-    (let both : other ∷ (first ++ first_rest) ≡ name ∷ (second ++ second_rest) = same in cc) in
-    elim (one_in_other first second first_rest second_rest tails) [
-      | inl (rest, is) ↦ inl (rest, ap₂ (λ n p. n ∷ p) heads is)
-      | inr (next, rest, is) ↦ inr (next, rest, ap₂ (λ n p. n ∷ p) (sym heads) is)
-    ]
 
 -- something exists above what exists
 pub exists_above : (tree : Tree) → HasDirectories tree → (top rest : NodePath) → is_some (tree (top ++ rest)) ≡ true
@@ -219,7 +193,7 @@ rests_above top tops rest is = cases (is_covered tops top) refl
             name ∷ more,
             behind,
             below_has top tops name more (subst (λ p. Contains tops p) lower among),
-            same_behind top rest ((name ∷ more) ++ behind)
+            same_rest top rest ((name ∷ more) ++ behind)
                 (same ∙ (ap (λ p. p ++ behind) lower ∙ append_assoc top (name ∷ more) behind)),
           )
         ]

@@ -11,6 +11,7 @@ use Rattle.dump_trees.proofs.changes.TreeLemmas.{below_rest}
 use Rattle.dump_trees.proofs.paths.SiblingLemmas.{rest_names, both_names, excluded_match}
 use Rattle.dump_trees.proofs.expansions.DeletionLemmas.{below_both}
 use Rattle.dump_trees.proofs.cuts.CoveredPaths.{covered_from, all_has, list_all_of, filter_there, filter_passed, filter_has, exists_above, uncovered_above, below_there, rests_there, rests_above}
+use Rattle.std.proofs.lemmas.Bool.{not-false}
 
 module _ (settings : Settings) (excluded : List NodePath) (history : History) (old : Tree) (c : Change) (source : NodePath)
     (over : IsCopyOver settings excluded history old c source) (is_apart : lie_apart excluded ≡ true)
@@ -103,7 +104,7 @@ module _ (settings : Settings) (excluded : List NodePath) (history : History) (o
       → keeps settings (c.path ++ rest) ≡ false → is_covered found rest ≡ true
   found_all rest exists keep left =
       let (first, more, there, same) = rests_above c.path excluded rest
-      (from_false (is_covered excluded (c.path ++ rest)) (sym (keeps_path rest exists) ∙ left)) in
+      (not-false (is_covered excluded (c.path ++ rest)) (sym (keeps_path rest exists) ∙ left)) in
       subst (λ p. is_covered found p ≡ true) (sym same)
       (covered_from found first more
       (filter_has tests (rests_covered c.path excluded) first there
@@ -113,10 +114,6 @@ module _ (settings : Settings) (excluded : List NodePath) (history : History) (o
       (not_from_false _ (uncovered_above excluded (source ++ first) more
       (subst (λ p. is_covered excluded p ≡ false) (ap (λ r. source ++ r) same ∙ sym (append_assoc source first more))
       (not-true _ (sym (keeps_source rest exists) ∙ keep))))))))
-    where
-      from_false : (b : Bool) → not b ≡ false → b ≡ true
-      from_false true is = refl
-      from_false false is = absurd (let bad : true ≡ false = is in cc)
 
   cover_taken : CoverTaken settings old c.path source found
   cover_taken = record {

@@ -1,6 +1,6 @@
 -- The siblings of every tree are among the names that can exist in the directories above included paths.
 use Rattle.dump_trees.proofs.Prelude.{◌≡◌, ◌⊎◌, inl, inr, ◌+◌, ◌≤◌, not, ◌||◌, refl, sym, ap, ◌∙◌, subst, arith, append-nil, append_assoc, option_map, nat_le, slice_get, and_parts, or_cases, NodePath, parent_of, Node, Tree, root_alone, Made, PropertyChange, TextChange, Change, History, step, steps, is_root}
-use Rattle.std.proofs.Common.{ℕ, Bool, true, false, ◌&&◌, List, [], ◌∷◌, ◌++◌, length, Option, Some, None, option_and_then, is_some, Contains}
+use Rattle.std.proofs.Common.{ℕ, Bool, true, false, ◌&&◌, List, [], ◌∷◌, ◌++◌, length, Option, Some, None, option_and_then, is_some, Contains, length-append}
 use Rattle.std.proofs.lemmas.List.Sums.{count_by-le-length}
 use Rattle.dump_trees.specs.Looking.{Placed, placed_from, end_of, look}
 use Rattle.dump_trees.specs.Listing.{names_look}
@@ -9,13 +9,14 @@ use Rattle.dump_trees.specs.Siblings.{is_in_cut, is_parent_above, has_node_names
 use Rattle.dump_trees.specs.Following.{Copies, ExistsOnce}
 use Rattle.dump_trees.specs.EverSiblings.{does_something, EverSiblingsAreFound, ChangedPathsExist, CopiedPathsExist}
 use Rattle.dump_trees.proofs.changes.TreeLemmas.{parent_rest}
-use Rattle.dump_trees.proofs.histories.KeptNumbers.{length_push, get_before}
+use Rattle.dump_trees.proofs.histories.KeptNumbers.{get_before}
 use Rattle.dump_trees.proofs.expansions.LookLemmas.{Runs, Begun, look_runs, runs_before, loaded_begun}
 use Rattle.dump_trees.proofs.expansions.NameLemmas.{Has, names_run}
 use Rattle.dump_trees.proofs.expansions.StandingLemmas.{copy_has_tree}
 use Rattle.dump_trees.proofs.cuts.CheckedSteps.{left_of, made_node, kind_some, kind_of_left, kind_of_made, step_is_allowed, change_leaves}
-use Rattle.dump_trees.proofs.cuts.CheckedLoads.{AreFrom, of_one, from_more, from_append, one_from, all_from, placed_append, placed_cut, steps_then, pushed, length_append}
+use Rattle.dump_trees.proofs.cuts.CheckedLoads.{steps_then, pushed}
 use Rattle.dump_trees.proofs.cuts.FollowLemmas.{MadeIn, change_is_made, exists_at_source}
+use Rattle.dump_trees.proofs.cuts.FirstChanges.{changes_after, changes_parted, are_later}
 
 -- finding them
 
@@ -26,34 +27,19 @@ ever_siblings_are_found included siblings revisions each all front changes more 
     first : List (List Change)
     first = front ++ changes ∷ []
 
-    whole : List (List Change)
-    whole = front ++ (changes ++ more) ∷ []
-
     behind : List Placed
-    behind = of_one (1 + length front) more ++ placed_from (1 + length whole) rest
+    behind = changes_after front changes more rest
 
     split : placed_from 1 revisions ≡ placed_from 1 first ++ behind
-    split = ap (placed_from 1) (parted ∙ sym (append_assoc front ((changes ++ more) ∷ []) rest))
-        ∙ (placed_append 1 whole rest
-        ∙ (ap (λ ps. ps ++ placed_from (1 + length whole) rest) (placed_cut 1 front changes more)
-        ∙ append_assoc (placed_from 1 first) (of_one (1 + length front) more) (placed_from (1 + length whole) rest)))
-
-    late : AreFrom (length first) behind
-    late =
-        let size = length_push front changes in
-        let other = length_push front (changes ++ more) in
-        from_append (length first) (of_one (1 + length front) more) (placed_from (1 + length whole) rest)
-        (from_more (length first) (1 + length front) (omega arith) (of_one (1 + length front) more)
-        (one_from (1 + length front) more))
-        (from_more (length first) (1 + length whole) (omega arith) (placed_from (1 + length whole) rest)
-        (all_from (1 + length whole) rest))
+    split = changes_parted front changes more rest revisions parted
 
     begun : (last : Tree) × (between : List Tree)
         × Begun root_alone trees last (length first) (placed_from 1 first) between
     begun = loaded_begun root_alone first trees is
 
     runs : Runs root_alone (placed_from 1 first ++ behind) (length first) begun.1
-    runs = runs_before root_alone (placed_from 1 first) behind (length first) begun.1 begun.2.runs late
+    runs = runs_before root_alone (placed_from 1 first) behind (length first) begun.1 begun.2.runs
+        (are_later front changes more rest revisions parted)
 
     found : (number : ℕ) (tree : Tree) (path : NodePath) → slice_get trees number ≡ Some tree
         → is_some (tree path) ≡ true → is_sibling included path ≡ true → Contains siblings path
@@ -73,7 +59,7 @@ ever_siblings_are_found included siblings revisions each all front changes more 
         low : count ≤ length (placed_from 1 revisions)
         low =
             let few = count_by-le-length (λ (p : Placed). nat_le p.revision number) (placed_from 1 first) in
-            let size = ap length split ∙ length_append (placed_from 1 first) behind in omega arith
+            let size = ap length split ∙ length-append (placed_from 1 first) behind in omega arith
 
         cases : (o : Option NodePath) → parent_of path ≡ o → is_parent_above included o ≡ true
             → Contains siblings path

@@ -1,25 +1,23 @@
 -- Following copies. Additions are in each closed set. There are no more of them than paths at which something ever
 -- exists. If a pass adds nothing, the set is closed.
-use Rattle.dump_trees.proofs.Prelude.{◌≡◌, not, ◌||◌, ◌⊎◌, ◌<◌, cond, refl, sym, ap, ◌∙◌, inl, inr, subst, arith, filter, option_map, append-nil, append_assoc, both_ways, list_all, slice_get, and_parts, and_from, or_left, not-true, not_from_false, Settings, NodePath, Tree, root_alone, Made, Change, History, step, steps, loaded_over}
-use Rattle.std.proofs.Common.{ℕ, Bool, true, false, ◌&&◌, List, [], ◌∷◌, ◌++◌, length, Option, Some, None, option_and_then, is_some, Contains}
+use Rattle.dump_trees.proofs.Prelude.{◌≡◌, not, ◌||◌, ◌⊎◌, ◌<◌, cond, refl, sym, ap, ◌∙◌, inl, inr, subst, arith, filter, option_map, append_assoc, both_ways, list_all, slice_get, and_parts, and_from, or_left, not-true, not_from_false, Settings, NodePath, Tree, root_alone, Made, Change, step, steps, loaded_over}
+use Rattle.std.proofs.Common.{ℕ, Bool, true, false, ◌&&◌, List, [], ◌∷◌, ◌++◌, length, Option, Some, None, option_and_then, is_some, Contains, length-append}
 use Rattle.std.proofs.lemmas.Option.{same_Some, slice_get_within}
 use Rattle.std.proofs.lemmas.List.Folds.{list_any-append}
 use Rattle.std.proofs.lemmas.List.Elements.{All-contains, All-weaker, All-contains_itself, Contains-append_left, Contains-append_right, Contains-append_cases}
 use Rattle.std.specs.List.{All}
-use Rattle.dump_trees.specs.Looking.{origin_of}
 use Rattle.dump_trees.specs.Siblings.{is_within, has_node_names, have_node_names, ExcludesPaths}
 use Rattle.dump_trees.specs.ComingBack.{ComesBack, NoneComesBack, NothingComesBack}
 use Rattle.dump_trees.specs.Returns.{is_covered, lie_apart, rests_covered, returns, IsCopyOver}
 use Rattle.dump_trees.specs.Following.{Copies, Way, from_of, to_of, IsClosed, Covers, IsInClosure, IsFollowed, IsGrown, AreFollowed, AddsNothing, ListedAreFollowed, GrownPathsCover, ExistsOnce, FollowingIsLeast, FollowedBringNothingBack, EachCopyIsOver}
-use Rattle.dump_trees.proofs.changes.TreeLemmas.{below_found}
 use Rattle.dump_trees.proofs.histories.KeptNumbers.{get_before}
 use Rattle.dump_trees.proofs.histories.FrontLemmas.{begun_trees}
 use Rattle.dump_trees.proofs.histories.StandingNames.{loaded_directories, loaded_names}
-use Rattle.dump_trees.proofs.expansions.StandingLemmas.{origin_in, step_has, copy_has_tree}
-use Rattle.dump_trees.proofs.cuts.CheckedSteps.{left_of, made_node, change_leaves}
-use Rattle.dump_trees.proofs.cuts.CheckedLoads.{split_at, get_some, get_front, steps_then, loaded_push, loaded_size, pushed, length_append}
-use Rattle.dump_trees.proofs.cuts.CoveredPaths.{contains_first, contains_later, contains_cases, contains_none, all_has, list_all_of, filter_there, filter_passed, filter_has, within_more, within_rest, exists_above, covered_by, covered_from, covered_itself, covered_more, uncovered_above, rests_there, rests_above}
+use Rattle.dump_trees.proofs.expansions.StandingLemmas.{copy_has_tree}
+use Rattle.dump_trees.proofs.cuts.CheckedLoads.{split_at, get_some, get_front, steps_then, loaded_push, loaded_size, pushed}
+use Rattle.dump_trees.proofs.cuts.CoveredPaths.{contains_first, contains_later, contains_cases, contains_none, all_has, list_all_of, filter_there, filter_passed, filter_has, within_more, exists_above, covered_by, covered_from, covered_itself, covered_more, uncovered_above, rests_there, rests_above}
 use Rattle.dump_trees.proofs.cuts.ReturnLemmas.{returns_tell_all}
+use Rattle.dump_trees.proofs.paths.SiblingLemmas.{within_rest}
 
 -- elements
 
@@ -36,10 +34,6 @@ contains_split (y ∷ xs) x there =
 
 all_from_elements : {A : Type 0} (P : A → Type 0) (xs : List A) → ((x : A) → Contains xs x → P x) → All P xs
 all_from_elements P xs each = All-weaker (Contains xs) P each xs (All-contains_itself xs)
-
-pub no_elements : {A : Type 0} (xs : List A) → ((x : A) → Contains xs x → ⊥) → xs ≡ []
-no_elements [] none = refl
-no_elements (x ∷ xs) none = absurd (none x (contains_first x xs))
 
 -- one more path
 
@@ -289,22 +283,6 @@ reached_in way trees revisions tops Other closed has _ (IsInClosure.Followed pat
 
 -- what exists at additions
 
--- what is copied exists at the copy's path once it is made
-copy_leaves : (history : History) (before after : Tree) (c : Change) (number : ℕ) (source rest : NodePath) (old : Tree)
-    → c.made ≡ Some (Made.Copied number source) → history number ≡ Some old → step history before c ≡ Some after
-    → is_some (old (source ++ rest)) ≡ true → is_some (after (c.path ++ rest)) ≡ true
-copy_leaves history before after c number source [] old made there leads some =
-    ap (λ p. is_some (after p)) (append-nil c.path)
-    ∙ change_leaves history before after c
-    (ap (λ m. is_some (made_node history m (left_of c.deletes (before c.path)))) made
-    ∙ (ap (λ o. is_some (option_and_then (λ (tree : Tree). tree (source ++ [])) o)) there ∙ some)) leads
-copy_leaves history before after c number source (name ∷ rest) old made there leads some =
-    ap is_some (sym (step_has history before after c (c.path ++ name ∷ rest) (name ∷ rest) (below_found c.path (name ∷ rest))
-    leads)
-    ∙ (ap (λ m. origin_in history (before (c.path ++ name ∷ rest)) (origin_of c.deletes m (name ∷ rest))) made
-    ∙ ap (option_and_then (λ (tree : Tree). tree (source ++ name ∷ rest))) there))
-    ∙ some
-
 -- a change of a history that loads: the revisions before its own, and the trees before and after it
 pub record MadeIn (trees : List Tree) (revisions : List (List Change)) (c : Change) : Type 0 where
   pub front : List (List Change)
@@ -405,38 +383,14 @@ module _ (trees : List Tree) (revisions : List (List Change)) (is : loaded_over 
         ∙ (ap (λ ts. slice_get ts copy.number) (sym at.joined) ∙ copy.tree)) in
         there ∙ ap Some same
 
-    -- something exists at the copy's path after the copy
-    pub exists_at_copy : (rest : NodePath) → is_some (old (source ++ rest)) ≡ true → ExistsOnce revisions (path ++ rest)
-    exists_at_copy rest some =
-        let grown =
-        pushed root_alone at.front at.earlier at.last (at.done ++ copy.change ∷ []) at.after at.loads at.ends
-        (steps_then (slice_get at.earlier) at.last at.done (copy.change ∷ [])
-        ∙ (ap (option_and_then (λ t. steps (slice_get at.earlier) t (copy.change ∷ []))) at.leads
-        ∙ ap (option_and_then (λ t. steps (slice_get at.earlier) t [])) at.makes)) in
-        record {
-          front = at.front;
-          changes = at.done ++ copy.change ∷ [];
-          more = at.more;
-          rest = at.rest;
-          trees = at.earlier ++ at.after ∷ [];
-          tree = at.after;
-          parted = at.parted ∙ ap (λ cs. at.front ++ cs ∷ at.rest) (sym (append_assoc at.done (copy.change ∷ []) at.more));
-          loads = grown.loads;
-          last = grown.last;
-          exists =
-              subst (λ p. is_some (at.after (p ++ rest)) ≡ true) copy.at
-              (copy_leaves (slice_get at.earlier) at.before at.after copy.change copy.number source rest old copy.copies
-              source_there at.makes some);
-        }
-
     -- and it exists at the copy's source at the end of the revision that the copy names
     pub exists_at_source : (rest : NodePath) → is_some (old (source ++ rest)) ≡ true → ExistsOnce revisions (source ++ rest)
     exists_at_source rest some =
         let within = slice_get_within at.earlier copy.number old source_there in
         let size = loaded_size root_alone at.front at.earlier at.loads in
-        let few = ap length at.parted ∙ length_append at.front ((at.done ++ copy.change ∷ at.more) ∷ at.rest) in
+        let few = ap length at.parted ∙ length-append at.front ((at.done ++ copy.change ∷ at.more) ∷ at.rest) in
         let (front, behind, parts, count) = split_at copy.number revisions (omega arith) in
-        let whole = ap length parts ∙ length_append front behind in
+        let whole = ap length parts ∙ length-append front behind in
         cases front behind parts count (let room : 0 < length behind = omega arith in room)
       where
         cases : (front behind : List (List Change)) → revisions ≡ front ++ behind → length front ≡ copy.number
@@ -462,19 +416,6 @@ module _ (trees : List Tree) (revisions : List (List Change)) (is : loaded_over 
               last = grown.last;
               exists = some;
             }
-
-  -- an addition exists once
-  addition_exists : (way : Way) (tops : List NodePath) (added : NodePath) → IsFollowed way trees revisions tops added
-      → ExistsOnce revisions added
-  addition_exists way tops added one =
-      subst (λ p. ExistsOnce revisions p) (sym one.at) (by_way way)
-    where
-      at : MadeIn trees revisions one.copy.change
-      at = change_is_made trees revisions one.copy.changes one.copy.change is one.copy.among one.copy.there
-
-      by_way : (w : Way) → ExistsOnce revisions (to_of w one.path one.source ++ one.rest)
-      by_way Way.ToCopies = exists_at_copy one.path one.source one.old one.copy at one.rest one.exists
-      by_way Way.ToSources = exists_at_source one.path one.source one.old one.copy at one.rest one.exists
 
   -- the path of each change has names
   copy_names : have_node_names revisions ≡ true → (path source : NodePath) (old : Tree)

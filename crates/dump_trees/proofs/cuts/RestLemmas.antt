@@ -10,20 +10,10 @@ use Rattle.dump_trees.specs.FollowedRests.{PlacedRest, rests_made, rests_at, all
 use Rattle.dump_trees.proofs.histories.KeptNumbers.{get_before}
 use Rattle.dump_trees.proofs.expansions.FoundSiblings.{contains_map}
 use Rattle.dump_trees.proofs.expansions.StandingLemmas.{copy_has_tree}
-use Rattle.dump_trees.proofs.cuts.CoveredPaths.{contains_first, contains_later, contains_cases, contains_none}
-use Rattle.dump_trees.proofs.cuts.FollowLemmas.{change_is_made, no_elements, followed_bring_nothing}
+use Rattle.dump_trees.proofs.cuts.CoveredPaths.{contains_none, no_elements}
+use Rattle.dump_trees.proofs.cuts.FollowLemmas.{change_is_made, followed_bring_nothing}
 use Rattle.dump_trees.proofs.cuts.PlacedCopies.{get_contains, placed_of, copies_are_placed, followed_is_told}
-
--- an element of a mapped list is the image of an element of the list
-map_contains : {A B : Type 0} (f : A → B) (xs : List A) (y : B) → Contains (map f xs) y
-    → (x : A) × Contains xs x × (f x ≡ y)
-map_contains f [] y there = absurd (contains_none y there)
-map_contains f (x ∷ xs) y there =
-    elim (contains_cases (f x) (map f xs) y there) [
-      | inl same ↦ (x, contains_first x xs, same)
-      | inr later ↦
-          let (z, among, same) = map_contains f xs y later in (z, contains_later x xs z among, same)
-    ]
+use Rattle.dump_trees.proofs.expansions.BackFound.{contains_made}
 
 last_or_before : (place count : ℕ) → place < suc count → (place ≡ count) ⊎ (place < count)
 last_or_before zero zero low = inl refl
@@ -45,7 +35,7 @@ module _ (way : Way) (tops : List NodePath) (told : ToldKinds) (placed : List Pl
         | inl early ↦ listed_at count r early
         | inr late ↦
             let (rest, among, same) =
-            map_contains (λ p. record { place = count; rest = p }) (rests_at way tops told placed (slice_get placed count)) r
+            contains_made (λ p. record { place = count; rest = p }) (rests_at way tops told placed (slice_get placed count)) r
             late in
             subst (λ (q : PlacedRest). Contains (rests_at way tops told placed (slice_get placed q.place)) q.rest) same among
       ]
@@ -90,7 +80,7 @@ none_at_any_place way tops told placed count = (none_from count, none_at)
               | inl early ↦ let low = listed_before m r early in (let less : r.place < suc m = omega (arith, low) in less)
               | inr late ↦
                   let (rest, among, same) =
-                  map_contains (λ p. record { place = m; rest = p }) (rests_at way tops told placed (slice_get placed m)) r late
+                  contains_made (λ p. record { place = m; rest = p }) (rests_at way tops told placed (slice_get placed m)) r late
                   in
                   let here : m ≡ r.place = ap (λ (q : PlacedRest). q.place) same in
                   (let less : r.place < suc m = omega (arith, here) in less)

@@ -1,11 +1,12 @@
 -- What comes back by a copy is at its returns, or below them.
 use Rattle.dump_trees.proofs.Prelude.{◌≡◌, not, refl, sym, ap, ap₂, ◌∙◌, subst, append_assoc, and_parts, and_from, not-true, not_from_false, Settings, NodePath, keeps, Tree, Made, Change, History}
-use Rattle.std.proofs.Common.{Bool, true, false, ◌&&◌, List, [], ◌∷◌, ◌++◌, Some, is_some, Contains}
+use Rattle.std.proofs.Common.{true, false, ◌&&◌, List, [], ◌∷◌, ◌++◌, Some, is_some, Contains}
 use Rattle.dump_trees.specs.Siblings.{is_within, has_node_names}
 use Rattle.dump_trees.specs.ComingBack.{ComesBack}
 use Rattle.dump_trees.specs.Returns.{is_covered, rests_covered, returns, IsCopyOver, ReturnsTellAll}
-use Rattle.dump_trees.proofs.paths.SiblingLemmas.{rest_names, both_names, excluded_match}
-use Rattle.dump_trees.proofs.cuts.CoveredPaths.{contains_first, contains_none, filter_there, filter_passed, filter_has, within_found, exists_above, uncovered_above, rests_there, rests_above}
+use Rattle.dump_trees.proofs.paths.SiblingLemmas.{rest_names, both_names, excluded_match, within_found}
+use Rattle.dump_trees.proofs.cuts.CoveredPaths.{contains_none, filter_there, filter_passed, filter_has, exists_above, uncovered_above, rests_there, rests_above, no_elements}
+use Rattle.std.proofs.lemmas.Bool.{not-false}
 
 module _ (settings : Settings) (excluded : List NodePath) (history : History) (old : Tree) (c : Change) (source : NodePath)
     (over : IsCopyOver settings excluded history old c source) where
@@ -43,7 +44,7 @@ module _ (settings : Settings) (excluded : List NodePath) (history : History) (o
     exists = exists;
     kept = not-true _ (sym (excluded_match settings excluded (c.path ++ back.rest) over.excludes over.names
         (both_names c.path back.rest over.path (rest_named back.rest exists))) ∙ back.kept);
-    left = from_false (is_covered excluded (source ++ back.rest))
+    left = not-false (is_covered excluded (source ++ back.rest))
         (sym (excluded_match settings excluded (source ++ back.rest) over.excludes over.names
         (over.named (source ++ back.rest) exists))
         ∙ subst (λ s. keeps settings (s ++ back.rest) ≡ false) two back.left);
@@ -62,10 +63,6 @@ module _ (settings : Settings) (excluded : List NodePath) (history : History) (o
 
       exists : is_some (old (source ++ back.rest)) ≡ true
       exists = sym (ap₂ (λ (t : Tree) s. is_some (t (s ++ back.rest))) three two) ∙ back.stands
-
-      from_false : (b : Bool) → not b ≡ false → b ≡ true
-      from_false true is = refl
-      from_false false is = absurd (let bad : true ≡ false = is in cc)
 
   -- what is listed comes back
   listed_back : (rest : NodePath) → Contains (returns excluded old c.path source) rest → IsBackAt rest
@@ -115,12 +112,8 @@ module _ (settings : Settings) (excluded : List NodePath) (history : History) (o
     λ none back.
         let (first, more, there, same) = back_listed back.rest (back_at back) in
         contains_none first (subst (λ rs. Contains rs first) none there),
-    λ never. empty (returns excluded old c.path source) (λ rest there. never (is_back rest (listed_back rest there)).0),
+    λ never. no_elements (returns excluded old c.path source) (λ rest there. never (is_back rest (listed_back rest there)).0),
   )
-    where
-      empty : (rests : List NodePath) → ((rest : NodePath) → Contains rests rest → ⊥) → rests ≡ []
-      empty [] none = refl
-      empty (rest ∷ rests) none = absurd (none rest (contains_first rest rests))
 
 pub returns_tell_all : ReturnsTellAll
 returns_tell_all settings excluded history old c source over = tell_all settings excluded history old c source over

@@ -7,7 +7,7 @@ use Rattle.dump_trees.specs.ComingBack.{alone_if, coming_back, inside_coming_bac
 use Rattle.dump_trees.proofs.expansions.FoundSiblings.{contains_map}
 
 -- an element of a mapped list is the image of an element of the list
-contains_made : {A B : Type 0} (f : A → B) (xs : List A) (y : B) → Contains (map f xs) y
+pub contains_made : {A B : Type 0} (f : A → B) (xs : List A) (y : B) → Contains (map f xs) y
     → (x : A) × Contains xs x × (f x ≡ y)
 contains_made f [] y (k, low, is) = absurd (omega (arith, low))
 contains_made f (x ∷ xs) y (zero, low, is) = (x, (zero, omega arith, refl), is)

@@ -3,6 +3,7 @@ use Rattle.dump_trees.proofs.Prelude.{◌≡◌, cond, bytes_eq, ◌||◌, refl,
 use Rattle.std.proofs.Common.{ℕ, Bool, true, false, List, [], ◌∷◌, ◌++◌, Option, Some, None, option_and_then}
 use Rattle.dump_trees.specs.Branches.{Branch, Branches, tree_of, found, has_name}
 use Rattle.dump_trees.proofs.changes.TreeLemmas.{below_rest, below_top, parent_rest}
+use Rattle.dump_trees.proofs.changes.PlainLemmas.{at_twice}
 
 -- paths
 
@@ -46,14 +47,6 @@ IsSameOutside top before after = (path : NodePath) → below top path ≡ None �
 
 pub graft_outside : (top : NodePath) (new old : Tree) → IsSameOutside top old (grafted top new old)
 graft_outside top new old path apart = ap (λ o. at_or_below o new (old path)) apart
-
-pub put_at : (top : NodePath) (node : Node) (tree : Tree) → put top node tree top ≡ Some node
-put_at top node tree = ap (λ o. at_top o node (tree top)) (below_top top)
-
-at_twice : (o : Option NodePath) (n m : Node) (old : Option Node) → at_top o n (at_top o m old) ≡ at_top o n old
-at_twice None n m old = refl
-at_twice (Some []) n m old = refl
-at_twice (Some (name ∷ rest)) n m old = refl
 
 -- of two nodes that are put at a path, the later one exists there
 pub put_twice : (top : NodePath) (n m : Node) (tree : Tree) → put top n (put top m tree) ≡ put top n tree

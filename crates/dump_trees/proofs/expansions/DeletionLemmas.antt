@@ -1,9 +1,9 @@
 -- Deletions that clear paths.
-use Rattle.dump_trees.proofs.Prelude.{◌≡◌, cond, refl, ap, ◌∙◌, subst, inl, inr, option_map, list_all, list_any, both_ways, and_parts, and_from, or_cases, Settings, NodePath, keeps, below, parent_of, Node, Tree, at_or_below, grafted, empty_tree, Made, History, is_directory_at, has_directory, made_in, props_set, text_set, step, Separates}
+use Rattle.dump_trees.proofs.Prelude.{◌≡◌, cond, refl, ap, ◌∙◌, subst, inl, inr, option_map, list_all, list_any, both_ways, and_parts, and_from, or_cases, Settings, NodePath, keeps, below, parent_of, Tree, at_or_below, grafted, empty_tree, Made, History, is_directory_at, has_directory, made_in, props_set, text_set, step, Separates}
 use Rattle.std.proofs.Common.{ℕ, Bool, true, false, List, [], ◌∷◌, ◌++◌, Option, Some, None, option_and_then, is_some, is_none}
 use Rattle.dump_trees.specs.Leading.{Leads}
 use Rattle.dump_trees.specs.ExpansionCases.{deletion_of}
-use Rattle.dump_trees.proofs.changes.TreeLemmas.{below_rest, below_found}
+use Rattle.dump_trees.proofs.changes.TreeLemmas.{below_rest, below_found, none_of}
 use Rattle.dump_trees.proofs.expansions.LeadLemmas.{leads_nowhere, leads_one}
 use Rattle.dump_trees.proofs.expansions.BranchLemmas.{below_joined, IsSameOutside, graft_outside, IsClear}
 
@@ -65,10 +65,6 @@ graft_nothing top tree clear = λ i. λ path. cases path (below top path) refl i
 -- a path that is deleted is clear
 pub graft_clears : (top : NodePath) (tree : Tree) → IsClear (grafted top empty_tree tree) top
 graft_clears top tree rest = ap (λ o. at_or_below o empty_tree (tree (top ++ rest))) (below_found top rest)
-
-pub stands_cases : (o : Option Node) → is_some o ≡ false → o ≡ None
-stands_cases None is = refl
-stands_cases (Some node) is = absurd (let bad : true ≡ false = is in cc)
 
 -- one deletion
 
@@ -148,5 +144,5 @@ module _ (settings : Settings) (history : History) where
       leads_one settings history tree (grafted path empty_tree tree) (deletion_of path)
       (deletion_step history path tree (directory_parent tree (parent_of path) some) stands) apart
   clearing_leads path tree false stands some clear apart =
-      subst (λ t. Leads settings history tree [] t) (graft_nothing path tree (clear (stands_cases (tree path) stands)))
+      subst (λ t. Leads settings history tree [] t) (graft_nothing path tree (clear (none_of (tree path) stands)))
       (leads_nowhere settings history tree)

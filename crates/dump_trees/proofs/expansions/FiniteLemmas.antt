@@ -345,7 +345,7 @@ module _ (new : Option Branch) where
           or_from (bytes_eq first other) (has_name other (replaced_inside name (next ∷ rest) new others)) away further
 
 -- the same for another name, the other way round
-other_side : (first name : List ℕ) → bytes_eq first name ≡ false → bytes_eq name first ≡ false
+pub other_side : (first name : List ℕ) → bytes_eq first name ≡ false → bytes_eq name first ≡ false
 other_side first name apart = cases (bytes_eq name first) refl
   where
     cases : (b : Bool) → bytes_eq name first ≡ b → b ≡ false

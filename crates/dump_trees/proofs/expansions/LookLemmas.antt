@@ -6,6 +6,7 @@ use Rattle.std.proofs.lemmas.Option.{slice_get_within}
 use Rattle.dump_trees.specs.Looking.{Placed, placed_from, end_of, touches_rest, touches_path, holds_there, latest, Origin, origin_of, set_by, looked_up, left_at, left_there, look_behind, look_within, LookFinds, LookFindsEach}
 use Rattle.dump_trees.proofs.histories.KeptNumbers.{length_push, get_last, get_before, get_pushed}
 use Rattle.dump_trees.proofs.expansions.StandingLemmas.{origin_in, step_has, step_untouched, copy_has_tree}
+use Rattle.std.proofs.lemmas.Bool.{not-true}
 
 -- counts
 
@@ -18,11 +19,7 @@ pub count_none : (f : Placed → Bool) (ps : List Placed) → list_all (λ p. no
 count_none f [] none = refl
 count_none f (p ∷ ps) none =
     let parts = and_parts (not (f p)) (list_all (λ q. not (f q)) ps) none in
-    count_cons f p ps ∙ (ap₂ (λ b c. cond b 1 0 + c) (is_false (f p) parts.0) (count_none f ps parts.1) ∙ omega arith)
-  where
-    is_false : (b : Bool) → not b ≡ true → b ≡ false
-    is_false true is = sym is
-    is_false false is = refl
+    count_cons f p ps ∙ (ap₂ (λ b c. cond b 1 0 + c) (not-true (f p) parts.0) (count_none f ps parts.1) ∙ omega arith)
 
 count_front : (f : Placed → Bool) (ps qs : List Placed) → list_all (λ p. not (f p)) qs ≡ true
     → count_by f (ps ++ qs) ≡ count_by f ps

@@ -187,6 +187,36 @@ module _ (placed : List Placed) (bound : ℕ) (trees : List Tree) (runs : Runs r
       below_set [] old is = is
       below_set (first ∷ rest) old is = is
 
+      -- where something new is made, nothing was below, or it is deleted
+      new_here : (s.at.change.made ≡ Some Made.NewDirectory) ⊎ (s.at.change.made ≡ Some Made.NewFile)
+          → below s.at.change.path path ≡ Some []
+          → is_some (origin_in s.history (s.before (path ++ name ∷ [])) (left_by s.at.change.deletes)) ≡ true → ⊥
+      new_here new at some = sides s.at.change.deletes refl some
+        where
+          sides : (d : Bool) → s.at.change.deletes ≡ d
+              → is_some (origin_in s.history (s.before (path ++ name ∷ [])) (left_by d)) ≡ true → ⊥
+          sides true deletes some = let bad : false ≡ true = some in cc
+          sides false stays some =
+              both_ways (is_some (s.before (path ++ name ∷ [])))
+              (ap is_some
+              (clear_below s.before (directories_at more place low s.before s.was) path
+              (ap s.before (below_rest s.at.change.path path [] at ∙ append-nil s.at.change.path)
+              ∙ new_needs_none s.history s.before after s.at.change stays new s.leads) (name ∷ []))) some
+
+      -- what is new touches nothing below it, or deletes it
+      new_above : is_copied s.at.change.made ≡ false → (s.at.change.deletes || is_copied s.at.change.made) ≡ true
+          → is_some (origin_in s.history (s.before (path ++ name ∷ [])) (left_by s.at.change.deletes)) ≡ true → ⊥
+      new_above isnt touched some =
+          elim (or_cases s.at.change.deletes (is_copied s.at.change.made) touched) [
+            | inl deletes ↦ gone s.at.change.deletes deletes some
+            | inr copies ↦ let bad : false ≡ true = sym isnt ∙ copies in cc
+          ]
+        where
+          gone : (d : Bool) → d ≡ true
+              → is_some (origin_in s.history (s.before (path ++ name ∷ [])) (left_by d)) ≡ true → ⊥
+          gone true deletes some = let bad : false ≡ true = some in cc
+          gone false deletes some = let bad : false ≡ true = deletes in cc
+
       made_below : (made : Option Made) → s.at.change.made ≡ made → (rest : NodePath)
           → below s.at.change.path path ≡ Some rest → touches_rest (Some rest) s.at.change ≡ true
           → is_some (origin_in s.history (s.before (path ++ name ∷ []))
@@ -199,50 +229,10 @@ module _ (placed : List Placed) (bound : ℕ) (trees : List Tree) (runs : Runs r
               → Has name (names_from (names_within more placed) placed place path (left_by d))
           sides true some = absurd (let bad : false ≡ true = some in cc)
           sides false some = from_before some
-      made_below (Some Made.NewDirectory) is [] at touched some = sides s.at.change.deletes refl some
-        where
-          sides : (d : Bool) → s.at.change.deletes ≡ d
-              → is_some (origin_in s.history (s.before (path ++ name ∷ [])) (left_by d)) ≡ true → Has name []
-          sides true deletes some = absurd (let bad : false ≡ true = some in cc)
-          sides false stays some =
-              absurd (both_ways (is_some (s.before (path ++ name ∷ [])))
-              (ap is_some
-              (clear_below s.before (directories_at more place low s.before s.was) path
-              (ap s.before (below_rest s.at.change.path path [] at ∙ append-nil s.at.change.path)
-              ∙ new_needs_none s.history s.before after s.at.change stays (inl is) s.leads) (name ∷ []))) some)
-      made_below (Some Made.NewDirectory) is (first ∷ rest) at touched some =
-          absurd (gone (s.at.change.deletes)
-          (elim (or_cases s.at.change.deletes (is_copied s.at.change.made) touched) [
-            | inl deletes ↦ deletes
-            | inr copies ↦ absurd (let bad : false ≡ true = sym (ap is_copied is) ∙ copies in cc)
-          ]) some)
-        where
-          gone : (d : Bool) → d ≡ true
-              → is_some (origin_in s.history (s.before (path ++ name ∷ [])) (left_by d)) ≡ true → ⊥
-          gone true deletes some = let bad : false ≡ true = some in cc
-          gone false deletes some = let bad : false ≡ true = deletes in cc
-      made_below (Some Made.NewFile) is [] at touched some = sides s.at.change.deletes refl some
-        where
-          sides : (d : Bool) → s.at.change.deletes ≡ d
-              → is_some (origin_in s.history (s.before (path ++ name ∷ [])) (left_by d)) ≡ true → Has name []
-          sides true deletes some = absurd (let bad : false ≡ true = some in cc)
-          sides false stays some =
-              absurd (both_ways (is_some (s.before (path ++ name ∷ [])))
-              (ap is_some
-              (clear_below s.before (directories_at more place low s.before s.was) path
-              (ap s.before (below_rest s.at.change.path path [] at ∙ append-nil s.at.change.path)
-              ∙ new_needs_none s.history s.before after s.at.change stays (inr is) s.leads) (name ∷ []))) some)
-      made_below (Some Made.NewFile) is (first ∷ rest) at touched some =
-          absurd (gone (s.at.change.deletes)
-          (elim (or_cases s.at.change.deletes (is_copied s.at.change.made) touched) [
-            | inl deletes ↦ deletes
-            | inr copies ↦ absurd (let bad : false ≡ true = sym (ap is_copied is) ∙ copies in cc)
-          ]) some)
-        where
-          gone : (d : Bool) → d ≡ true
-              → is_some (origin_in s.history (s.before (path ++ name ∷ [])) (left_by d)) ≡ true → ⊥
-          gone true deletes some = let bad : false ≡ true = some in cc
-          gone false deletes some = let bad : false ≡ true = deletes in cc
+      made_below (Some Made.NewDirectory) is [] at touched some = absurd (new_here (inl is) at some)
+      made_below (Some Made.NewDirectory) is (first ∷ rest) at touched some = absurd (new_above (ap is_copied is) touched some)
+      made_below (Some Made.NewFile) is [] at touched some = absurd (new_here (inr is) at some)
+      made_below (Some Made.NewFile) is (first ∷ rest) at touched some = absurd (new_above (ap is_copied is) touched some)
       made_below (Some (Made.Copied number source)) is rest at touched some =
           let old = copy_has_tree s.history s.before after s.at.change number source is s.leads in
           let early = s.earlier number old.0 old.1 in

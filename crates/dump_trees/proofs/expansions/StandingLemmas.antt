@@ -2,7 +2,7 @@
 use Rattle.dump_trees.proofs.Prelude.{◌≡◌, cond, ◌||◌, refl, sym, ap, ◌∙◌, subst, append-nil, option_map, IfSome, or_parts, NodePath, below, parent_of, Node, Tree, at_or_below, grafted, at_top, put, empty_tree, Made, PropertyChange, TextChange, Change, History, has_directory, is_copied, copied, deleted, made_in, with_props, with_text, props_put, props_set, text_set, step}
 use Rattle.std.proofs.Common.{ℕ, Bool, true, false, ◌&&◌, [], ◌∷◌, ◌++◌, Option, Some, None, option_and_then, is_some, is_none}
 use Rattle.dump_trees.specs.Looking.{touches_rest, touches_path, Origin, left_by, origin_of, node_with_props, node_with_text, set_by}
-use Rattle.dump_trees.proofs.changes.TreeLemmas.{below_rest}
+use Rattle.dump_trees.proofs.changes.TreeLemmas.{below_rest, none_of}
 use Rattle.dump_trees.proofs.quiet.LeavingLemmas.{step_leaves}
 
 -- the origin, in trees, of what a change leaves
@@ -140,7 +140,7 @@ puts_has path top (name ∷ rest) at change tree = cases (tree top)
     cases None = tt
     cases (Some node) = put_has path top (name ∷ rest) at (with_props change node) tree
 
-no_edit : (o : Option Node) → o ≡ option_map (with_props (PropertyChange.Edited [])) o
+pub no_edit : (o : Option Node) → o ≡ option_map (with_props (PropertyChange.Edited [])) o
 no_edit None = refl
 no_edit (Some (Node.Directory props)) = refl
 no_edit (Some (Node.File props text)) = refl
@@ -222,23 +222,11 @@ nothing_done : (history : History) (before after : Tree) (c : Change) → c.dele
     → is_some c.props ≡ false → is_some c.text ≡ false → step history before c ≡ Some after → after ≡ before
 nothing_done history before after c deletes made props text at =
     let same : Some before ≡ Some after
-    = sym (λ i. option_and_then (λ t. text_set (no_text c.text text i) c.path t)
-    (option_and_then (λ t. props_set (no_props c.props props i) c.path t)
-    (option_and_then (λ t. made_in history (no_made c.made made i) c.path t) (deleted (deletes i) c.path before)))) ∙ at
+    = sym (λ i. option_and_then (λ t. text_set (none_of c.text text i) c.path t)
+    (option_and_then (λ t. props_set (none_of c.props props i) c.path t)
+    (option_and_then (λ t. made_in history (none_of c.made made i) c.path t) (deleted (deletes i) c.path before)))) ∙ at
     in
     (let both : after ≡ before = cc in both)
-  where
-    no_text : (o : Option TextChange) → is_some o ≡ false → o ≡ None
-    no_text None is = refl
-    no_text (Some t) is = absurd (let bad : true ≡ false = is in cc)
-
-    no_props : (o : Option PropertyChange) → is_some o ≡ false → o ≡ None
-    no_props None is = refl
-    no_props (Some p) is = absurd (let bad : true ≡ false = is in cc)
-
-    no_made : (o : Option Made) → is_some o ≡ false → o ≡ None
-    no_made None is = refl
-    no_made (Some m) is = absurd (let bad : true ≡ false = is in cc)
 
 -- a path that a change doesn't touch stays as it is
 pub step_untouched : (history : History) (before after : Tree) (c : Change) (path : NodePath)

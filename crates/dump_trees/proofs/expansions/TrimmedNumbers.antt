@@ -9,6 +9,13 @@ use Rattle.dump_trees.proofs.histories.KeptNumbers.{kept_above, image_kept}
 use Rattle.dump_trees.proofs.histories.HistoryLemmas.{root_directories, start_restricts, Ongoing, renumbered_restrict, next_kept, next_dropped, Ends, ended}
 use Rattle.dump_trees.proofs.expansions.TrimmedHistories.{trimmed_revision}
 
+-- a match at a known test
+pub at_true : (A B : Type 0) (b : Bool) → b ≡ true → A → MatchBool b A B
+at_true A B b is a = subst (λ c. MatchBool c A B) (sym is) a
+
+pub at_false : (A B : Type 0) (b : Bool) → b ≡ false → B → MatchBool b A B
+at_false A B b is a = subst (λ c. MatchBool c A B) (sym is) a
+
 -- nothing is written of changes of which none is kept
 none_trimmed : (settings : Settings) (IsNew : NewProperty) (IsNumber : NewNumber) (history : History) (before : Tree)
     (changes : List Change) → list_any (λ (c : Change). keeps settings c.path) changes ≡ false
@@ -18,9 +25,6 @@ none_trimmed settings IsNew IsNumber history before (c ∷ changes) none =
     let parts = or_parts (keeps settings c.path) (list_any (λ (d : Change). keeps settings d.path) changes) none in
     at_false _ _ (keeps settings c.path) parts.0
     (λ after at. none_trimmed settings IsNew IsNumber history after changes parts.1)
-  where
-    at_false : (A B : Type 0) (b : Bool) → b ≡ false → B → MatchBool b A B
-    at_false A B b is a = subst (λ d. MatchBool d A B) (sym is) a
 
 module _ (settings : Settings) (IsNew : NewProperty) (entries : KeepsEntries IsNew) (rule : EmptyRule)
     (exclude : settings.side ≡ Exclude) (renumber : settings.renumber ≡ true) (kept : KeptRevisions)

@@ -6,7 +6,8 @@ use Rattle.dump_trees.specs.WritingOut.{copy_of, directory_of, file_of, IsCutAli
 use Rattle.dump_trees.specs.Leading.{Leads}
 use Rattle.dump_trees.proofs.changes.TreeLemmas.{below_rest, below_found}
 use Rattle.dump_trees.proofs.expansions.LeadLemmas.{leads_nowhere, leads_first, leads_one, leads_then}
-use Rattle.dump_trees.proofs.expansions.BranchLemmas.{graft_outside, put_at, put_twice, child_directory, child_apart, below_joined, IsClear, root_stands, laid, laid_none, laid_first, laid_directory, file_grafted}
+use Rattle.dump_trees.proofs.expansions.BranchLemmas.{graft_outside, put_twice, child_directory, child_apart, below_joined, IsClear, root_stands, laid, laid_none, laid_first, laid_directory, file_grafted}
+use Rattle.dump_trees.proofs.changes.PlainLemmas.{put_at}
 
 -- single changes
 

@@ -35,7 +35,7 @@ split_name (b ∷ name) none =
     ∙ ap (onto_first b) (split_name name parts.1)
 
 -- what remains after a test passes it
-filtered_pass : (names : NodePath) → has_node_names (filter is_node_name names) ≡ true
+pub filtered_pass : (names : NodePath) → has_node_names (filter is_node_name names) ≡ true
 filtered_pass [] = refl
 filtered_pass (name ∷ names) = cases (is_node_name name) refl (filtered_pass names)
   where
@@ -45,7 +45,7 @@ filtered_pass (name ∷ names) = cases (is_node_name name) refl (filtered_pass n
     cases false is rest = rest
 
 -- names that pass the test stay
-passing_stay : (names : NodePath) → has_node_names names ≡ true → filter is_node_name names ≡ names
+pub passing_stay : (names : NodePath) → has_node_names names ≡ true → filter is_node_name names ≡ names
 passing_stay [] are = refl
 passing_stay (name ∷ names) are =
     let parts = and_parts (is_node_name name) (has_node_names names) are in

@@ -1,10 +1,10 @@
 -- The path that a prefix names.
-use Rattle.dump_trees.proofs.Prelude.{◌≡◌, not, cond, bytes_eq, nat_eq, nat_lt, refl, sym, ap, ap₂, ◌∙◌, subst, arith, append-nil, append_assoc, list_all, onto_first, starts_with, and_parts, and_from, not-true, not_from_false, bare_prefix, bare_path, begins_path, matches_path, NodePath, path_text, path_of, names_of, is_name, below}
+use Rattle.dump_trees.proofs.Prelude.{◌≡◌, not, cond, bytes_eq, nat_eq, nat_lt, refl, sym, ap, ap₂, ◌∙◌, subst, append-nil, append_assoc, list_all, onto_first, starts_with, and_parts, and_from, not-true, not_from_false, bare_prefix, bare_path, begins_path, matches_path, NodePath, path_text, path_of, names_of, is_name, below}
 use Rattle.std.proofs.Common.{ℕ, Bool, true, false, ◌&&◌, List, [], ◌∷◌, ◌++◌, length, reverse, Option, None, is_some}
 use Rattle.std.proofs.lemmas.List.{reverse-append, reverse-reverse}
 use Rattle.dump_rules.specs.Prefix.{without_leading_slashes, without_trailing_slashes}
 use Rattle.dump_trees.specs.Siblings.{is_within}
-use Rattle.dump_trees.proofs.paths.KeptPaths.{reaches, reaches_more}
+use Rattle.dump_trees.proofs.paths.KeptPaths.{reaches, reaches_more, eq_sym}
 use Rattle.dump_trees.proofs.paths.PathNames.{split, split_text, text_read}
 
 -- names without slashes
@@ -12,11 +12,8 @@ use Rattle.dump_trees.proofs.paths.PathNames.{split, split_text, text_read}
 abbrev pub has_no_slash : List ℕ → Bool
 has_no_slash name = list_all (λ b. not (nat_eq b 47)) name
 
-flip : (a b : ℕ) → nat_eq a b ≡ nat_eq b a
-flip a b = grind arith
-
 same_end : (b c : ℕ) (r s : Bool) → r ≡ s → (nat_eq c b && r) ≡ (nat_eq b c && s)
-same_end b c r s same = ap₂ (λ t u. t && u) (flip c b) same
+same_end b c r s same = ap₂ (λ t u. t && u) (eq_sym c b) same
 
 both_cond : {A : Type 0} (a b : Bool) (o : Option A)
     → (a && is_some (cond b o None)) ≡ is_some (cond (a && b) o None)
@@ -38,7 +35,7 @@ reaches_names [] [] (first ∷ top) (next ∷ path) n o t p =
     ∙ reaches_names first next top path tops.0 paths.0 tops.1 paths.1
 reaches_names [] (c ∷ other) [] path n o t p =
     let parts = and_parts (not (nat_eq c 47)) (has_no_slash other) o in
-    ap (λ b. b && starts_with nat_eq (other ++ path_text path) []) (flip 47 c ∙ not-true _ parts.0)
+    ap (λ b. b && starts_with nat_eq (other ++ path_text path) []) (eq_sym 47 c ∙ not-true _ parts.0)
 reaches_names [] (c ∷ other) (first ∷ top) path n o t p =
     let parts = and_parts (not (nat_eq c 47)) (has_no_slash other) o in
     reaches_more 47 c (first ++ path_text top) (other ++ path_text path)
@@ -47,7 +44,7 @@ reaches_names (b ∷ name) [] top [] n o t p = refl
 reaches_names (b ∷ name) [] top (next ∷ path) n o t p =
     let parts = and_parts (not (nat_eq b 47)) (has_no_slash name) n in
     reaches_more b 47 (name ++ path_text top) (next ++ path_text path)
-    ∙ ap (λ s. s && reaches (name ++ path_text top) (next ++ path_text path)) (flip 47 b ∙ not-true _ parts.0)
+    ∙ ap (λ s. s && reaches (name ++ path_text top) (next ++ path_text path)) (eq_sym 47 b ∙ not-true _ parts.0)
 reaches_names (b ∷ name) (c ∷ other) top path n o t p =
     let names = and_parts (not (nat_eq b 47)) (has_no_slash name) n in
     let others = and_parts (not (nat_eq c 47)) (has_no_slash other) o in

@@ -31,7 +31,8 @@ drop_front : (front rest : List ℕ) → drop (length front) (front ++ rest) ≡
 drop_front [] rest = refl
 drop_front (b ∷ front) rest = drop_front front rest
 
-same_rest : (front some others : List ℕ) → front ++ some ≡ front ++ others → some ≡ others
+-- what follows the same list is the same
+pub same_rest : {A : Type 0} (front some others : List A) → front ++ some ≡ front ++ others → some ≡ others
 same_rest [] some others is = is
 same_rest (b ∷ front) some others is =
     same_rest front some others (let both : b ∷ (front ++ some) ≡ b ∷ (front ++ others) = is in cc)

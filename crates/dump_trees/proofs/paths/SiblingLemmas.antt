@@ -64,7 +64,7 @@ pub higher_found : (path : NodePath) (name : List ℕ) (rest : NodePath)
 higher_found path name rest = ap has_name_behind (below_found path (name ∷ rest))
 
 -- of two paths above a third one, one is at or below the other
-one_in_other : (first second first_rest second_rest : NodePath) → first ++ first_rest ≡ second ++ second_rest
+pub one_in_other : (first second first_rest second_rest : NodePath) → first ++ first_rest ≡ second ++ second_rest
     → ((rest : NodePath) × (first ≡ second ++ rest))
     ⊎ ((name : List ℕ) × (rest : NodePath) × (second ≡ first ++ name ∷ rest))
 one_in_other first [] first_rest second_rest same = inl (first, refl)
@@ -81,8 +81,9 @@ one_in_other (other ∷ first) (name ∷ second) first_rest second_rest same =
 
 -- the cut
 
-any_more : (f g : NodePath → Bool) → ((top : NodePath) → f top ≡ true → g top ≡ true) → (tops : List NodePath)
-    → list_any f tops ≡ true → list_any g tops ≡ true
+-- if an element passes a test, some element passes each weaker test
+pub any_more : {A : Type 0} (f g : A → Bool) → ((x : A) → f x ≡ true → g x ≡ true) → (xs : List A)
+    → list_any f xs ≡ true → list_any g xs ≡ true
 any_more f g more [] some = some
 any_more f g more (top ∷ tops) some =
     elim (or_cases (f top) (list_any f tops) some) [
@@ -192,7 +193,7 @@ leaves_cut : (included : List NodePath) (path : NodePath) → is_in_cut included
 leaves_cut included path out = leaves_from included [] path (root_inside included) out
 
 -- a path in the cut, below which a path isn't in it, is above an included path
-above_there : (included : List NodePath) (top : NodePath) (name : List ℕ) → is_in_cut included top ≡ true
+pub above_there : (included : List NodePath) (top : NodePath) (name : List ℕ) → is_in_cut included top ≡ true
     → is_in_cut included (top ++ name ∷ []) ≡ false → is_above_included included top ≡ true
 above_there included top name inside outside =
     elim (or_cases (list_any (λ other. is_within other top) included) (is_above_included included top) inside) [

@@ -6,15 +6,12 @@ use Rattle.dump_trees.proofs.changes.TreeLemmas.{below_rest}
 use Rattle.dump_trees.proofs.paths.PrefixRests.{above_rest, rest_is, both_rests, any_longer}
 use Rattle.dump_trees.proofs.quiet.LeavingLemmas.{step_leaves}
 use Rattle.dump_trees.proofs.histories.HistoryLemmas.{history}
+use Rattle.std.proofs.lemmas.Bool.{or_left}
 
 pub same_answer : (a b : Bool) → (a ≡ true → b ≡ true) → (b ≡ true → a ≡ true) → a ≡ b
 same_answer true b there back = sym (there refl)
 same_answer false true there back = back refl
 same_answer false false there back = refl
-
-or_here : (a b : Bool) → a ≡ true → (a || b) ≡ true
-or_here true b is = refl
-or_here false b is = absurd (let bad : false ≡ true = is in cc)
 
 -- dropped changes
 
@@ -167,7 +164,7 @@ module _ (settings : Settings) (history : History) (before after : Tree) (c : Ch
 
   quiet_plain : IsTrue (keeps settings c.path) → PlainSeparates settings history before c
   quiet_plain is number source made left = (
-    λ old named. or_here (is_some c.props) (has_no_props (old source))
+    λ old named. or_left (is_some c.props) (has_no_props (old source))
         (sym (cond-false (keeps settings source)
         (cuts_alike settings.side settings source c.path && cuts_alike settings.side settings c.path source)
         (is_some c.props) left)

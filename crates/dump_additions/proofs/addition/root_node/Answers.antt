@@ -12,8 +12,8 @@ use Rattle.dump_cut.proofs.ParentLemmas.{ends_named}
 use Rattle.dump_index.specs.Listed.{listed_of}
 use Rattle.dump_additions.specs.Additions.{MakesRoot}
 use Rattle.dump_additions.specs.steps.Nodes.{IsRootText}
-use Rattle.dump_additions.proofs.NodeLemmas.{named_bare}
 use Rattle.dump_additions.proofs.addition.root_node.Goals as goal
+use Rattle.dump_cut.proofs.FoundDeletes.{named_bare}
 
 pub kind_at-requires : goal.kind_at-requires
 kind_at-requires c = ends_named c.args.change.now.path.now (and_parts (has_node_names (names_of c.args.change.now.path.now)) _ c.requires.named).0

@@ -1,7 +1,8 @@
 use Rattle.std.proofs.Common.{subst, arith, refl}
 use Rattle.dump_records.specs.declared.cutter.Cut.{Cut}
+use Rattle.dump_records.proofs.CutterLemmas.{read_ends, read_nearer}
 use Rattle.dump_changes.proofs.Prelude.{Ending, CutStep, record_item}
-use Rattle.dump_changes.proofs.StepLemmas.{none_read, is_next, not_in_order, read_nearer, read_revision, read_other, read_more, all_records, read_so_far}
+use Rattle.dump_changes.proofs.StepLemmas.{none_read, is_next, not_in_order, read_revision, read_other, read_more, read_so_far}
 use Rattle.dump_changes.proofs.read.read_changes.Goals as goal
 
 pub loop-item-init : goal.loop-item-init
@@ -12,8 +13,8 @@ loop-item-init c =
 pub loop-item-smaller-in-Revision : goal.loop-item-smaller-in-Revision
 loop-item-smaller-in-Revision c =
     let step = subst (λ (x : Cut). CutStep c.loop-item.cutter x c.next.new.self) c.in-Item.is c.next.ensures in
-    let near = read_nearer c.args.dump.now c.loop-item.cutter c.next.new.self c.loop-item.at c.loop-item.changes.items
-    c.loop-item.numbers.items c.loop-item.invariant c.in-Item.item step in
+    let near =
+    read_nearer c.args.dump.now c.loop-item.cutter c.next.new.self c.loop-item.invariant.read c.in-Item.item step in
     omega (arith, near.0, near.1)
 
 pub loop-item-preserved-in-Revision : goal.loop-item-preserved-in-Revision
@@ -27,8 +28,8 @@ loop-item-preserved-in-Revision c =
 pub loop-item-smaller-in-Other : goal.loop-item-smaller-in-Other
 loop-item-smaller-in-Other c =
     let step = subst (λ (x : Cut). CutStep c.loop-item.cutter x c.next.new.self) c.in-Item.is c.next.ensures in
-    let near = read_nearer c.args.dump.now c.loop-item.cutter c.next.new.self c.loop-item.at c.loop-item.changes.items
-    c.loop-item.numbers.items c.loop-item.invariant c.in-Item.item step in
+    let near =
+    read_nearer c.args.dump.now c.loop-item.cutter c.next.new.self c.loop-item.invariant.read c.in-Item.item step in
     omega (arith, near.0, near.1)
 
 pub loop-item-preserved-in-Other : goal.loop-item-preserved-in-Other
@@ -42,8 +43,8 @@ loop-item-preserved-in-Other c =
 pub loop-item-smaller : goal.loop-item-smaller
 loop-item-smaller c =
     let step = subst (λ (x : Cut). CutStep c.loop-item.cutter x c.next.new.self) c.in-Item.is c.next.ensures in
-    let near = read_nearer c.args.dump.now c.loop-item.cutter c.next.new.self c.loop-item.at c.loop-item.changes.items
-    c.loop-item.numbers.items c.loop-item.invariant c.in-Item.item step in
+    let near =
+    read_nearer c.args.dump.now c.loop-item.cutter c.next.new.self c.loop-item.invariant.read c.in-Item.item step in
     omega (arith, near.0, near.1)
 
 pub loop-item-preserved : goal.loop-item-preserved
@@ -83,14 +84,13 @@ pub returns-in-Finished : goal.returns-in-Finished
 returns-in-Finished c =
     let step = subst (λ (x : Cut). CutStep c.loop-item.cutter x c.next.new.self) c.in-Finished.is c.next.ensures in
     read_so_far c.args.dump.now c.loop-item.cutter c.next.new.self c.loop-item.at c.loop-item.changes.items
-    c.loop-item.numbers.items c.loop-item.invariant _ _ _ _ refl refl c.ended-in-Finished.ensures (all_records
-    c.args.dump.now c.loop-item.cutter c.next.new.self c.loop-item.at c.loop-item.changes.items
-    c.loop-item.numbers.items c.loop-item.invariant Ending.Whole step.0)
+    c.loop-item.numbers.items c.loop-item.invariant _ _ _ _ refl refl c.ended-in-Finished.ensures (read_ends
+    c.args.dump.now c.loop-item.cutter c.next.new.self c.loop-item.invariant.read Ending.Whole step.0)
 
 pub returns-in-Fault : goal.returns-in-Fault
 returns-in-Fault c =
     let step = subst (λ (x : Cut). CutStep c.loop-item.cutter x c.next.new.self) c.in-Fault.is c.next.ensures in
     read_so_far c.args.dump.now c.loop-item.cutter c.next.new.self c.loop-item.at c.loop-item.changes.items
-    c.loop-item.numbers.items c.loop-item.invariant _ _ _ _ refl refl c.ended-in-Fault.ensures (all_records
-    c.args.dump.now c.loop-item.cutter c.next.new.self c.loop-item.at c.loop-item.changes.items
-    c.loop-item.numbers.items c.loop-item.invariant (Ending.Broken c.in-Fault.kind c.in-Fault.place) step.0)
+    c.loop-item.numbers.items c.loop-item.invariant _ _ _ _ refl refl c.ended-in-Fault.ensures (read_ends
+    c.args.dump.now c.loop-item.cutter c.next.new.self c.loop-item.invariant.read
+    (Ending.Broken c.in-Fault.kind c.in-Fault.place) step.0)

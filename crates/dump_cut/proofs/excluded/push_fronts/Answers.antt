@@ -2,10 +2,10 @@ use Rattle.std.proofs.Common.{◌||◌, ap, ◌∙◌, arith, bytes_eq, take}
 use Rattle.dump_index.specs.Children.{is_child_named}
 use Rattle.dump_index.specs.steps.Names.{texts_of}
 use Rattle.dump_index.proofs.ChildLemmas.{pushed_named}
-use Rattle.dump_index.proofs.LookNames.{or_assoc}
 use Rattle.dump_cut.proofs.DirectoryLemmas.{front_all, front_more, front_same, is_front_within}
 use Rattle.dump_cut.proofs.excluded.push_fronts.Goals as goal
 use Rattle.dump_cut.proofs.excluded.push_fronts.Goals.{then-byte-eq47+in_ok-push, else-byte-eq47}
+use Rattle.std.proofs.Math.Bool.{or_assoc}
 
 pub loop-place-preserved : goal.loop-place-preserved
 loop-place-preserved c front =

@@ -1,7 +1,7 @@
 use Rattle.std.proofs.Common.{subst, arith, refl}
 use Rattle.dump_records.specs.declared.cutter.Cut.{Cut}
 use Rattle.dump_records.specs.steps.RecordViews.{CutStep}
-use Rattle.dump_cut.proofs.CutterLemmas.{read_nearer}
+use Rattle.dump_records.proofs.CutterLemmas.{read_nearer}
 use Rattle.dump_cut.proofs.FateLemmas.{all_fates, fates_more, no_fates}
 use Rattle.dump_cut.proofs.fates.revision_fates.Goals as goal
 

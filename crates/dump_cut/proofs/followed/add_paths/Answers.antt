@@ -1,8 +1,7 @@
 use Rattle.std.proofs.Common.{◌≡◌, [], ◌∷◌, true, arith, get_or, length, map, take, sym, ap, subst, ◌∙◌}
-use Rattle.std.proofs.lemmas.List.{length-map, take_more}
+use Rattle.std.proofs.lemmas.List.{length-map, take_more, map-append}
 use Rattle.dump_trees.specs.Returns.{is_covered}
 use Rattle.dump_cut.specs.steps.FollowedPaths.{IsIdle}
-use Rattle.dump_cut.proofs.GrowingLemmas.{map_joined}
 use Rattle.std.specs.Prelude.{Contains}
 use Rattle.dump_trees.specs.Paths.{names_of}
 use Rattle.dump_cut.specs.steps.ExcludedPaths.{paths_of}
@@ -41,7 +40,7 @@ loop-path-preserved c =
           subst (λ paths. IsIdle (paths_of c.args.excluded.now) paths (paths_of c.add_path.new.excluded))
           (sym (ap (map (λ path. names_of path.items))
           (take_more c.args.paths.now c.loop-path.path-index _ c.loop-path-test.true)
-          ∙ map_joined (λ path. names_of path.items) (take c.loop-path.path-index c.args.paths.now) (_ ∷ [])))
+          ∙ map-append (λ path. names_of path.items) (take c.loop-path.path-index c.args.paths.now) (_ ∷ [])))
           (idle_more (paths_of c.args.excluded.now)
           (map (λ path. names_of path.items) (take c.loop-path.path-index c.args.paths.now)) (paths_of c.loop-path.excluded)
           (paths_of c.add_path.new.excluded) (names_of (get_or c.args.paths.now c.loop-path.path-index _).items)

@@ -6,7 +6,7 @@ use Rattle.dump_records.specs.steps.RecordViews.{CutStep, record_item}
 use Rattle.dump_digest.specs.RecordParts.{is_revision_record}
 use Rattle.dump_filter.specs.Groups.{revision_number}
 use Rattle.dump_filter.proofs.again.Output.{header_small}
-use Rattle.dump_cut.proofs.CutterLemmas.{read_nearer}
+use Rattle.dump_records.proofs.CutterLemmas.{read_nearer}
 use Rattle.dump_cut.proofs.LaterLemmas.{all_counted, next_counted, none_counted, not_counted, other_counted}
 use Rattle.dump_cut.proofs.later.count_revisions.Goals as goal
 

@@ -2,7 +2,7 @@ use Rattle.std.proofs.Common.{subst, arith, sym, ◌∙◌, rules}
 use Rattle.dump_records.specs.declared.cutter.Cut.{Cut}
 use Rattle.dump_records.specs.steps.RecordViews.{CutStep}
 use Rattle.dump_cut.specs.steps.CountedRevisions.{is_after}
-use Rattle.dump_cut.proofs.CutterLemmas.{read_nearer}
+use Rattle.dump_records.proofs.CutterLemmas.{read_nearer}
 use Rattle.dump_cut.proofs.LaterLemmas.{is_first, is_none, none_more, none_yet}
 use Rattle.dump_cut.proofs.later.first_place.Goals as goal
 

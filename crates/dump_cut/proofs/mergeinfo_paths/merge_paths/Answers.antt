@@ -3,7 +3,7 @@ use Rattle.dump_records.specs.declared.cutter.Cut.{Cut}
 use Rattle.dump_records.specs.steps.RecordViews.{CutStep, record_item}
 use Rattle.dump_trees.specs.Paths.{names_of}
 use Rattle.dump_cut.specs.steps.MergePaths.{AddsPaths}
-use Rattle.dump_cut.proofs.CutterLemmas.{none_read, read_more, read_nearer}
+use Rattle.dump_records.proofs.CutterLemmas.{none_read, read_more, read_nearer}
 use Rattle.dump_cut.proofs.MergePathLemmas.{IsInRecords, all_read, merge_paths_named, no_records, none_added, record_added}
 use Rattle.dump_cut.proofs.mergeinfo_paths.merge_paths.Goals as goal
 

@@ -1,7 +1,7 @@
 use Rattle.std.proofs.Common.{[], ◌-◌, length, map}
 use Rattle.dump_trees.specs.Paths.{names_of}
 use Rattle.dump_cut.specs.steps.MergePaths.{AddsPaths}
-use Rattle.dump_cut.proofs.CutterLemmas.{ReadSoFar}
+use Rattle.dump_records.proofs.CutterLemmas.{ReadSoFar}
 use Rattle.dump_cut.proofs.MergePathLemmas.{IsInRecords}
 use Rattle.dump_cut.proofs.mergeinfo_paths.merge_paths.Given as goal
 

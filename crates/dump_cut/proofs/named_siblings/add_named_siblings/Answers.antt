@@ -9,11 +9,11 @@ use Rattle.dump_trees.proofs.cuts.CoveredPaths.{all_has, contains_none}
 use Rattle.dump_cut.specs.NamedLines.{is_left_by}
 use Rattle.dump_cut.specs.steps.ExcludedPaths.{paths_of}
 use Rattle.dump_cut.proofs.FollowedLemmas.{contains_at}
-use Rattle.dump_cut.proofs.GrowingLemmas.{map_joined}
 use Rattle.dump_cut.proofs.MergePathLemmas.{named_canonical}
 use Rattle.dump_cut.proofs.NamedSiblings.{left_more, mergeinfo_covered, more_then, same_more}
 use Rattle.dump_cut.proofs.RangeLemmas.{shown_twice}
 use Rattle.dump_cut.proofs.named_siblings.add_named_siblings.Goals as goal
+use Rattle.std.proofs.lemmas.List.{map-append}
 
 pub loop-path-init : goal.loop-path-init
 loop-path-init c = record {
@@ -41,7 +41,7 @@ loop-path-preserved c =
       covered = λ path there.
           elim (Contains-push_cases (map (λ path. names_of path.now.items) c.loop-path.yielded) (names_of c.in-Some.path.now.items) path
           (subst (λ (ps : List NodePath). Contains ps path)
-          (map_joined (λ path. names_of path.now.items) c.loop-path.yielded (c.in-Some.path ∷ [])) there)) [
+          (map-append (λ path. names_of path.now.items) c.loop-path.yielded (c.in-Some.path ∷ [])) there)) [
             | inl early ↦ left_more included old new c.in_ok-add_on_way.ensures.more path (c.loop-path.invariant.covered path early)
             | inr same ↦ subst (λ (p : NodePath). is_left_by included new p ≡ true) same own
           ];

@@ -1,7 +1,7 @@
 use Rattle.std.proofs.Common.{◌≡◌, ◌++◌, ◌&&◌, not, true, false, is_some, sym, ap, ◌∙◌}
 use Rattle.std.proofs.lemmas.Bool.{and_right}
 use Rattle.dump_index.specs.Kinds.{kind_look}
-use Rattle.dump_cut.proofs.ReturnedLemmas.{kind_some, with_true}
+use Rattle.dump_cut.proofs.ReturnedLemmas.{kind_some}
 use Rattle.dump_trees.specs.Paths.{names_of}
 use Rattle.dump_trees.specs.Returns.{is_covered}
 use Rattle.dump_index.specs.InOrder.{ends_in_slash}
@@ -9,6 +9,7 @@ use Rattle.dump_index.specs.ToldKinds.{kinds_told_by}
 use Rattle.dump_index.proofs.SlashLemmas.{ends_joined, names_joined}
 use Rattle.dump_cut.specs.steps.ExcludedPaths.{paths_of}
 use Rattle.dump_cut.proofs.returns.is_new_there.Goals as goal
+use Rattle.std.proofs.Math.Bool.{and-true}
 
 pub returns-then-covers : goal.returns-then-covers
 returns-then-covers c =
@@ -32,6 +33,6 @@ returns c =
     c.is_some.ensures
     ∙ (ap is_some (c.in_ok-kind.ensures ∙ ap (kind_look c.args.index.now c.args.count) there)
     ∙ (sym (kind_some _)
-    ∙ (sym (with_true _)
+    ∙ (sym (and-true _)
     ∙ sym (ap (λ b. is_some (kinds_told_by c.args.index.now c.args.count (names_of c.args.source.now ++ names_of c.args.rest.now))
     && not b) outside))))

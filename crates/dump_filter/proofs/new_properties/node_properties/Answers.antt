@@ -1,6 +1,6 @@
 use Rattle.dump_filter.proofs.Prelude.{◌≡◌, List, false, ap, sym, subst, ◌∙◌, Property, record_item, Record, HasGoodMergeinfo, made_or, AreNewProperties, new_block, HasPropertyList}
 use Rattle.std.proofs.Common.{IfOk}
-use Rattle.dump_filter.proofs.written.OutputLemmas.{if_ok}
+use Rattle.std.proofs.lemmas.Result.{IfOk-weaker}
 use Rattle.dump_filter.proofs.answer.MergeLemmas.{read_lines, asked_node}
 use Rattle.dump_filter.proofs.written.PropertyOutput.{no_mergeinfo}
 use Rattle.dump_filter.proofs.new_properties.node_properties.Goals as goal
@@ -34,7 +34,7 @@ returns-then-has_mergeinfo c =
 pub returns-else-has_mergeinfo : goal.returns-else-has_mergeinfo
 returns-else-has_mergeinfo c =
     let (kept, read, ok) = c.requires.node in
-    if_ok c.respelled_block.result _ _ (λ made written ps is. (
+    IfOk-weaker c.respelled_block.result _ _ (λ made written ps is. (
       ps,
       no_mergeinfo c.args.options.now c.args.kept.now ps
           (sym (c.has_mergeinfo.ensures kept ok ps is) ∙ c.if-has_mergeinfo.false),

@@ -1,6 +1,7 @@
 use Rattle.dump_filter.proofs.Prelude.{◌≡◌, List, ℕ, false, ap, sym, subst, ◌∙◌, ◌++◌, codes, Property, made_or, record_item, Record, IsOwnNode, AreNewProperties, new_block, AreLengths, new_record, HasPropertyList}
 use Rattle.std.proofs.Common.{OnOk}
-use Rattle.dump_filter.proofs.written.OutputLemmas.{on_ok, node_is}
+use Rattle.std.proofs.lemmas.Result.{on_ok_weaker}
+use Rattle.dump_filter.proofs.written.OutputLemmas.{node_is}
 use Rattle.dump_filter.proofs.output.push_node.Goals as goal
 
 pub returns : goal.returns
@@ -18,7 +19,7 @@ returns c =
     subst (λ (x : Record). OnOk c.push_record.result
     ((text : List ℕ) × (c.push_record.new.piece ≡ c.args.piece.now ++ text)
     × IsOwnNode c.args.options.now c.args.kept.now (record_item x) c.args.copy text)) c.item-item.ensures
-    (on_ok c.push_record.result _ _ (λ pushed. (
+    (on_ok_weaker c.push_record.result (λ pushed. (
       own,
       pushed,
       λ ps is.

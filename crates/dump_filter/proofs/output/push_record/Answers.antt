@@ -1,5 +1,6 @@
 use Rattle.dump_filter.proofs.Prelude.{◌≡◌, ℕ, Option, ap, subst, ◌∙◌, ◌++◌, Vec, block_text, record_item, made_or, new_headers}
-use Rattle.dump_filter.proofs.written.OutputLemmas.{on_ok, lines_out}
+use Rattle.std.proofs.lemmas.Result.{on_ok_weaker}
+use Rattle.dump_filter.proofs.written.OutputLemmas.{lines_out}
 use Rattle.dump_filter.proofs.output.push_record.Goals as goal
 use Rattle.dump_filter.proofs.output.push_record.Goals.{in-Some+in_ok-push-in-Some, in-None-2+in_ok-push-in-None-2}
 
@@ -16,6 +17,6 @@ returns c =
           ∙ ap (λ t. old ++ t) (w.bytes.ensures ∙ ap block_text w.block.ensures.lines
           ∙ subst IsWritten w.in-None.is c.in_ok-block.ensures)
     ] in
-    on_ok c.push_content.result _ _ (λ pushed.
+    on_ok_weaker c.push_content.result (λ pushed.
     lines_out old lines (made_or c.args.props r.props) r.text c.args.end.now _ _ before pushed)
     c.push_content.ensures

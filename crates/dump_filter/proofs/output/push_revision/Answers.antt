@@ -1,7 +1,8 @@
 use Rattle.dump_filter.proofs.Prelude.{◌≡◌, List, ap, sym, subst, ◌∙◌, ◌++◌, Property, record_item, Record, made_or, AreLengths, revision_own, HasPropertyList}
 use Rattle.std.proofs.Common.{OnOk}
 use Rattle.dump_filter.proofs.answer.MergeLemmas.{asked_revision}
-use Rattle.dump_filter.proofs.written.OutputLemmas.{on_ok, revision_is}
+use Rattle.std.proofs.lemmas.Result.{on_ok_weaker}
+use Rattle.dump_filter.proofs.written.OutputLemmas.{revision_is}
 use Rattle.dump_filter.proofs.output.push_revision.Goals as goal
 
 pub read_props-requires-clause-asked : goal.read_props-requires-clause-asked
@@ -20,7 +21,7 @@ returns c =
     subst (λ (r : Record). OnOk c.push_record.result ((ps : List Property) → HasPropertyList (record_item r) ps
     → c.push_record.new.piece ≡ c.args.piece.now ++ revision_own
     (record_item r) c.args.number c.args.padded ps)) c.item-item.ensures
-    (on_ok c.push_record.result _ _ (λ pushed ps is.
+    (on_ok_weaker c.push_record.result (λ pushed ps is.
     pushed ∙ ap (λ t. c.args.piece.now ++ t)
     (revision_is changes.result
     (record_item item) c.args.number c.args.padded _ _ ps changes.ensures.revision changes.ensures.copy

@@ -1,6 +1,6 @@
 use Rattle.std.proofs.Common.{◌≤◌, arith, le-leb}
 use Rattle.dump_changes.proofs.Prelude.{record_item}
-use Rattle.dump_changes.proofs.StepLemmas.{own_number, present_revision, revision_counts, revision_reads, revision_rises}
+use Rattle.dump_changes.proofs.StepLemmas.{own_number, revision_counts, revision_reads, revision_rises}
 use Rattle.dump_changes.proofs.read.Position.revision.Goals as goal
 
 pub returns-clause-reading : goal.returns-clause-reading

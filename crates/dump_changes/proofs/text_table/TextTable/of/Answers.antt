@@ -2,8 +2,9 @@ use Rattle.std.proofs.Common.{subst, arith}
 use Rattle.dump_records.specs.declared.cutter.Cut.{Cut}
 use Rattle.dump_changes.specs.FileTexts.{told_text}
 use Rattle.dump_changes.specs.steps.StoredTexts.{told_of}
+use Rattle.dump_records.proofs.CutterLemmas.{read_nearer}
 use Rattle.dump_changes.proofs.Prelude.{CutStep}
-use Rattle.dump_changes.proofs.TableLemmas.{all_parts, nearer, no_parts, one_more_part}
+use Rattle.dump_changes.proofs.TableLemmas.{all_parts, no_parts, one_more_part}
 use Rattle.dump_changes.proofs.text_table.TextTable.of.Goals as goal
 
 pub loop-item-init : goal.loop-item-init
@@ -14,8 +15,8 @@ loop-item-init c =
 pub loop-item-smaller : goal.loop-item-smaller
 loop-item-smaller c =
     let step = subst (λ (x : Cut). CutStep c.loop-item.cutter x c.next.new.self) c.in-Item.is c.next.ensures in
-    let near = nearer told_of told_text c.args.dump.now c.loop-item.cutter c.next.new.self c.loop-item.texts.items
-    c.loop-item.invariant c.in-Item.item step in
+    let near =
+    read_nearer c.args.dump.now c.loop-item.cutter c.next.new.self c.loop-item.invariant.read c.in-Item.item step in
     omega (arith, near.0, near.1)
 
 pub loop-item-preserved : goal.loop-item-preserved

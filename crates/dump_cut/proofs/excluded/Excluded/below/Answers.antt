@@ -6,14 +6,14 @@ use Rattle.dump_index.specs.steps.Touching.{rest_text}
 use Rattle.dump_cut.specs.steps.ExcludedPaths.{paths_of}
 use Rattle.dump_cut.specs.steps.ExcludedTexts.{texts_below}
 use Rattle.dump_cut.proofs.GrowingLemmas.{uncovered_other}
-use Rattle.dump_cut.proofs.RangeLemmas.{all_below_root, empty_text, forward, range_texts, shown_twice}
+use Rattle.dump_cut.proofs.RangeLemmas.{all_below_root, forward, range_texts, shown_twice, empty_list}
 use Rattle.dump_cut.proofs.excluded.Excluded.below.Goals as goal
 
 pub returns-then-is_empty-clause-rests : goal.returns-then-is_empty-clause-rests
 returns-then-is_empty-clause-rests c =
     let all = YieldsList-end (YieldsList-from_rest c.self.inside.paths.keys c.into_iter-path-iterator.ensures.into_iter_gives.0)
     c.loop-path.yielded _ c.loop-path.yielded_by _ _ c.in-None.is c.next.ensures.steps in
-    let root = empty_text c.args.top.now (sym c.is_empty.ensures ∙ c.if-is_empty.true) in
+    let root = empty_list c.args.top.now (sym c.is_empty.ensures ∙ c.if-is_empty.true) in
     c.loop-path.invariant
     ∙ (shown_twice (λ path. path.items) (λ path. path.now) c.loop-path.yielded
     ∙ (ap (map (λ path. path.items)) all.0

@@ -1,11 +1,11 @@
 use Rattle.std.proofs.Common.{[], ◌∷◌, ◌||◌, get_or, map, take, sym, ap, ◌∙◌}
-use Rattle.std.proofs.lemmas.List.{take_more}
+use Rattle.std.proofs.lemmas.List.{take_more, map-append}
 use Rattle.dump_trees.specs.CanonicalPaths.{canonical_paths}
 use Rattle.dump_trees.specs.Paths.{names_of}
 use Rattle.dump_trees.specs.Returns.{is_covered}
 use Rattle.dump_trees.specs.Siblings.{has_node_names, is_within}
 use Rattle.dump_cut.specs.steps.ExcludedPaths.{paths_of}
-use Rattle.dump_cut.proofs.GrowingLemmas.{added_covers, canonical_named, map_joined, prefix_more}
+use Rattle.dump_cut.proofs.GrowingLemmas.{added_covers, canonical_named, prefix_more}
 use Rattle.dump_cut.proofs.excluded.Excluded.of.Goals as goal
 
 pub add-requires : goal.add-requires
@@ -23,4 +23,4 @@ loop-prefix-preserved c = λ path.
     ∙ (sym (prefix_more texts _ path)
     ∙ sym (ap (λ prefixes. is_covered (canonical_paths prefixes) path)
     (ap (map (λ prefix. prefix.now)) (take_more c.args.prefixes.now c.loop-prefix.prefix-index _ c.loop-prefix-test.true)
-    ∙ map_joined (λ prefix. prefix.now) (take c.loop-prefix.prefix-index c.args.prefixes.now) (_ ∷ []))))))
+    ∙ map-append (λ prefix. prefix.now) (take c.loop-prefix.prefix-index c.args.prefixes.now) (_ ∷ []))))))

@@ -1,6 +1,6 @@
 use Rattle.dump_filter.proofs.Prelude.{Bool, sym, ap, subst, ◌∙◌, record_item, done_record, PresentGroup, view_group, IsOwnRevision, IsEndText}
 use Rattle.std.proofs.Common.{IfOk}
-use Rattle.dump_filter.proofs.written.OutputLemmas.{if_ok}
+use Rattle.std.proofs.lemmas.Result.{IfOk-weaker}
 use Rattle.dump_filter.proofs.state.State.end_group.Goals as goal
 
 pub returns-then-stays-clause-piece : goal.returns-then-stays-clause-piece
@@ -11,6 +11,6 @@ returns-then-stays-clause-piece c =
     let stay = sym c.stays.ensures ∙ c.if-stays.true in
     subst (λ (group : PresentGroup). IfOk c.write_pending.result (λ piece. IsEndText options kept group piece))
     (sym (ap view_group (sym c.replace.ensures.value ∙ c.in-Pending.is)))
-    (if_ok c.write_pending.result _ _ (λ piece text. rw stay
+    (IfOk-weaker c.write_pending.result _ _ (λ piece text. rw stay
     (subst (λ (padded : Bool). IsOwnRevision options kept r padded piece) c.pads.ensures text))
     c.write_pending.ensures.piece)

@@ -14,10 +14,11 @@ use Rattle.dump_index.proofs.PlaceLemmas.{latest_low, latest_holds}
 use Rattle.dump_index.proofs.OrderLemmas.{all_look_back, bare_at}
 use Rattle.dump_index.proofs.OriginLemmas.{hops_back}
 use Rattle.dump_index.proofs.SlashLemmas.{names_joined}
-use Rattle.dump_index.proofs.LookNames.{none_next, or_none}
+use Rattle.dump_index.proofs.LookNames.{none_next}
 use Rattle.dump_index.proofs.EverLemmas.{IsFoundFrom, found_first, found_more, ever_found}
 use Rattle.dump_index.proofs.index.ChangeIndex.names_ever.Goals as goal
 use Rattle.dump_index.proofs.index.ChangeIndex.names_ever.Goals.{After-push_made}
+use Rattle.std.proofs.Math.Bool.{or-false}
 
 back : (c : After-push_made) → LooksBack (all_placed c.args.self.now)
 back c =
@@ -80,7 +81,7 @@ loop-place-preserved c =
     let listed = c.args.self.now in
     found_more listed (back p) (bare p) c.args.path.now c.loop-place.names.items c.loop-place.names.items
     c.loop-place.before c.in-Some.place c.loop-place.invariant (sym c.in-Some.ensures.place) (λ name.
-    sym (or_none (is_child_named (texts_of c.loop-place.names.items) name))
+    sym (or-false (is_child_named (texts_of c.loop-place.names.items) name))
     ∙ ap (λ (names : List (List ℕ)). is_child_named (texts_of c.loop-place.names.items) name || is_child_named names name)
     (sym (none_next listed c.origin.result c.in_default-origin.not-Copied) ∙ c.origin.ensures.names))
 

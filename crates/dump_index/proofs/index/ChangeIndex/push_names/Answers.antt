@@ -11,8 +11,9 @@ use Rattle.dump_index.specs.steps.Looks.{origin_names}
 use Rattle.dump_index.proofs.PlaceLemmas.{latest_low, latest_holds}
 use Rattle.dump_index.proofs.SlashLemmas.{names_joined}
 use Rattle.dump_index.proofs.OriginLemmas.{hops_back}
-use Rattle.dump_index.proofs.LookNames.{hop_names, none_next, or_none}
+use Rattle.dump_index.proofs.LookNames.{hop_names, none_next}
 use Rattle.dump_index.proofs.index.ChangeIndex.push_names.Goals as goal
+use Rattle.std.proofs.Math.Bool.{or-false}
 
 pub origin-requires-clause-shaped : goal.origin-requires-clause-shaped
 origin-requires-clause-shaped c place is =
@@ -77,6 +78,6 @@ returns-in_default c =
           (c.latest_shaping-shaped.ensures.names name) c.origin.ensures.names
           ∙ ap (λ (names : List (List ℕ)). is_child_named (texts_of c.push_made.new.names.items) name || is_child_named names name)
           (none_next listed c.origin.result c.in_default.not-Copied)
-          ∙ or_none (is_child_named (texts_of c.push_made.new.names.items) name));
+          ∙ or-false (is_child_named (texts_of c.push_made.new.names.items) name));
       names = λ before. c.in_ok-push_made.ensures.names (c.loop-at.invariant.names before);
     }

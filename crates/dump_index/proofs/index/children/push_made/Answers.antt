@@ -9,14 +9,14 @@ use Rattle.dump_index.specs.steps.Keys.{keys_in}
 use Rattle.dump_index.specs.steps.Names.{texts_of}
 use Rattle.dump_index.specs.steps.Below.{AreFrom, NoneBelow, HasChild}
 use Rattle.dump_index.specs.steps.Names.{makes_at, makes_key}
-use Rattle.dump_index.proofs.KeyLemmas.{not_below}
 use Rattle.dump_index.proofs.OrderLemmas.{bare_at}
 use Rattle.dump_index.proofs.WalkLemmas.{get_inside}
 use Rattle.dump_index.proofs.NameLemmas.{among, among_more, among_all, among_none, keys_are, made_name}
-use Rattle.dump_index.proofs.LookNames.{or_none}
 use Rattle.dump_index.proofs.ChildLemmas.{pushed_named, named_pushed, named_kept}
 use Rattle.dump_index.proofs.index.children.push_made.Goals as goal
 use Rattle.dump_index.proofs.index.children.push_made.Goals.{else-child-count-via-then-child-count+else-makes_at, else-child-count-via-else-child-count, After-drop-top-2}
+use Rattle.std.proofs.Math.Bool.{or-false}
+use Rattle.dump_rules.proofs.ReachLemmas.{is_not_below}
 
 both_no : (low makes : Bool) → makes ≡ false → (low && makes) ≡ false
 both_no true makes isnt = isnt
@@ -29,7 +29,7 @@ loop-child-init c =
       ahead = subst (λ (text : List ℕ). AreFrom (keys_in (map listed_of c.args.changes.now) c.args.shaping.now) text c.first_from-from.result) top
           c.first_from-from.ensures.behind;
       named = λ name.
-          sym (or_none (is_child_named (texts_of c.args.names.now.items) name))
+          sym (or-false (is_child_named (texts_of c.args.names.now.items) name))
           ∙ ap (λ b. is_child_named (texts_of c.args.names.now.items) name || b)
           (sym (among_none (map listed_of c.args.changes.now) c.args.count (keys_in (map listed_of c.args.changes.now) c.args.shaping.now) c.in_ok-top.top.items
           c.first_from-from.result
@@ -90,7 +90,7 @@ loop-child-preserved c =
       | else-child-count-via-then-child-count+else-makes_at w ↦
           both_no (nat_lt child.place c.args.count) (makes_at listed child.place) (sym w.makes_at.ensures ∙ w.if-makes_at.false)
       | else-child-count-via-else-child-count w ↦
-          ap (λ b. b && makes_at listed child.place) (not_below child.place c.args.count w.if-child-count.false)
+          ap (λ b. b && makes_at listed child.place) (is_not_below child.place c.args.count w.if-child-count.false)
     ] in
     record {
       ahead = λ n key high at. c.loop-child.invariant.ahead n key (omega arith) at;

@@ -1,4 +1,4 @@
--- The records that a cutter has given, in a loop over the records of a dump.
+-- The records that a cutter has returned, in a loop over the records of a dump.
 use Rattle.std.proofs.Common.{◌≡◌, ℕ, ◌+◌, ◌≤◌, List, [], ◌∷◌, ◌++◌, length, length-append, drop, sym, ap, ◌∙◌, subst, arith, append_assoc}
 use Rattle.std.proofs.lemmas.List.{take-append-drop}
 use Rattle.dump_text.specs.declared.fault.FaultKind.{FaultKind}
@@ -13,6 +13,12 @@ use Rattle.dump_records.proofs.CutLemmas.{count_fits}
 use Rattle.dump_records.proofs.ListLaw.{each_dump_has_one_list}
 use Rattle.dump_records.proofs.Prefixes.{begins_prefix, is_front, one_more, whole_list}
 
+-- a dump begins with no records
+pub begins_with_none : (dump : List ℕ) → BeginsWithRecords dump []
+begins_with_none dump =
+    let (records, ending, has, once) = each_dump_has_one_list dump in
+    begins_prefix dump [] records (has.0, has.1, has.2)
+
 -- the records that the cutter has returned
 pub record ReadSoFar (dump : List ℕ) (cutter : CutterState) : Type 0 where
   pub dump_is : cutter.dump ≡ dump
@@ -24,8 +30,7 @@ abbrev pub none_read : (dump : List ℕ) (cutter : CutterState) → cutter ≡ r
 none_read dump cutter is = record {
   dump_is = ap (λ (c : CutterState). c.dump) is;
   before = [];
-  begins = let (records, ending, has, once) = each_dump_has_one_list dump in
-      begins_prefix dump [] records (has.0, has.1, has.2);
+  begins = begins_with_none dump;
   count = sym (ap (λ (c : CutterState). c.number) is);
 }
 
