@@ -1,13 +1,17 @@
 #!/usr/bin/env python3
-"""Sees that each definition has one name, and each name one definition.
+"""Sees that each definition has one name, each name one definition, and each lemma a use.
 
     tests/check_names.py
 
 It fails if two crates define a public name in their specs/. It fails too if two definitions of specs/, or the bodies of two
-functions of src/, are equal but for their own names. Bodies of one line or of less than 40 characters, and tests, are not compared. Copies
-that are known are in tests/known_copies.txt. One that is no longer there is an error as well, so that the list only gets
-shorter. The last line is 'N passed, M failed'.
+functions of src/, are equal but for their own names. Bodies of one line or of less than 40 characters, and tests, are not
+compared. Copies that are known are in tests/known_copies.txt. One that is no longer there is an error as well, so that the
+list only gets shorter.
+
+And it fails if only its own proof, and imports, have the name of a lemma of proofs/, unless the lemma is a worked value. Since
+names are compared, a lemma with the name of one that is used is missed. The last line is 'N passed, M failed'.
 """
+import collections
 import glob
 import os
 import re
@@ -19,6 +23,11 @@ from repository import ended, lines_of, path, read
 # the line that begins a definition, directly in a file or in a module or a block of definitions that name each other
 DEFINITION = re.compile(r"^(?:  )?((?:(?:abbrev|unfoldable|opaque|pub|record|data) )+)(?!mod )([^\s:({]+)")
 FUNCTION = re.compile(r"^( *)(?:pub(?:\([a-z]+\))? |const )*fn (\w+)")
+# the line that begins a lemma, with its name
+LEMMA = re.compile(r"^( *)(?:(?:abbrev|pub|record|data) )*([^\s:({]+) :(?: |$)")
+# what no other proof uses: worked values, and the answers to goals
+UNUSED = re.compile(r"/values/|Values\.antt$|/(?:Answers|Invariants|Proof)\.antt$")
+NAME = re.compile(r"[^\s(){}\[\];,.]+")
 KNOWN = "tests/known_copies.txt"
 LEAST = 40
 
@@ -97,11 +106,46 @@ def copies():
     return {" ".join([kind, *sorted(names)]) for (kind, _), names in found.items() if len(names) > 1}
 
 
+def lemmas(text):
+    """The name of each lemma of a file, and how often its own proof has the name; and how often the file has each name."""
+    own, words, present = [], collections.Counter(), None
+    for line in text.splitlines():
+        line = re.sub(r"(^|\s)--.*", "", line)
+        if not line.strip() or re.match(r" *(?:pub )?use ", line):
+            continue
+        indent, names = len(line) - len(line.lstrip()), NAME.findall(line)
+        words.update(names)
+        inside = present and (indent > present[0] or names and names[0] == present[1])
+        head = None if inside else LEMMA.match(line)
+        if head:
+            present = indent, head[2]
+            own.append([head[2], 0])
+        if head or inside:
+            own[-1][1] += names.count(present[1])
+        else:
+            present = None
+    return own, words
+
+
+def unused():
+    """A sentence for each lemma that nothing names but its own proof."""
+    words, own = collections.Counter(), []
+    for _, file, text in files("crates/*/proofs/**/*.antt"):
+        found, there = lemmas(text)
+        words += there
+        own += [] if UNUSED.search(file) else [(file, name, count) for name, count in found]
+    # a function can name a lemma for its tactic, and a page names laws
+    for pattern in "crates/*/src/**/*.rt", "docs/*.md":
+        for name in sorted(glob.glob(path(pattern), recursive=True)):
+            words.update(re.findall(r"[\w'-]+", read(name)))
+    return [f"{file}: nothing uses {name}" for file, name, count in own if words[name] <= count]
+
+
 def main():
     known, there = set(lines_of(KNOWN)), copies()
     new = [f"these are equal but for their names: {it}" for it in sorted(there - known)]
     gone = [f"{KNOWN} has copies that are no longer there: {it}" for it in sorted(known - there)]
-    checks = [defined_twice(), new, gone]
+    checks = [defined_twice(), new, gone, unused()]
     for sentence in sum(checks, []):
         print(f"tests/check_names.py: {sentence}")
     failed = sum(bool(it) for it in checks)

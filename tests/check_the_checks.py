@@ -43,6 +43,7 @@ BEHIND = "-- the received bytes are"
 COUNTED = "crates/dump_writer/src/counted.rt"
 COPY = "fn trimmed(text: &[u8]) -> &[u8] {\n    match text {\n        [b'/', rest @ ..] => rest,\n        _ => text,\n    }\n}\n"
 KNOWN = "tests/known_copies.txt"
+LEMMAS = "crates/dump_text/proofs/BoolLemmas.antt"
 # a check, a file with edits of it, and what the check has to say: an edit of nothing appends to the file
 EDITS = [
     ("tests/check_trusted.py", ANSWER,
@@ -58,6 +59,7 @@ EDITS = [
      "these are equal but for their names: function dump_writer::cut dump_writer::trimmed"),
     ("tests/check_names.py", KNOWN, [("", "function dump_text::no_such_function dump_writer::other\n")],
      "has copies that are no longer there: function dump_text::no_such_function dump_writer::other"),
+    ("tests/check_names.py", LEMMAS, [("", "\nnought_is : 0 ≡ 0\nnought_is = refl\n")], f"{LEMMAS}: nothing uses nought_is"),
 ]
 SMALL = "examples/small.dump"
 NUMBERS = re.compile(r"^((?:Prop-content-length|Text-content-length|Content-length|Text-content-md5|Text-content-sha1):|[KVD]) \w+$", re.MULTILINE)
@@ -98,7 +100,9 @@ def edited(check, file, pairs):
     """What a check says after a file is edited."""
     with tempfile.TemporaryDirectory(prefix="planted-") as folder:
         copied(folder, check, "tools/repository.py", "tests/statements.txt", KNOWN, "docs/TRUSTED.md", "crates.txt", "programs.txt")
-        shutil.copytree(path("crates"), os.path.join(folder, "crates"), ignore=shutil.ignore_patterns("out", "proofs"))
+        # only a mistake in a proof needs them
+        unread = ["out"] if "/proofs/" in file else ["out", "proofs"]
+        shutil.copytree(path("crates"), os.path.join(folder, "crates"), ignore=shutil.ignore_patterns(*unread))
         text = read(file)
         for old, new in pairs:
             assert old in text, f"{old} is not in {file}"
