@@ -244,7 +244,7 @@ def test_sources(crate):
     found = {}
     for file in glob.glob(path_to("crates", crate, "src", "**", "*.rt"), recursive=True):
         module = os.path.relpath(file, path_to("crates", crate, "src")).removesuffix(".rt").replace(os.sep, "::")
-        if "tests" in module.split("::"):
+        if crate.endswith("_tests") or "tests" in module.split("::"):
             found[module] = read(file)
     return found
 

@@ -49,7 +49,7 @@ class Build:
     def able(self):
         """What can be done now, if there is something: a crate to prove before one to test."""
         proof = (it for it in self.wanted if it not in self.started and below(it, self.known) <= self.proved)
-        tests = (it for it in self.tests if it in self.proved)
+        tests = (it for it in self.tests if {it} | below(it, self.known) <= self.proved)
         return next(((self.prove, it) for it in proof), None) or next(((self.test, it) for it in tests), None)
 
     def is_over(self):

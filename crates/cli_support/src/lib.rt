@@ -9,7 +9,7 @@
 //! Ok((call.options.renumber(), call.workers))
 //! ```
 //!
-//! `tests::lines::read_call` runs this.
+//! `support::lines::read_call` of `program_tests` runs this.
 //!
 //! A program with other options makes a command of its own. A [`switch`] is an option without a value,
 //! [`workers`] and [`window`] are the options for threads, and the [`prefixes`] come last. [`side_in`]
@@ -21,7 +21,7 @@
 //! let loud = is_set(&matches, "loud");
 //! ```
 //!
-//! `tests::lines::read` runs this.
+//! `support::lines::read` of `program_tests` runs this.
 //!
 //! [`refusal`] says why clap rejects a line, for a program that parses the line itself.
 //!
@@ -64,6 +64,3 @@ pub use outcome::{Cause, Program, fail, fail_unread, refuse};
 pub use process::{NewFile, arguments, as_texts, input_size};
 pub use targets::{NamedFiles, UnreadFile, read_files, with_texts};
 pub use usage::{Usage, refusal};
-
-#[cfg(test)]
-mod tests;

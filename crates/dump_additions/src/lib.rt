@@ -11,8 +11,8 @@
 //! let parts = parts_of(alloc, &index, &excluded, path, source)?;
 //! ```
 //!
-//! `tests::divides` runs this. [`additions`] finds what to write in place of each such copy of a dump,
-//! and `dump_expansion` writes the dump with it:
+//! `additions::divides` of `finding_tests` runs this. [`additions`] finds what to write in place of each
+//! such copy of a dump, and `dump_expansion` writes the dump with it:
 //!
 //! ```
 //! let table = PropertyTable::of(alloc, &dump)?;
@@ -24,9 +24,10 @@
 //! let text = expanded(alloc, &dump, &steads)?;
 //! ```
 //!
-//! `tests::expands` runs this. A file is written with its whole text, which is a slice of the dump. If
-//! the dump has only a delta of it, nothing can be written in place of the copy; [`NotAdded`] says which
-//! copy that is, and why. [`laws`] says that the new dump loads to the same trees.
+//! `additions::expands` of `finding_tests` runs this. A file is written with its whole text, which is a
+//! slice of the dump. If the dump has only a delta of it, nothing can be written in place of the copy;
+//! [`NotAdded`] says which copy that is, and why. [`laws`] says that the new dump loads to the same
+//! trees.
 #![tactic(auto)]
 
 mod addition;
@@ -38,6 +39,3 @@ pub use addition::additions;
 pub use dump_rules::Memory;
 pub use not_added::{NotAdded, Reason};
 pub use parts::{Form, Part, parts_of};
-
-#[cfg(test)]
-mod tests;

@@ -16,7 +16,7 @@
 //! assert!(rt; broken.end == place);
 //! ```
 //!
-//! `tests::other_ends_are_told` runs this.
+//! `changes::other_ends_are_told` of `model_tests` runs this.
 //!
 //! [`properties_at`] finds the properties of the node at a path after some of the changes, with a
 //! [`PropertyTable`] of the dump. [`text_at`] finds the text of a file in the same way, if the dump has
@@ -44,6 +44,3 @@ pub use property_table::PropertyTable;
 pub use read::{End, Reading, read_changes};
 pub use text_table::TextTable;
 pub use texts::text_at;
-
-#[cfg(test)]
-mod tests;

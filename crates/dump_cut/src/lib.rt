@@ -8,7 +8,7 @@
 //! Ok(text.as_slice() == wanted.as_bytes())
 //! ```
 //!
-//! `tests::is_read` runs this.
+//! `cut::is_read` of `finding_tests` runs this.
 //!
 //! An [`Excluded`] is the set of paths that a cut excludes. [`all_followed`] finds what copies bring
 //! back of them. [`first_not_taken`] finds the first change, if there is one, that the filter can
@@ -20,7 +20,7 @@
 //! let not_taken = first_not_taken(alloc, &index, &excluded)?;
 //! ```
 //!
-//! `tests::brings` runs this. [`Deletes`] are the paths to delete after copies that take something to
+//! `cut::brings` of `finding_tests` runs this. [`Deletes`] are the paths to delete after copies that take something to
 //! excluded paths. If nothing excluded comes back, the output of the filter with these deletes after its
 //! nodes is the cut:
 //!
@@ -33,29 +33,29 @@
 //! };
 //! ```
 //!
-//! `tests::deletes` runs this. [`follow`] also excludes the paths to which copies bring excluded
+//! `cut::deletes` of `finding_tests` runs this. [`follow`] also excludes the paths to which copies bring excluded
 //! content, until nothing more comes back:
 //!
 //! ```
 //! let additions = follow(alloc, &index, &mut excluded, way)?;
 //! ```
 //!
-//! `tests::follows` runs this. [`find_siblings`] finds the paths to exclude so that only included paths,
-//! and the directories above them, are kept:
+//! `cut::follows` of `finding_tests` runs this. [`find_siblings`] finds the paths to exclude so that only included
+//! paths, and the directories above them, are kept:
 //!
 //! ```
 //! let included = Excluded::of(alloc, &[prefix])?;
 //! let siblings = find_siblings(alloc, &index, &included)?;
 //! ```
 //!
-//! `tests::leaves` runs this. [`merge_paths`] returns the paths that mergeinfo in a dump names, each
+//! `cut::leaves` of `finding_tests` runs this. [`merge_paths`] returns the paths that mergeinfo in a dump names, each
 //! once:
 //!
 //! ```
 //! let found = merge_paths(alloc, MERGED.as_bytes())?;
 //! ```
 //!
-//! `tests::names_paths` runs this. [`revision_fates`] returns the revisions of a dump, and whether the
+//! `cut::names_paths` of `finding_tests` runs this. [`revision_fates`] returns the revisions of a dump, and whether the
 //! filter keeps each:
 //!
 //! ```
@@ -63,7 +63,7 @@
 //! let fates = revision_fates(alloc, &dump, &options)?;
 //! ```
 //!
-//! `tests::drops` runs this. [`later_part`] returns what a dump has after a revision, with what is
+//! `cut::drops` of `finding_tests` runs this. [`later_part`] returns what a dump has after a revision, with what is
 //! before its first revision:
 //!
 //! ```
@@ -71,7 +71,7 @@
 //! part.head == head.as_bytes() && part.revisions == revisions.as_bytes()
 //! ```
 //!
-//! `tests::is_part` runs this.
+//! `cut::is_part` of `finding_tests` runs this.
 #![tactic(auto)]
 
 mod canonical;
@@ -113,6 +113,3 @@ pub use refusal::{Refusal, refusal_of};
 pub use returns::{PlacedRest, Way, all_followed, followed_rests};
 pub use siblings::find_siblings;
 pub use taken::first_not_taken;
-
-#[cfg(test)]
-mod tests;

@@ -11,8 +11,9 @@
 //! let done = Done::of(kept, &options);
 //! ```
 //!
-//! `tests::a_done_tells_what_its_check_read` runs this on the record of a node `trunk`, which is copied
-//! from `tags` and has the mergeinfo `/trunk:2-4`. It compares these answers of `done`:
+//! `digest::a_done_tells_what_its_check_read` of `filter_tests` runs this on the record of a node
+//! `trunk`, which is copied from `tags` and has the mergeinfo `/trunk:2-4`. It compares these answers of
+//! `done`:
 //!
 //! ```
 //! let range = Some(FaultKind::MergeRange);
@@ -24,7 +25,7 @@
 //!     && done.merge_fault(options, 2, 3) == range
 //! ```
 //!
-//! `tests::is_read` runs this.
+//! `digest::is_read` of `filter_tests` runs this.
 //!
 //! In a node that the options keep, [`check`] looks at the properties, the two digests of the text and
 //! the mergeinfo. In a revision, kept or dropped, it looks at the properties; in other records at
@@ -45,6 +46,3 @@ pub use content::{is_kept, properties_of};
 pub use done::Done;
 pub use node_mergeinfo::is_mergeinfo;
 pub use verdict::{Verdict, check};
-
-#[cfg(test)]
-mod tests;

@@ -16,7 +16,7 @@
 //! let text = expanded(alloc, &dump, &steads)?;
 //! ```
 //!
-//! `tests::replaces` runs this. If a node isn't kept, the empty lines after it are removed too.
+//! `expansion::replaces` of `model_tests` runs this. If a node isn't kept, the empty lines after it are removed too.
 //! Everything else in the dump is copied unchanged, even bytes that can't be read. This crate doesn't
 //! check whether the new dump loads to the same trees: the caller has to choose the nodes so that it
 //! does. [`laws::steads_are_by_changes`] says which changes the nodes make in each revision.
@@ -31,6 +31,3 @@ pub use dump_index::NodeKind;
 pub use dump_rules::Memory;
 pub use expanding::{Stead, can_all_be_written, expanded};
 pub use written_node::NewNode;
-
-#[cfg(test)]
-mod tests;

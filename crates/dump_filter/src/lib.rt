@@ -24,8 +24,8 @@
 //! }
 //! ```
 //!
-//! `tests::pass` runs this for each record of the example dumps, and collects the bytes of each piece. A
-//! run begins and ends with these calls:
+//! `filter::pass` of `filter_tests` runs this for each record of the example dumps, and collects the
+//! bytes of each piece. A run begins and ends with these calls:
 //!
 //! ```
 //! let mut filter = Filter::new(alloc, options);
@@ -33,7 +33,7 @@
 //! let (piece, report) = filter.finish(alloc)?;
 //! ```
 //!
-//! `tests::run` runs this.
+//! `filter::run` of `filter_tests` runs this.
 //!
 //! A piece borrows the bytes of the dump that are unchanged, and owns only the new ones.
 #![tactic(auto)]
@@ -52,6 +52,3 @@ mod state;
 
 pub use filter::{Filter, StepFault};
 pub use state::Report;
-
-#[cfg(test)]
-mod tests;

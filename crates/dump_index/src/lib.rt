@@ -19,7 +19,7 @@
 //! }
 //! ```
 //!
-//! `tests::directories_are_listed` runs this, and asks for the names in directories:
+//! `index::directories_are_listed` of `model_tests` runs this, and asks for the names in directories:
 //!
 //! ```
 //! match index.children(alloc, path, count) {
@@ -28,7 +28,7 @@
 //! }
 //! ```
 //!
-//! `tests::names_are` runs this.
+//! `index::names_are` of `model_tests` runs this.
 #![tactic(auto)]
 
 mod change;
@@ -45,6 +45,3 @@ pub use dump_rules::Memory;
 pub use index::{ChangeIndex, first_out_of_order};
 pub use path_text::{ends_in_slash, joined, rest_behind, top_of};
 pub use trail::Part;
-
-#[cfg(test)]
-mod tests;

@@ -22,7 +22,7 @@
 //! assert!(rt; put_one && put_two && one && two && closed && again);
 //! ```
 //!
-//! `tests::two_items_and_the_end` runs this.
+//! `lanes::two_items_and_the_end` of `filter_tests` runs this.
 //!
 //! # The pool
 //!
@@ -57,8 +57,8 @@
 //! Some(first == Some(8))
 //! ```
 //!
-//! `tests::pooling::pass_one` runs this for `tests::pooling::one_item_through_a_pool`. In place of `//
-//! ..` each worker does this:
+//! `lanes::pooling::pass_one` of `filter_tests` runs this for `lanes::pooling::one_item_through_a_pool`.
+//! In place of `// ..` each worker does this:
 //!
 //! ```
 //! if port.take(rt) != Some(7) {
@@ -71,7 +71,7 @@
 //! port.close(rt);
 //! ```
 //!
-//! `tests::pooling::answer` runs this.
+//! `lanes::pooling::answer` of `filter_tests` runs this.
 //!
 //! # The stop flag
 //!
@@ -89,7 +89,7 @@
 //! assert!(rt; down && seen && word.look(&mut both));
 //! ```
 //!
-//! `tests::stopping::one_seat_raises_and_the_other_sees` runs this.
+//! `lanes::stopping::one_seat_raises_and_the_other_sees` of `filter_tests` runs this.
 //!
 //! # Slots
 //!
@@ -103,7 +103,7 @@
 //! front && first && gone && slots.lift(1) == Some(11) && slots.lift(2) == Some(12)
 //! ```
 //!
-//! `slots::tests::pass_through` runs this with a row of two places.
+//! `lanes::slots::pass_through` of `filter_tests` runs this with a row of two places.
 //!
 //! # The laws of the pool
 //!
@@ -129,8 +129,6 @@ mod protocol;
 mod slots;
 mod steps;
 mod stop;
-#[cfg(test)]
-mod tests;
 
 pub use ends::{LaneIn, LaneOut, Memory, Sent, Taken, lane};
 pub use limits::{MOST_WINDOW, MOST_WORKERS};

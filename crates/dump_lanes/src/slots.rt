@@ -11,9 +11,6 @@ ghost use Rattle.dump_lanes.specs.steps.SlotRow.{slot_item, with_slot_item};
 use crate::ends::Memory;
 use std::alloc::Global;
 
-#[cfg(test)]
-mod tests;
-
 /// A row of places; numbers with the same remainder share a place.
 ///
 /// ```text

@@ -12,14 +12,14 @@
 //! action.makes() && !action.deletes() && path == B && source == A && copy_revision_of(item) == 1
 //! ```
 //!
-//! `tests::is_copied` runs this on a node that copies `a` of revision 1 to `b`; `A` and `B` are these
+//! `nodes::is_copied` of `model_tests` runs this on a node that copies `a` of revision 1 to `b`; `A` and `B` are these
 //! paths, and `bare_path` is in `dump_rules`. These paths are canonical or not:
 //!
 //! ```
 //! assert!(rt; is_canonical(b"/a/b") && !is_canonical(b"a/./b") && !is_canonical(b"a/"));
 //! ```
 //!
-//! `tests::names_between_single_slashes_are_canonical` runs this.
+//! `nodes::names_between_single_slashes_are_canonical` of `model_tests` runs this.
 //!
 //! Each function searches the lines of the record by name, except for those whose places the cutter has
 //! stored. Nothing is allocated.
@@ -34,6 +34,3 @@ pub use action::{Action, action_of, has_undefined_delta, kind_of};
 pub use canonical_path::is_canonical;
 pub use loaded_texts::loads_as_written;
 pub use node::{copy_path_of, copy_revision_of, is_copy, is_whole_file, makes_copy, path_of};
-
-#[cfg(test)]
-mod tests;

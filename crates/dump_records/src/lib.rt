@@ -16,7 +16,7 @@
 //! }
 //! ```
 //!
-//! `tests::are_in_force` runs this: it compares the format version in force for each record. `next`
+//! `records::are_in_force` of `format_tests` runs this: it compares the format version in force for each record. `next`
 //! returns one of these three:
 //!
 //! ```
@@ -27,7 +27,7 @@
 //! }
 //! ```
 //!
-//! `tests::seen_in` runs this.
+//! `records::seen_in` of `format_tests` runs this.
 //!
 //! [`laws`] states two laws of dumps: no record begins another, and each dump has exactly one list of
 //! records. This crate looks at each record by itself. It checks neither the order of nodes and
@@ -44,6 +44,3 @@ mod record;
 pub use cutter::{Cut, Cutter};
 pub use kind::RecordKind;
 pub use record::{Record, RecordPart};
-
-#[cfg(test)]
-mod tests;

@@ -9,7 +9,7 @@
 //! let given = Options::new(alloc, side, &prefixes, empty, renumber, preserve, skip)?;
 //! ```
 //!
-//! `tests::prefixes::is_handed_in` runs this. [`keeps`] says whether options keep a path. A prefix
+//! `rules::prefixes::is_handed_in` of `filter_tests` runs this. [`keeps`] says whether options keep a path. A prefix
 //! matches whole names of a path: `trunk` matches `trunk` and `trunk/a`, but not `trunk2`. Slashes at
 //! both ends of a prefix are ignored, and so is one at the front of a path. A prefix that is empty or
 //! only slashes matches every path. Options that include the prefixes from `/p0000/` to `/p4999/` keep
@@ -23,7 +23,7 @@
 //! }
 //! ```
 //!
-//! `tests::prefixes::keeps_five_thousand` runs this. [`bare_path`] and [`bare_prefix`] return what is
+//! `rules::prefixes::keeps_five_thousand` of `filter_tests` runs this. [`bare_path`] and [`bare_prefix`] return what is
 //! compared:
 //!
 //! ```
@@ -31,7 +31,7 @@
 //! let path = bare_path(b"/trunk/a");
 //! ```
 //!
-//! `tests::slashes_at_the_ends_do_not_count` runs this.
+//! `rules::slashes_at_the_ends_do_not_count` of `filter_tests` runs this.
 //!
 //! A [`Reach`] is a table of the revisions that were kept so far. Renumbering closes the gaps: the new
 //! numbers of kept revisions count up from the dump's first number, whether or not the filter keeps that
@@ -46,8 +46,8 @@
 //! let rows = [(5, None), (6, fifth), (8, fifth), (9, sixth), (100, sixth)];
 //! ```
 //!
-//! `tests::images_are_of_the_last_kept_revision` runs this, and compares the image of each revision of
-//! `rows`:
+//! `rules::images_are_of_the_last_kept_revision` of `filter_tests` runs this, and compares the image of each revision
+//! of `rows`:
 //!
 //! ```
 //! for (revision, image) in rows {
@@ -57,7 +57,7 @@
 //! }
 //! ```
 //!
-//! `tests::has_images` runs this.
+//! `rules::has_images` of `filter_tests` runs this.
 //!
 //! [`merge_reads`] says whether a value of `svn:mergeinfo` is lines of a path, a colon and ranges of
 //! revisions, as `/trunk:1-4,6*`. A line can't have a revision both with `*` and without. [`without_lf`]
@@ -83,7 +83,7 @@
 //! };
 //! ```
 //!
-//! `tests::rewriting::new_value_or_no_memory` runs this with options that include all paths.
+//! `rules::rewriting::new_value_or_no_memory` of `filter_tests` runs this with options that include all paths.
 //!
 //! `Options::new` allocates memory for copies of the prefixes, `Reach::push` allocates if its table
 //! grows, and `rewrite` allocates the value; each returns an error if an allocation fails. Prefixes are
@@ -111,6 +111,3 @@ pub use options::{Empty, Options, Side, keeps};
 pub use prefix::{bare_path, bare_prefix};
 pub use reach::Reach;
 pub use rewriting::{RewriteFault, new_value, rewrite};
-
-#[cfg(test)]
-mod tests;

@@ -23,8 +23,8 @@
 //! };
 //! ```
 //!
-//! `tests::text::a_text_or_no_memory` runs this; `CUT_LINES` are the lines for the dump `COPIED`. A caller writes the
-//! lines that follow the findings as in this example:
+//! `survey::text::a_text_or_no_memory` of `finding_tests` runs this; `CUT_LINES` are the lines for the dump `COPIED`.
+//! A caller writes the lines that follow the findings as in this example:
 //!
 //! ```
 //! let (side, prefixes) = (Side::Include, [b"x/y".as_slice(), b"c"]);
@@ -38,7 +38,8 @@
 //! assert!(rt; written.is_err() || sink.taken() == lines);
 //! ```
 //!
-//! `tests::added_prefixes::advice_or_no_memory` runs this on a dump that copies `a` to `b` and `b` to `c`.
+//! `survey::added_prefixes::advice_or_no_memory` of `finding_tests` runs this on a dump that copies `a` to `b` and `b`
+//! to `c`.
 //!
 //! The findings in nodes and in the dump are exactly those that `dump_history` defines, in the dump's order, and
 //! [`laws`] says so. The survey looks only at header lines, properties and prefixes. It reads no text of a file and
@@ -72,6 +73,3 @@ pub use findings::surveyor::{End, Step, SurveyEnd, Surveyor};
 pub use findings::tally::DumpFindings;
 pub use report::revision_map::write_map;
 pub use report::survey_text::{SurveyFailure, write_advice, write_survey};
-
-#[cfg(test)]
-mod tests;

@@ -18,8 +18,8 @@
 //! assert_eq!(rt; uuid.get(b"uuid"), None);
 //! ```
 //!
-//! `tests::a_block_is_cut_where_it_stands` runs this; `UUID` is a block of that one line. This looks up
-//! several names:
+//! `text::a_block_is_cut_where_it_stands` of `format_tests` runs this; `UUID` is a block of that one line. This
+//! looks up several names:
 //!
 //! ```
 //! let text = b"Node-path: a: b\nNote: c\nNode-kind: \nProp-delta: true\n\nbehind: it\n\n";
@@ -34,7 +34,7 @@
 //! ];
 //! ```
 //!
-//! `tests::values_of_known_names_are_found` runs this, and looks up each name and value of `rows`:
+//! `text::values_of_known_names_are_found` of `format_tests` runs this, and looks up each name and value of `rows`:
 //!
 //! ```
 //! headers.value(name) == value
@@ -42,7 +42,7 @@
 //!     && headers.block().get(name.bytes()) == value
 //! ```
 //!
-//! `tests::has_value` runs this. This reads properties:
+//! `text::has_value` of `format_tests` runs this. This reads properties:
 //!
 //! ```
 //! let block = b"D 1\na\nK 1\na\nV 1\nb\nD 1\nc\nPROPS-END\n".as_slice();
@@ -53,7 +53,7 @@
 //! assert!(rt; props.get(b"c").is_none(), "a deleted one");
 //! ```
 //!
-//! `tests::deleted_properties_are_read_where_they_may_stand` runs this.
+//! `text::deleted_properties_are_read_where_they_may_stand` of `format_tests` runs this.
 //!
 //! A name that has a meaning in a dump may occur only once in a block. Any other name may occur several
 //! times, and then `get` returns the first value. This crate does not interpret the values, and reads no
@@ -85,6 +85,3 @@ pub use props::{Entries, Entry, Props, PropsReading};
 pub use scan::find;
 pub use value_place::ValuePlace;
 pub use writing::{push_block_end, push_deletion, push_header, push_property};
-
-#[cfg(test)]
-mod tests;

@@ -12,8 +12,8 @@
 //! piece.push(Chunk::Own(Vec::from_slice(alloc, b"cde")?))?;
 //! ```
 //!
-//! `tests::five` runs this. [`write_piece`] writes a whole piece, or returns how many of its first bytes
-//! the sink took:
+//! `writer::five` of `filter_tests` runs this. [`write_piece`] writes a whole piece, or returns how many of its first
+//! bytes the sink took:
 //!
 //! ```
 //! let mut sink = OutMut::new(writer, buffer);
@@ -25,7 +25,7 @@
 //! let _ = sink.into_inner();
 //! ```
 //!
-//! `tests::write_through` runs this, for `tests::a_lent_writer_is_written_and_counted` and others.
+//! `writer::write_through` of `filter_tests` runs this, for `writer::a_lent_writer_is_written_and_counted` and others.
 //!
 //! This crate never repeats a call that failed: the caller may continue after the bytes that were taken.
 //! An [`Out`] has no buffer, so each chunk makes at least one call of its writer. An [`OutMut`] keeps
@@ -45,6 +45,3 @@ pub use out::Out;
 pub use out_mut::OutMut;
 pub use piece::{Chunk, Memory, Piece, write_piece};
 pub use sink::{Sink, SinkDown, SinkFault};
-
-#[cfg(test)]
-mod tests;

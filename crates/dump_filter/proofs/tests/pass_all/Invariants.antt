@@ -1,7 +1,0 @@
-use Rattle.dump_filter.proofs.Prelude.{◌≡◌, count_up_to, IsOfSameDump}
-use Rattle.dump_filter.proofs.tests.pass_all.Given as goal
-
-abbrev pub invariant-loop : goal.invariant-loop
-invariant-loop l =
-    (l.filter.settings ≡ l.options) × IsOfSameDump l.filter l.cutter.dump
-    × (l.cutter.number ≡ count_up_to l.filter.last)

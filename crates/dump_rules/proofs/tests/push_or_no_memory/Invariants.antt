@@ -1,5 +1,0 @@
-use Rattle.std.proofs.Common.{◌≡◌, ◌<◌, All}
-use Rattle.dump_rules.proofs.tests.push_or_no_memory.Given as goal
-
-abbrev pub invariant-loop-revision : goal.invariant-loop-revision
-invariant-loop-revision g l = (l.reach.first ≡ 5) × All (λ k. k < l.revision) l.reach.numbers

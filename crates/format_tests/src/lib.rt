@@ -1,0 +1,7 @@
+//! The tests of the crates of the format.
+#![tactic(auto)]
+
+#[cfg(test)]
+mod records;
+#[cfg(test)]
+mod text;

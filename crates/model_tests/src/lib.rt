@@ -1,0 +1,11 @@
+//! The tests of the crates of the model of a repository.
+#![tactic(auto)]
+
+#[cfg(test)]
+mod changes;
+#[cfg(test)]
+mod expansion;
+#[cfg(test)]
+mod index;
+#[cfg(test)]
+mod nodes;
