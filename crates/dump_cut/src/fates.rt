@@ -4,8 +4,9 @@ ghost use Rattle.dump_records.specs.steps.RecordViews.{record_item};
 ghost use Rattle.dump_cut.specs.steps.OpenRevisions.{AreFatesIn, ended_fates, fates_before, open_after, open_fate};
 
 use dump_digest::is_kept;
+use dump_filter::keeps_empty;
 use dump_records::{Cut, Cutter, Record};
-use dump_rules::{Empty, Memory, Options};
+use dump_rules::{Memory, Options};
 use std::alloc::Global;
 
 /// A revision of a dump, and whether the filter keeps it.
@@ -30,14 +31,9 @@ impl OpenRevision {
     fn fate(self, options: &Options) -> RevisionFate
         ensures { result ≡ open_fate options.now self }
     {
-        let empty_stays = match options.empty() {
-            Empty::Pad => true,
-            Empty::DropEmptied => self.bare,
-            Empty::DropAll => false,
-        };
         RevisionFate {
             number: self.number,
-            stays: self.number == 0 || self.kept || empty_stays,
+            stays: self.number == 0 || self.kept || keeps_empty(options.empty(), self.bare),
         }
     }
 }

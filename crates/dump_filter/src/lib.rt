@@ -51,4 +51,4 @@ mod revisions;
 mod state;
 
 pub use filter::{Filter, StepFault};
-pub use state::Report;
+pub use state::{Report, keeps_empty};

@@ -50,8 +50,9 @@ fn is_pad(empty: Empty) -> bool
     matches!(empty, Empty::Pad)
 }
 
-/// Whether the options keep a revision that has no kept node; `bare` says whether it had no nodes.
-fn keeps_empty(empty: Empty, bare: bool) -> bool
+/// Whether the options keep a revision that has no kept node, unless it is revision 0, which always stays. `bare` says
+/// whether it had no nodes.
+pub fn keeps_empty(empty: Empty, bare: bool) -> bool
     ensures { result ≡ keeps_empty empty bare }
 {
     match empty {

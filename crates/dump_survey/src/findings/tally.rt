@@ -9,10 +9,11 @@ ghost use Rattle.dump_survey.specs.steps.NamedRevisions.{is_behind_dropped};
 ghost use Rattle.dump_survey.specs.DumpFindings.{has_dump_finding, listed_findings};
 
 use crate::findings::revision_numbers::Numbers;
+use dump_filter::keeps_empty;
 use dump_history::DumpFinding;
 use dump_nodes::{copy_revision_of, makes_copy};
 use dump_records::Record;
-use dump_rules::{Empty, Options};
+use dump_rules::Options;
 
 /// The findings in a dump as a whole.
 #[derive(Clone, Copy, Debug, PartialEq, Eq)]
@@ -82,12 +83,7 @@ impl Present {
     pub(crate) fn stays(&self, options: &Options) -> bool
         ensures { result ≡ keeps_open options.now (Some self.now) }
     {
-        let empty_stays = match options.empty() {
-            Empty::Pad => true,
-            Empty::DropEmptied => self.bare,
-            Empty::DropAll => false,
-        };
-        self.number == 0 || self.kept || empty_stays
+        self.number == 0 || self.kept || keeps_empty(options.empty(), self.bare)
     }
 }
 

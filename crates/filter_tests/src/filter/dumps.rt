@@ -5,6 +5,8 @@ use crate::filter::blocks::{
     UUID, VERSION,
 };
 use crate::filter::{Asked, include, outcome, preserve, report};
+use dump_filter::keeps_empty;
+use dump_rules::Empty;
 use std::alloc::Global;
 use std::process::Abort;
 
@@ -55,4 +57,11 @@ fn a_held_revision_stands_before_its_first_node(rt: HostRuntime) {
     let dump = [VERSION, REVISION_0, REVISION_1, TRUNK, TRUNK_A, TRUNK_2];
     let (trunk, lengths) = (preserve(b"trunk"), [31, 31, 151, 376, 483, 483, 483]);
     assert!(rt; is_written_in_steps(rt.alloc(), trunk, &dump, (2, 0, 2, 1), &lengths));
+}
+
+#[test]
+fn empty_revisions_are_kept_by_the_options(rt: HostRuntime) {
+    assert!(rt; keeps_empty(Empty::Pad, true) && keeps_empty(Empty::Pad, false));
+    assert!(rt; keeps_empty(Empty::DropEmptied, true) && !keeps_empty(Empty::DropEmptied, false));
+    assert!(rt; !keeps_empty(Empty::DropAll, true) && !keeps_empty(Empty::DropAll, false));
 }
