@@ -33,6 +33,24 @@ every_finding = findings.UnreadBlock ∷ findings.Delta ∷ findings.UnknownActi
     ∷ findings.MissingMergeRevision ∷ findings.PropertiesLost ∷ findings.CopyLoses ∷ findings.CopyLetsIn
     ∷ findings.IncludedStays ∷ findings.IncludedMissing ∷ findings.TextComesIn ∷ []
 
+-- the index of a finding in that list
+abbrev pub finding_place : Finding → ℕ
+finding_place findings.UnreadBlock = 0
+finding_place findings.Delta = 1
+finding_place findings.UnknownAction = 2
+finding_place findings.TextReadDifferently = 3
+finding_place findings.NoWholeFile = 4
+finding_place findings.MissingCopyRevision = 5
+finding_place findings.UnreadMergeinfo = 6
+finding_place findings.MissingMergeSource = 7
+finding_place findings.MissingMergeRevision = 8
+finding_place findings.PropertiesLost = 9
+finding_place findings.CopyLoses = 10
+finding_place findings.CopyLetsIn = 11
+finding_place findings.IncludedStays = 12
+finding_place findings.IncludedMissing = 13
+finding_place findings.TextComesIn = 14
+
 -- whether the node's path is kept
 abbrev pub has_kept_path : Settings → DumpRecord → Bool
 has_kept_path settings r = keeps_path settings (node_path r)

@@ -25,20 +25,7 @@ AreCounted old found left times = (f : Finding) → count_in (record { times = t
 
 all_among : (f : Finding) → is_among every_finding f ≡ true
 all_among findings.UnreadBlock = refl
-all_among findings.Delta = refl
-all_among findings.UnknownAction = refl
-all_among findings.TextReadDifferently = refl
-all_among findings.NoWholeFile = refl
-all_among findings.MissingCopyRevision = refl
-all_among findings.UnreadMergeinfo = refl
-all_among findings.MissingMergeSource = refl
-all_among findings.MissingMergeRevision = refl
-all_among findings.PropertiesLost = refl
-all_among findings.CopyLoses = refl
-all_among findings.CopyLetsIn = refl
-all_among findings.IncludedStays = refl
-all_among findings.IncludedMissing = refl
-all_among findings.TextComesIn = refl
+all_among f = refl
 
 pub none_counted_yet : (old : Counts) (found : Found) → AreCounted old found every_finding old.times
 none_counted_yet old found f = sym (ap (λ b. cond (has_found found f && not b) (count_in old f + 1) (count_in old f)) (all_among f)

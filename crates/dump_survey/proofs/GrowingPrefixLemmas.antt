@@ -37,8 +37,6 @@ begins_trans [] mid path first is = refl
 begins_trans (b ∷ prefix) [] path first is = absurd (let bad : false ≡ true = first in cc)
 begins_trans (b ∷ prefix) (c ∷ mid) path first is = reaches_trans (b ∷ prefix) (c ∷ mid) path first is
 
--- tests of lists
-
 -- paths without those that another path covers
 
 -- if none of the paths passes a test, none of the uncovered paths does

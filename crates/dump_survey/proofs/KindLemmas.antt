@@ -5,20 +5,7 @@ use Rattle.dump_history.specs.declared.findings.Finding.TheVariants as findings
 -- the index of a finding determines it
 at_place : (f : Finding) → get_or every_finding (finding_place f) findings.UnreadBlock ≡ f
 at_place findings.UnreadBlock = refl
-at_place findings.Delta = refl
-at_place findings.UnknownAction = refl
-at_place findings.TextReadDifferently = refl
-at_place findings.NoWholeFile = refl
-at_place findings.MissingCopyRevision = refl
-at_place findings.UnreadMergeinfo = refl
-at_place findings.MissingMergeSource = refl
-at_place findings.MissingMergeRevision = refl
-at_place findings.PropertiesLost = refl
-at_place findings.CopyLoses = refl
-at_place findings.CopyLetsIn = refl
-at_place findings.IncludedStays = refl
-at_place findings.IncludedMissing = refl
-at_place findings.TextComesIn = refl
+at_place f = refl
 
 pub same_place : (f g : Finding) → (finding_place g == finding_place f) ≡ true → g ≡ f
 same_place f g is = sym (at_place g)
@@ -28,20 +15,7 @@ same_place f g is = sym (at_place g)
 -- each finding occurs once in the list of all findings
 once : (f : Finding) → length (filter (λ g. finding_place g == finding_place f) every_finding) ≡ 1
 once findings.UnreadBlock = refl
-once findings.Delta = refl
-once findings.UnknownAction = refl
-once findings.TextReadDifferently = refl
-once findings.NoWholeFile = refl
-once findings.MissingCopyRevision = refl
-once findings.UnreadMergeinfo = refl
-once findings.MissingMergeSource = refl
-once findings.MissingMergeRevision = refl
-once findings.PropertiesLost = refl
-once findings.CopyLoses = refl
-once findings.CopyLetsIn = refl
-once findings.IncludedStays = refl
-once findings.IncludedMissing = refl
-once findings.TextComesIn = refl
+once f = refl
 
 -- an element that is put in front if a test passes adds one to the length if it does
 counted : {X : Type 0} (b : Bool) (x : X) (xs : List X) → length (cond b (x ∷ xs) xs) ≡ cond b (length xs + 1) (length xs)

@@ -14,7 +14,6 @@ pub mod KindLemmas
 pub mod LeavingLemmas
 pub mod LeftLemmas
 pub mod LineLemmas
-pub mod LossLemmas
 pub mod MergeinfoLemmas
 pub mod NamedLemmas
 pub mod NeedLemmas

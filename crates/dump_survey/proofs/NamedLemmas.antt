@@ -18,25 +18,13 @@ last_holds false b c d is = cc
 
 module _ (settings : Settings) (r : DumpRecord) (ps : Option (List Property)) (m : NodeFaults) where
   found_named : (f : Finding) → is_found settings r ps m f ≡ true → is_some (cutting_prefix settings r f) ≡ tells_cut f
-  found_named findings.UnreadBlock is = refl
-  found_named findings.Delta is = refl
-  found_named findings.UnknownAction is = refl
-  found_named findings.TextReadDifferently is = refl
-  found_named findings.NoWholeFile is = refl
-  found_named findings.MissingCopyRevision is = refl
-  found_named findings.UnreadMergeinfo is = refl
-  found_named findings.MissingMergeSource is = refl
-  found_named findings.MissingMergeRevision is = refl
-  found_named findings.PropertiesLost is = refl
   found_named findings.CopyLoses is = cut_there settings (copy_path r) (node_path r)
       ∙ last_holds (has_kept_path settings r) (makes_copy r) (has_kept_source settings r)
       (cuts settings (copy_path r) (node_path r)) is
   found_named findings.CopyLetsIn is = cut_there settings (node_path r) (copy_path r)
       ∙ last_holds (has_kept_path settings r) (makes_copy r) (has_kept_source settings r)
       (cuts settings (node_path r) (copy_path r)) is
-  found_named findings.IncludedStays is = refl
-  found_named findings.IncludedMissing is = refl
-  found_named findings.TextComesIn is = refl
+  found_named f is = refl
 
   all_named : (number revision : ℕ) (fs : List Finding)
       → named (map (reported_in settings number revision r) (filter (λ f. is_found settings r ps m f) fs))

@@ -4,7 +4,7 @@ pub use Rattle.std.proofs.Common.{Bool, Bor, Contains, Err, Global, IsFalse, IsS
 pub use Rattle.std.proofs.KnownBytes.{Appends-nil, Appends-trans}
 pub use Rattle.std.proofs.Math.Bool.{and-false, and-true, and_assoc, or-false, or-true, or_assoc}
 pub use Rattle.std.proofs.Math.Seq.{take-length}
-pub use Rattle.std.proofs.lemmas.Bool.{and_from, and_parts, both_ways, eqb-true, false_from_ne_true, ne_eqb, not-true, or_cases, or_from, or_left, or_parts, or_right}
+pub use Rattle.std.proofs.lemmas.Bool.{and_from, and_parts, both_ways, eqb-true, false_from_ne_true, ne_eqb, not-true, not_from_false, or_cases, or_from, or_left, or_parts, or_right}
 pub use Rattle.std.proofs.lemmas.Bool.Decides.{nat_tests}
 pub use Rattle.std.proofs.lemmas.Fn.{filter_same}
 pub use Rattle.std.proofs.lemmas.Grind.{flat_map-append}
@@ -47,9 +47,9 @@ pub use Rattle.dump_history.proofs.survey.NamingTest.{behind_told, dump_findings
 pub use Rattle.dump_history.proofs.survey.SurveyLemmas.{all_read, nodes_stand, numbers_rise, surveyed_dump}
 pub use Rattle.dump_history.proofs.values.WorkedDump.{line, one, other, record_at, records, three, trunk, two, version}
 pub use Rattle.dump_history.specs.DumpChanges.{counts_from, has_ordered_nodes}
-pub use Rattle.dump_history.specs.Findings.{AreDumpFindingsOf, AreFindingsOf, AreNodeFaultsOf, HasUnreadRevision, IsReadBlock, IsUnreadRevision, NodeFaults, begins_at, copies_from_before, cuts, every_dump_finding, every_finding, first_has_node, has_kept_path, has_kept_source, has_source_before, is_alarm, is_exclude, is_found, is_found_in_dump, is_obstacle, makes_copy, rise}
+pub use Rattle.dump_history.specs.Findings.{AreDumpFindingsOf, AreFindingsOf, AreNodeFaultsOf, HasUnreadRevision, IsReadBlock, IsUnreadRevision, NodeFaults, begins_at, copies_from_before, cuts, every_dump_finding, every_finding, finding_place, first_has_node, has_kept_path, has_kept_source, has_source_before, is_alarm, is_found, is_found_in_dump, is_obstacle, makes_copy, rise}
 pub use Rattle.dump_history.specs.NumberGaps.{NamesRevision, SetsMergeinfo, go_up}
-pub use Rattle.dump_history.specs.RecordChanges.{Patching, copy_path, makes}
+pub use Rattle.dump_history.specs.RecordChanges.{Patching, copy_path}
 pub use Rattle.dump_history.specs.SurveyLaws.{AreFindingsBehind, DumpRestricts, HaveFindingsBehind, none_is}
 pub use Rattle.dump_history.specs.steps.NamingTests.{TellsNaming, groups_name, groups_name_behind, nodes_name}
 pub use Rattle.dump_history.specs.steps.NodeReading.{copy_faults, copy_refused, faults_read, has_up_to, is_missing_number, is_unread_value, names_missing_source, names_outside, property_faults}
@@ -84,7 +84,7 @@ pub use Rattle.dump_survey.specs.DumpFindings.{has_dump_finding, listed_findings
 pub use Rattle.dump_survey.specs.DumpReport.{AreDumpReports, ArePlaces, CameUp, ComesUpAt, DumpReport, IsDumpFinding, IsDumpReport, IsNeverFound, comes_up, place_in, reported_at_end}
 pub use Rattle.dump_survey.specs.ParentsToCreate.{AreParentsToCreate, each_once, fronts, left_above, paths_above, with_new}
 pub use Rattle.dump_survey.specs.PrefixesToAdd.{ArePrefixesToAdd, ArePrefixesToAddIn, AreWanted, are_apart, covers, is_wanted, matches_itself, stops_at, stops_somewhere, uncovered, wanted_path, with_prefixes}
-pub use Rattle.dump_survey.specs.Kinds.{ending_kind_line, finding_place, kind_line, kind_lines, prefix_kind, times_in_prefixes, times_reported}
+pub use Rattle.dump_survey.specs.Kinds.{ending_kind_line, kind_line, kind_lines, prefix_kind, times_in_prefixes, times_reported}
 pub use Rattle.dump_survey.specs.OmittedMergeinfo.{AddUpTo, AreOmittedIn, AreOmittedFrom, AreOmittedFromProperties, AreOmittedFromRecords, AreOmittedFromValue, leaving_lines, mergeinfo_values}
 pub use Rattle.dump_survey.specs.FindingRows.{finding_row}
 pub use Rattle.dump_survey.specs.Lines.{dump_line, shown_path}
@@ -103,7 +103,6 @@ pub use Rattle.dump_survey.specs.steps.IdlePrefixes.{AreIdle, AreWithout, is_amo
 pub use Rattle.dump_survey.specs.steps.KeptNumbers.{AreKeptIn, HasKept, ended_numbers, kept_by, kept_view, numbers_before}
 pub use Rattle.dump_survey.specs.steps.Visits.{IsVisitedAfter}
 pub use Rattle.dump_survey.specs.steps.OmittedCounts.{HasCounted, properties_count, property_count, text_lines_count, value_count}
-pub use Rattle.dump_survey.specs.steps.Losses.{AreLossesOf}
 pub use Rattle.dump_survey.specs.steps.NamedRevisions.{LeaveNumber, is_behind_dropped, leave_number, leaves_number}
 pub use Rattle.dump_survey.specs.steps.CopyNeeds.{AreNeeded, Grown, HasCollected, IsPass, PathNeed, needs_source, copy_need, each_matches_itself, grown_prefixes, is_matched, is_unmet, need_of, need_view, needs_of, unmatched}
 pub use Rattle.dump_survey.specs.steps.Places.{AreNextPlaces, first_place, no_places}
@@ -113,12 +112,11 @@ pub use Rattle.dump_survey.specs.steps.Steps.{ArePrefixesReported, ComesNext, Is
 pub use Rattle.dump_survey.specs.steps.Surveyed.{reported_of_finding, reported_of_node}
 pub use Rattle.dump_survey.specs.steps.Surveying.{Surveying, Surveys}
 pub use Rattle.dump_survey.specs.steps.Tally.{first_with, is_above_last, is_tallied, keeps_open, keeps_present, least_behind, lesser, next_tally, no_tally, node_tally, numbers_of, other_tally, revision_tally, tally_behind, tally_findings}
-pub use Rattle.dump_text.proofs.BoolLemmas.{both_true, false_true, first_false, first_true, not_false, not_so, not_true, second_false, second_true}
+pub use Rattle.dump_text.proofs.BoolLemmas.{false_true, first_false, first_true, second_false, second_true}
 pub use Rattle.dump_text.proofs.PropertyLemmas.{entry_parts, left_of, property_block_once}
 pub use Rattle.dump_text.proofs.ValueLemmas.{some_copied}
 pub use Rattle.dump_text.specs.HeaderBlock.{block_text}
-pub use Rattle.dump_text.specs.HeaderLine.{has_header}
-pub use Rattle.dump_text.specs.Names.{copy_revision_name, property_length_name, revision_name}
+pub use Rattle.dump_text.specs.Names.{copy_revision_name, revision_name}
 pub use Rattle.dump_text.specs.PropertyList.{AreEntries, IsEntry, IsPropertyBlock, Property, sized_text}
 pub use Rattle.dump_text.specs.steps.PropertyViews.{HasEntriesLeft, entries_text, entry_property, props_bytes}
 pub use Rattle.dump_trees.proofs.paths.KeptPaths.{reaches_more}
@@ -135,8 +133,7 @@ pub use Rattle.dump_rules.specs.declared.options.Empty.TheVariants.{DropAll, Dro
 pub use Rattle.dump_rules.specs.declared.options.Side.{Side}
 pub use Rattle.dump_rules.specs.declared.options.Side.TheVariants.{Exclude, Include}
 pub use Rattle.dump_survey.specs.declared.report.counts.Counts.{Counts}
-pub use Rattle.dump_survey.specs.declared.findings.node_finding.Found.{Found}
-pub use Rattle.dump_survey.specs.declared.findings.node_finding.Losses.{Losses}
+pub use Rattle.dump_survey.specs.declared.findings.node.Found.{Found}
 pub use Rattle.dump_survey.specs.declared.report.revision_map.NumberCollector.{NumberCollector}
 pub use Rattle.dump_survey.specs.declared.advice.copy_needs.NeedCollector.{NeedCollector}
 pub use Rattle.dump_survey.specs.declared.advice.omitted_mergeinfo.LineCounter.{LineCounter}

@@ -1,5 +1,5 @@
 -- What the filter rejects in a kept node: the revision of its copy source, and its mergeinfo, property by property.
-use Rattle.dump_survey.proofs.Prelude.{◌≡◌, ℕ, Bool, true, false, not, ◌&&◌, ◌||◌, List, [], ◌∷◌, ◌++◌, Option, Some, None, refl, sym, ap, ap₂, ◌∙◌, subst, or-false, or_assoc, list_any, copy_revision_name, Property, IsPropertyBlock, Props, Entry, entry_property, props_bytes, both_true, header_number, DumpRecord, Settings, value_reads, value_misses, value_foreign, is_mergeinfo, is_node, is_kept_node, HasPropertyBlock, ArePropertiesOf, entry_value, kept_revisions, stays_copy, present_number, NodeFaults, AreNodeFaultsOf, has_kept_path, is_unread_value, names_missing_source, names_outside, is_missing_number, copy_refused, property_faults, faults_read, copy_faults, faults_of_kept, faults_of_unread, Numbers, AreFaultsBy, is_missing, misses_revision, AreNumbersBehind}
+use Rattle.dump_survey.proofs.Prelude.{◌≡◌, ℕ, Bool, true, false, not, ◌&&◌, ◌||◌, List, [], ◌∷◌, ◌++◌, Option, Some, None, refl, sym, ap, ap₂, ◌∙◌, subst, or-false, or_assoc, list_any, copy_revision_name, Property, IsPropertyBlock, Props, Entry, entry_property, props_bytes, and_from, header_number, DumpRecord, Settings, value_reads, value_misses, value_foreign, is_mergeinfo, is_node, is_kept_node, HasPropertyBlock, ArePropertiesOf, entry_value, kept_revisions, stays_copy, present_number, NodeFaults, AreNodeFaultsOf, has_kept_path, is_unread_value, names_missing_source, names_outside, is_missing_number, copy_refused, property_faults, faults_read, copy_faults, faults_of_kept, faults_of_unread, Numbers, AreFaultsBy, is_missing, misses_revision, AreNumbersBehind}
 use Rattle.std.specs.Prelude.{nat_lt}
 
 abbrev made : Bool → Bool → Bool → Bool → NodeFaults
@@ -66,7 +66,7 @@ module _ (s : Settings) (copy : Bool) (first present : ℕ) where
 module _ (s : Settings) (numbers : Numbers) (r : DumpRecord) (node : is_node r ≡ true)
     (kept : has_kept_path s r ≡ true) where
   is_kept : is_kept_node s r ≡ true
-  is_kept = both_true (is_node r) (has_kept_path s r) node kept
+  is_kept = and_from (is_node r) (has_kept_path s r) node kept
 
   -- with these numbers the copy source is rejected exactly if it is with the records before the node
   copy_by : (before : List DumpRecord) → AreNumbersBehind s before r numbers

@@ -1,5 +1,5 @@
 -- If nothing that matters is reported, nothing that matters is found in the groups.
-use Rattle.dump_survey.proofs.Prelude.{◌≡◌, ℕ, Bool, true, false, not, ◌&&◌, ◌||◌, ◌==◌, List, [], ◌∷◌, ◌++◌, length, flat_map, map, None, IsTrue, IsFalse, refl, sym, ap, ◌∙◌, subst, arith, append-nil, append_assoc, list_all, list_any, and_from, ne_eqb, first_true, second_true, both_true, first_false, second_false, not_true, not_false, not_so, false_true, records_once, DumpRecord, Ending, HasRecords, FaultKind, CopySource, Settings, keeps_path, is_node, node_path, has_lost_source, is_whole_file, HoldsOfRecord, LengthsFit, IsCleanText, Patching, Finding, DumpFinding, AreDumpFindingsOf, is_obstacle, is_alarm, none_is, DumpRestricts, surveyed_dump, DumpReport, place_in, AreDumpReports, reported_prefixes, prefix_lines, NodeReport, reported_view, AreReported, survey_ending, all_findings, none_reported, SilentSurveyRestricts, SilentTextRestricts, SilentTextLeavesDigests, is_digest_fault, IsSurveyText, FindsNothing, stops_at, stops_somewhere, wanted_path, matches_itself, ArePrefixesToAddIn, AreAddedPrefixLines}
+use Rattle.dump_survey.proofs.Prelude.{◌≡◌, ℕ, Bool, true, false, not, ◌&&◌, ◌||◌, ◌==◌, List, [], ◌∷◌, ◌++◌, length, flat_map, map, None, IsTrue, IsFalse, refl, sym, ap, ◌∙◌, subst, arith, append-nil, append_assoc, list_all, list_any, and_from, ne_eqb, first_true, second_true, first_false, second_false, not-true, not_from_false, false_from_ne_true, false_true, records_once, DumpRecord, Ending, HasRecords, FaultKind, CopySource, Settings, keeps_path, is_node, node_path, has_lost_source, is_whole_file, HoldsOfRecord, LengthsFit, IsCleanText, Patching, Finding, DumpFinding, AreDumpFindingsOf, is_obstacle, is_alarm, none_is, DumpRestricts, surveyed_dump, DumpReport, place_in, AreDumpReports, reported_prefixes, prefix_lines, NodeReport, reported_view, AreReported, survey_ending, all_findings, none_reported, SilentSurveyRestricts, SilentTextRestricts, SilentTextLeavesDigests, is_digest_fault, IsSurveyText, FindsNothing, stops_at, stops_somewhere, wanted_path, matches_itself, ArePrefixesToAddIn, AreAddedPrefixLines}
 use Rattle.dump_survey.specs.FindingRows.{dump_row}
 use Rattle.dump_survey.specs.Lines.{node_line, dump_line, broken_line, ending_line}
 use Rattle.dump_survey.proofs.DigestLemmas.{digests_alone}
@@ -24,7 +24,7 @@ module _ (test : Finding → Bool) where
   none_of_nodes (node ∷ fs) none =
       let both = sym (any_both test node (flat_map (λ other. other) fs)) ∙ none in
       and_from (not (list_any test node)) (list_all (λ other. not (list_any test other)) fs)
-      (not_false (list_any test node) (first_false (list_any test node) _ both))
+      (not_from_false (list_any test node) (first_false (list_any test node) _ both))
       (none_of_nodes fs (second_false (list_any test node) _ both))
 
   none_of_groups : (found : List (List (List Finding))) → list_any test (all_findings found) ≡ false
@@ -49,8 +49,8 @@ module _ (patched : Patching) (settings : Settings) (dump text : List ℕ) (reco
       let (found, have, all) = reported_are_findings settings dump records Ending.Whole reported clean.whole here in
       surveyed_dump patched settings dump text records found clean fit
       (subst (λ l. AreDumpFindingsOf settings l []) same.0 nothing) have
-      (none_of_groups is_obstacle found (ap (list_any is_obstacle) (sym all) ∙ not_true _ no_obstacle))
-      (none_of_groups is_alarm found (ap (list_any is_alarm) (sym all) ∙ not_true _ no_alarm))
+      (none_of_groups is_obstacle found (ap (list_any is_obstacle) (sym all) ∙ not-true _ no_obstacle))
+      (none_of_groups is_alarm found (ap (list_any is_alarm) (sym all) ∙ not-true _ no_alarm))
 
 -- so the law holds after a survey that reports nothing that matters
 pub silent_restricts : SilentSurveyRestricts
@@ -150,7 +150,7 @@ module _ (settings : Settings) (records : List DumpRecord)
     → HoldsOfRecord settings before r kind → IsTrue (is_digest_fault kind)) where
   goes_on : (before after : List DumpRecord) (r : DumpRecord) → records ≡ before ++ r ∷ after
       → stops_at settings r ≡ false
-  goes_on before after r are = not_so (stops_at settings r)
+  goes_on before after r are = false_from_ne_true (stops_at settings r)
       (λ stops. false_true (digests before after r CopySource are (lacks stops)))
     where
       kept : Bool
@@ -167,8 +167,8 @@ module _ (settings : Settings) (records : List DumpRecord)
           let node = first_true (is_node r) ((kept && lost) && changed) stops in
           let rest = second_true (is_node r) ((kept && lost) && changed) stops in
           let both = first_true (kept && lost) changed rest in
-          both_true ((is_node r && kept) && lost) changed
-          (both_true (is_node r && kept) lost (both_true (is_node r) kept node (first_true kept lost both))
+          and_from ((is_node r && kept) && lost) changed
+          (and_from (is_node r && kept) lost (and_from (is_node r) kept node (first_true kept lost both))
           (second_true kept lost both))
           (second_true (kept && lost) changed rest)
 

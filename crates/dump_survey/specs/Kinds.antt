@@ -2,7 +2,7 @@
 use Rattle.std.specs.Prelude.{ℕ, ◌==◌, List, [], ◌∷◌, ◌++◌, length, filter, flat_map, codes, decimal, None, if◌then◌else◌}
 use Rattle.std.specs.List.{concat}
 use Rattle.dump_records.specs.DumpText.{Ending}
-use Rattle.dump_history.specs.Findings.{every_finding}
+use Rattle.dump_history.specs.Findings.{every_finding, finding_place}
 use Rattle.dump_survey.specs.declared.findings.prefix_findings.PrefixFinding.{PrefixFinding}
 use Rattle.dump_survey.specs.declared.findings.prefix_findings.PrefixFinding.TheVariants.{NotCanonical, Idle}
 use Rattle.dump_survey.specs.FindingRows.{KindText, finding_row, dump_row}
@@ -11,25 +11,6 @@ use Rattle.dump_survey.specs.PrefixFindings.{PrefixReport}
 use Rattle.dump_survey.specs.Reported.{NodeReport}
 use Rattle.dump_history.specs.declared.findings.DumpFinding.{DumpFinding}
 use Rattle.dump_history.specs.declared.findings.Finding.{Finding}
-use Rattle.dump_history.specs.declared.findings.Finding.TheVariants as findings
-
--- the index of a finding in the list of all findings in nodes
-abbrev pub finding_place : Finding → ℕ
-finding_place findings.UnreadBlock = 0
-finding_place findings.Delta = 1
-finding_place findings.UnknownAction = 2
-finding_place findings.TextReadDifferently = 3
-finding_place findings.NoWholeFile = 4
-finding_place findings.MissingCopyRevision = 5
-finding_place findings.UnreadMergeinfo = 6
-finding_place findings.MissingMergeSource = 7
-finding_place findings.MissingMergeRevision = 8
-finding_place findings.PropertiesLost = 9
-finding_place findings.CopyLoses = 10
-finding_place findings.CopyLetsIn = 11
-finding_place findings.IncludedStays = 12
-finding_place findings.IncludedMissing = 13
-finding_place findings.TextComesIn = 14
 
 -- how often the finding is reported
 abbrev pub times_reported : List NodeReport → Finding → ℕ

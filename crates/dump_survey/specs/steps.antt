@@ -4,7 +4,6 @@ pub mod Found
 pub mod IdlePrefixes
 pub mod KeptNumbers
 pub mod LineViews
-pub mod Losses
 pub mod NamedRevisions
 pub mod OmittedCounts
 pub mod Places

@@ -2,7 +2,6 @@
 
 pub(crate) mod named_revisions;
 pub(crate) mod node;
-pub(crate) mod node_finding;
 pub(crate) mod places;
 pub(crate) mod prefix_findings;
 pub(crate) mod prefix_set;

@@ -64,7 +64,7 @@ pub use advice::omitted_mergeinfo::omitted_lines;
 pub use advice::parents::parents_to_create;
 pub use dump_history::{DumpFinding, Finding, every_finding};
 pub use dump_rules::Memory;
-pub use findings::node_finding::Found;
+pub use findings::node::Found;
 pub use findings::places::{DumpPlaces, Place};
 pub use findings::prefix_findings::{PrefixFinding, ReportedPrefix};
 pub use findings::reported::{ReportedFinding, SurveyedNode};

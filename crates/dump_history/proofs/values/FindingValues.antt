@@ -1,6 +1,6 @@
 -- Examples of what a survey finds in a node and in a dump; the checker computes and proves them.
-use Rattle.dump_history.proofs.Prelude.{true, ◌≡◌, ◌++◌, None, refl, Header, DumpRecord, Include, Exclude, Pad, Settings, has_ordered_nodes, findings_of, dump_findings, no_node_faults}
-use Rattle.std.proofs.Common.{false, [], ◌∷◌, Some, codes}
+use Rattle.dump_history.proofs.Prelude.{true, ◌≡◌, ◌++◌, None, refl, Header, DumpRecord, Include, Exclude, Pad, Settings, every_finding, has_ordered_nodes, findings_of, is_obstacle, is_alarm, dump_findings, no_node_faults}
+use Rattle.std.proofs.Common.{false, [], ◌∷◌, Some, codes, filter}
 use Rattle.dump_history.proofs.values.WorkedDump.{line, record_at, records, version, zero, one, two, three, trunk}
 use Rattle.dump_history.proofs.values.WorkedDump.{settings as worked_settings}
 use Rattle.dump_history.proofs.values.FindingParts.{cut_by, include_a, exclude_a, node, from, whole_from, in_node, facts}
@@ -10,6 +10,21 @@ use Rattle.dump_history.specs.declared.findings.DumpFinding.TheVariants as dump_
 -- a property length
 abbrev block : Header
 block = line (codes "Prop-content-length") (codes "10")
+
+-- what can be found
+
+all_findings : every_finding ≡ findings.UnreadBlock ∷ findings.Delta ∷ findings.UnknownAction ∷ findings.TextReadDifferently
+    ∷ findings.NoWholeFile ∷ findings.MissingCopyRevision ∷ findings.UnreadMergeinfo ∷ findings.MissingMergeSource
+    ∷ findings.MissingMergeRevision ∷ findings.PropertiesLost ∷ findings.CopyLoses ∷ findings.CopyLetsIn ∷ findings.IncludedStays ∷ findings.IncludedMissing ∷ findings.TextComesIn ∷ []
+all_findings = refl
+
+obstacles : filter is_obstacle every_finding
+    ≡ findings.UnreadBlock ∷ findings.Delta ∷ findings.UnknownAction ∷ findings.TextReadDifferently ∷ []
+obstacles = refl
+
+alarms : filter is_alarm every_finding ≡ findings.PropertiesLost ∷ findings.CopyLoses ∷ findings.CopyLetsIn
+    ∷ findings.IncludedStays ∷ findings.IncludedMissing ∷ []
+alarms = refl
 
 -- nothing is found in a node that only adds, changes or deletes, whether or not it is kept
 

@@ -1,6 +1,6 @@
 -- More examples of what a survey finds. Each shows that a definition differs from one that lacks a part of it.
-use Rattle.dump_history.proofs.Prelude.{◌≡◌, true, None, refl, DumpRecord, Include, Exclude, DropAll, Settings, every_finding, findings_of, is_obstacle, is_alarm, every_dump_finding, rise, dump_findings, none_is, no_node_faults}
-use Rattle.std.proofs.Common.{false, [], ◌∷◌, filter, codes}
+use Rattle.dump_history.proofs.Prelude.{◌≡◌, true, None, refl, DumpRecord, Include, Exclude, DropAll, Settings, findings_of, is_alarm, every_dump_finding, rise, dump_findings, none_is, no_node_faults}
+use Rattle.std.proofs.Common.{false, [], ◌∷◌, codes}
 use Rattle.dump_history.proofs.values.WorkedDump.{line, record_at, version, zero, one, two, trunk, three, copy}
 use Rattle.dump_history.proofs.values.FindingParts.{cut_by, include_a, exclude_a, node, from, whole_from, in_node, facts}
 use Rattle.dump_history.specs.declared.findings.Finding.TheVariants as findings
@@ -21,21 +21,6 @@ four = record_at 0 (line (codes "Revision-number") (codes "4") ∷ [])
 abbrev changed : DumpRecord
 changed = node (codes "trunk") (codes "change")
     (line (codes "Node-copyfrom-rev") (codes "1") ∷ line (codes "Node-copyfrom-path") (codes "trunk") ∷ [])
-
--- what can be found
-
-all_findings : every_finding ≡ findings.UnreadBlock ∷ findings.Delta ∷ findings.UnknownAction ∷ findings.TextReadDifferently
-    ∷ findings.NoWholeFile ∷ findings.MissingCopyRevision ∷ findings.UnreadMergeinfo ∷ findings.MissingMergeSource
-    ∷ findings.MissingMergeRevision ∷ findings.PropertiesLost ∷ findings.CopyLoses ∷ findings.CopyLetsIn ∷ findings.IncludedStays ∷ findings.IncludedMissing ∷ findings.TextComesIn ∷ []
-all_findings = refl
-
-obstacles : filter is_obstacle every_finding
-    ≡ findings.UnreadBlock ∷ findings.Delta ∷ findings.UnknownAction ∷ findings.TextReadDifferently ∷ []
-obstacles = refl
-
-alarms : filter is_alarm every_finding ≡ findings.PropertiesLost ∷ findings.CopyLoses ∷ findings.CopyLetsIn
-    ∷ findings.IncludedStays ∷ findings.IncludedMissing ∷ []
-alarms = refl
 
 -- several findings are in this order
 

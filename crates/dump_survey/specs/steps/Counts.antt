@@ -1,8 +1,8 @@
 -- How often each kind of finding was reported, as the program counts it.
 use Rattle.std.specs.Prelude.{◌≡◌, ℕ, ◌+◌, slice_index_or, if◌then◌else◌}
 use Rattle.dump_survey.specs.declared.report.counts.Counts.{Counts}
-use Rattle.dump_survey.specs.declared.findings.node_finding.Found.{Found}
-use Rattle.dump_survey.specs.Kinds.{finding_place}
+use Rattle.dump_survey.specs.declared.findings.node.Found.{Found}
+use Rattle.dump_history.specs.Findings.{finding_place}
 use Rattle.dump_survey.specs.steps.Found.{has_found}
 use Rattle.dump_history.specs.declared.findings.Finding.{Finding}
 

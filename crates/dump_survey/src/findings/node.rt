@@ -1,20 +1,20 @@
 //! What a survey finds in a node.
-ghost use Rattle.std.specs.Prelude.{◌≡◌, List, Option, IfOk, IsTrue, IsFalse, map};
+ghost use Rattle.std.specs.Prelude.{◌≡◌, List, Option, IfOk, IsTrue, IsFalse, map, option_copied};
+ghost use Rattle.std.specs.List.{list_any};
 ghost use Rattle.dump_text.specs.PropertyList.{Property};
 ghost use Rattle.dump_records.specs.steps.RecordViews.{record_item};
 ghost use Rattle.dump_rules.specs.Prefix.{bare_prefix};
 ghost use Rattle.dump_digest.specs.RecordParts.{is_copy, is_node};
 ghost use Rattle.dump_digest.specs.steps.ContentViews.{ArePropertiesOf};
-ghost use Rattle.dump_history.specs.Findings.{has_kept_path, has_kept_source, is_exclude, IsReadBlock};
+ghost use Rattle.dump_history.specs.Findings.{every_finding, has_kept_path, has_kept_source, is_exclude, IsReadBlock};
 ghost use Rattle.dump_nodes.specs.steps.Actions.{IsActionOf};
-ghost use Rattle.dump_survey.specs.steps.Found.{IsFoundIn};
-ghost use Rattle.dump_survey.specs.steps.Losses.{AreObstaclesOf, AreLossesOf};
+ghost use Rattle.dump_survey.specs.steps.Found.{AreLossesOf, AreObstaclesOf, IsFoundIn, found_prefix, has_found};
 
-use crate::findings::node_finding::{Found, Losses, Obstacles};
 use crate::findings::prefixes::Prefixes;
 use crate::findings::refused::{Refused, refused_of};
 use crate::findings::revision_numbers::Numbers;
 use dump_digest::properties_of;
+use dump_history::{Finding, every_finding};
 use dump_nodes::{
     Action, action_of, copy_path_of, has_undefined_delta, is_copy, is_whole_file, loads_as_written,
     path_of,
@@ -23,6 +23,93 @@ use dump_records::Record;
 use dump_rules::{Memory, Options, Side, keeps};
 use dump_text::Props;
 use std::alloc::Global;
+
+/// What prevents a node from making a change that the definitions describe.
+#[derive(Clone, Copy, Debug, PartialEq, Eq)]
+pub(crate) struct Obstacles {
+    pub(crate) unread_block: bool,
+    pub(crate) delta: bool,
+    pub(crate) unknown_action: bool,
+    pub(crate) text_read_differently: bool,
+}
+
+/// What the filter's cut does to a node.
+#[derive(Clone, Copy, Debug, PartialEq, Eq)]
+pub(crate) struct Losses<'o> {
+    pub(crate) no_whole_file: bool,
+    pub(crate) properties_lost: bool,
+    /// The first prefix because of which a copy lacks something.
+    pub(crate) copy_loses: Option<&'o [u8]>,
+    /// The first prefix because of which a copy brings something back.
+    pub(crate) copy_lets_in: Option<&'o [u8]>,
+    pub(crate) included_stays: bool,
+    pub(crate) included_missing: bool,
+    pub(crate) text_comes_in: bool,
+}
+
+impl Losses<'static> {
+    /// The value that says that nothing is lost.
+    pub(crate) const NONE: Losses<'static> = Losses {
+        no_whole_file: false,
+        properties_lost: false,
+        copy_loses: None,
+        copy_lets_in: None,
+        included_stays: false,
+        included_missing: false,
+        text_comes_in: false,
+    };
+}
+
+/// The findings in a node.
+#[derive(Clone, Copy, Debug, PartialEq, Eq)]
+pub struct Found<'o> {
+    pub(crate) obstacles: Obstacles,
+    pub(crate) refused: Refused,
+    pub(crate) losses: Losses<'o>,
+}
+
+impl<'o> Found<'o> {
+    /// Whether this finding is one of them.
+    pub fn has(&self, finding: Finding) -> bool
+        ensures { result ≡ has_found self.now finding }
+    {
+        match finding {
+            Finding::UnreadBlock => self.obstacles.unread_block,
+            Finding::Delta => self.obstacles.delta,
+            Finding::UnknownAction => self.obstacles.unknown_action,
+            Finding::TextReadDifferently => self.obstacles.text_read_differently,
+            Finding::NoWholeFile => self.losses.no_whole_file,
+            Finding::MissingCopyRevision => self.refused.copy_revision,
+            Finding::UnreadMergeinfo => self.refused.unread,
+            Finding::MissingMergeSource => self.refused.missing,
+            Finding::MissingMergeRevision => self.refused.outside,
+            Finding::PropertiesLost => self.losses.properties_lost,
+            Finding::CopyLoses => self.losses.copy_loses.is_some(),
+            Finding::CopyLetsIn => self.losses.copy_lets_in.is_some(),
+            Finding::IncludedStays => self.losses.included_stays,
+            Finding::IncludedMissing => self.losses.included_missing,
+            Finding::TextComesIn => self.losses.text_comes_in,
+        }
+    }
+
+    /// Whether there is any finding.
+    pub(crate) fn is_any(&self) -> bool
+        ensures { result ≡ list_any (has_found self.now) every_finding }
+    {
+        every_finding().iter().any(|finding| self.has(*finding))
+    }
+
+    /// The prefix that is reported with this finding, if there is one.
+    pub(crate) fn prefix(&self, finding: Finding) -> Option<&'o [u8]>
+        ensures { option_copied result ≡ found_prefix self.now finding }
+    {
+        match finding {
+            Finding::CopyLoses => self.losses.copy_loses,
+            Finding::CopyLetsIn => self.losses.copy_lets_in,
+            _ => None,
+        }
+    }
+}
 
 /// The obstacles of a node with this action and these properties: what prevents it from making a change that the
 /// definitions describe.

@@ -5,7 +5,7 @@ ghost use Rattle.dump_digest.specs.RecordParts.{is_node};
 ghost use Rattle.dump_survey.specs.Reported.{reported_view};
 ghost use Rattle.dump_survey.specs.steps.Surveyed.{reported_of_finding, reported_of_node};
 
-use crate::findings::node_finding::Found;
+use crate::findings::node::Found;
 use dump_history::{Finding, every_finding};
 use dump_nodes::{copy_path_of, copy_revision_of, path_of};
 use dump_records::Record;

@@ -3,7 +3,7 @@ ghost use Rattle.std.specs.Prelude.{◌≡◌, ◌+◌, ◌<◌, ◌^◌};
 ghost use Rattle.dump_history.specs.declared.findings.Finding.{Finding};
 ghost use Rattle.dump_survey.specs.steps.Counts.{AreWithNode, count_in};
 
-use crate::findings::node_finding::Found;
+use crate::findings::node::Found;
 use dump_history::{FINDINGS, Finding, every_finding};
 
 /// For each kind, the number of nodes for which it was reported; the index is the kind's number in `Finding`.
