@@ -1,5 +1,5 @@
 -- The numbers of workers and of the window that a parse gives for a line that a command takes.
-use Rattle.cli_support.proofs.Prelude.{◌≡◌, ◌∙◌, ℕ, true, false, not, refl, sym, ap, subst, List, [], ◌∷◌, length, map, filter, codes, inl, inr, lit<, eqb-true, nil_from_length, list_any, bytes_eq, first_true, not_true, number, AreFilled, IsNumber}
+use Rattle.cli_support.proofs.Prelude.{◌≡◌, ◌∙◌, ℕ, true, false, not, refl, sym, ap, subst, List, [], ◌∷◌, length, map, filter, codes, inl, inr, lit<, eqb-true, nil_from_length, list_any, bytes_eq, first_true, not-true, number, AreFilled, IsNumber}
 use Rattle.std.proofs.lemmas.Bool.{and_parts, both_ways, cases_Bool}
 use Rattle.clap.specs.Built.{IsParsedFrom}
 use Rattle.clap.specs.Facts.{args_of, groups_of}
@@ -34,7 +34,7 @@ local : (c : Command-F Command) → has_plain_fields c ≡ true → c.has_global
 local c plain =
     let behind = and_parts (is_empty c.groups.items) _ plain in
     let more = and_parts (not c.allow_external_subcommands) _ behind.1 in
-    not_true c.has_globals (and_parts (not c.has_globals) _ more.1).0
+    not-true c.has_globals (and_parts (not c.has_globals) _ more.1).0
 
 -- the rules of a command that have this id are options with a number up to this one, and there is one
 pub record HasNumber (id : Text) (most : ℕ) (all : List Rule) : Type 0 where

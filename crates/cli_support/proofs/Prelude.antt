@@ -2,7 +2,7 @@
 pub use Rattle.std.specs.Prelude.{find, slice_get, ⊤}
 pub use Rattle.std.proofs.Common.{Bool, Err, List, None, Ok, Option, Result, Some, [], ap, append_assoc, arith, codes, false, filter, inl, inr, is_some, length, lit<, lit≤, map, not, refl, subst, suc, sym, true, zero, ℕ, ◌&&◌, ◌++◌, ◌<◌, ◌∙◌, ◌∷◌, ◌≡◌, ◌≤◌, ◌⊎◌}
 pub use Rattle.std.proofs.KnownBytes.{Appends-kept}
-pub use Rattle.std.proofs.lemmas.Bool.{cases_lt, eqb-true, ne_eqb}
+pub use Rattle.std.proofs.lemmas.Bool.{cases_lt, eqb-true, ne_eqb, not-true}
 pub use Rattle.std.proofs.lemmas.List.{append_cancel_left, length-map, nil_from_length}
 pub use Rattle.std.proofs.lemmas.Result.{IfOk-weaker}
 pub use Rattle.std.proofs.lemmas.Slice.Eq.{bytes_eq-Decides}
@@ -17,7 +17,7 @@ pub use Rattle.cli_support.specs.FilterCalls.{call_of_side, call_with, filter_ca
 pub use Rattle.cli_support.specs.FilterCommand.{filter_command, number, prefixes, switch}
 pub use Rattle.cli_support.specs.steps.FilledFlags.{AreFilled, IsNumber}
 pub use Rattle.cli_support.specs.steps.LineReading.{ReadsLine, is_call_of}
-pub use Rattle.dump_text.proofs.BoolLemmas.{first_true, not_true}
+pub use Rattle.dump_text.proofs.BoolLemmas.{first_true}
 pub use Rattle.dump_writer.specs.SinkWords.{IsPrefixOf}
 pub use Rattle.dump_writer.specs.steps.SinkStates.{LentState, lent_taken}
 pub use Rattle.cli_support.specs.declared.filter_call.FilterCall.{FilterCall}

@@ -83,7 +83,7 @@ begins_first dump before behind (records, changes, others, begins, listed, known
 pub stops_in_order : (drops : Bool) (dump : List ℕ) (all : List NodeChange) (stop : Option Unread) (place number : ℕ)
     → IsFirstOutOfOrder all (Some place) → AreKnownUpTo drops dump all stop
     → AreKnownUpTo drops dump (take place all) (Some (unread.LaterCopy number))
-stops_in_order drops dump all stop place number (before, c, behind, all_is, size, ordered, not_so) known =
+stops_in_order drops dump all stop place number (before, c, behind, all_is, size, ordered, false_from_ne_true) known =
     let first : take place all ≡ before =
     ap₂ take (sym size) all_is ∙ take-append-le (length before) before (c ∷ behind) (omega arith)
     ∙ take-length before in
@@ -96,7 +96,7 @@ stops_in_order drops dump all stop place number (before, c, behind, all_is, size
         begins_first dump (before ++ c ∷ []) behind
             (subst (λ cs. BeginsWithChanges dump (map listed_of cs)) (sym (append_assoc before (c ∷ []) behind)) begins),
         ordered,
-        not_so,
+        false_from_ne_true,
       ),
     )
 

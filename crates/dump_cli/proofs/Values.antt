@@ -1,5 +1,5 @@
 -- Worked values of the definitions, computed and proved by the kernel.
-use Rattle.dump_cli.proofs.Prelude.{◌≡◌, ℕ, refl, true, false, List, [], ◌∷◌, length, Some, None, Ok, Err, codes, inl, inr, ap, arith, lent, report_of, padding, Clean, Fault, Failed, empty_answer, Words, BothDrops, AnswersTo, FilterCall, Order, meaning_of, shown, status_of, BreaksOff, Ran, CarriesOut, Obeys, Drives, IsSilent, TellsBehind, FailsOnlyBehind, is_sink_failure}
+use Rattle.dump_cli.proofs.Prelude.{◌≡◌, refl, true, false, [], ◌∷◌, length, Some, None, Ok, Err, codes, inl, inr, ap, arith, lent, report_of, padding, Clean, Fault, Failed, empty_answer, Words, BothDrops, AnswersTo, FilterCall, Order, meaning_of, shown, status_of, BreaksOff, Ran, CarriesOut, Obeys, Drives, IsSilent, TellsBehind, FailsOnlyBehind, is_sink_failure}
 use base.Fml.{GName}
 use Rattle.clap.proofs.OnLiterals.{clap_on_literals}
 use Rattle.dump_text.specs.declared.fault.FaultKind.TheVariants as faults

@@ -54,8 +54,6 @@ split_inserted {V} items k (x ∷ keys) none =
     cases other (front, behind, same, put) Greater is =
         (x ∷ front, behind, ap (λ rest. x ∷ rest) same, ap (λ rest. x ∷ rest) put)
 
--- filters and maps of two lists in a row
-
 -- the texts that stay
 
 abbrev stays : List ℕ → List ℕ → Bool

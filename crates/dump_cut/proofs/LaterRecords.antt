@@ -1,12 +1,12 @@
 -- The records before the first one of a kind, and those from there on: their texts, versions, groups and order.
 use Rattle.std.proofs.Common.{◌≡◌, ℕ, suc, ◌+◌, ◌<◌, ◌≤◌, ◌==◌, Bool, true, false, not, ◌&&◌, ◌||◌, List, [], ◌∷◌, ◌++◌, if◌then◌else◌, length, length-append, map, take, drop, refl, sym, ap, ◌∙◌, subst, arith, append-nil, append_assoc}
-use Rattle.std.proofs.lemmas.Bool.{and_from, and_parts, eqb-true, ltb-false, ltb-true}
+use Rattle.std.proofs.lemmas.Bool.{and_from, and_parts, eqb-true, false_from_ne_true, ltb-false, ltb-true}
 use Rattle.std.proofs.Math.Seq.{drop-append_seam, take-append_seam}
 use Rattle.std.specs.Prelude.{nat_lt, unwrap_or}
 use Rattle.std.specs.List.{AllZip}
 use Rattle.dump_text.specs.HeaderLine.{has_header}
 use Rattle.dump_text.specs.Names.{revision_name}
-use Rattle.dump_text.proofs.BoolLemmas.{absurd_bool, not_so}
+use Rattle.dump_text.proofs.BoolLemmas.{absurd_bool}
 use Rattle.dump_records.specs.DumpText.{Ending, HasRecords, HaveVersions, IsCutInto, line_feeds}
 use Rattle.dump_records.specs.HeaderRules.{header_number}
 use Rattle.dump_records.specs.RecordText.{DumpRecord, is_lawful, record_text}
@@ -63,14 +63,14 @@ versions_rest version (r ∷ rs) ss (is, have) = versions_rest r.version rs ss h
 -- a revision is no node
 pub no_node : (r : DumpRecord) → Fits r → is_revision_record r ≡ true → is_node r ≡ false
 no_node r fits revision =
-    not_so (is_node r) (λ node. absurd_bool (is_revision_record r) revision (alone fits.number r fits.lawful node))
+    false_from_ne_true (is_node r) (λ node. absurd_bool (is_revision_record r) revision (alone fits.number r fits.lawful node))
 
 -- the first record of a dump is no revision
 pub first_no_revision : (r : DumpRecord) → is_lawful 0 r.headers ≡ true → is_revision_record r ≡ false
 first_no_revision r lawful =
     let keeps = unique.keeps 0 r.headers lawful in
-    not_so (is_revision_record r) (λ revision. keeps.version
-    (rw ((no_others r.headers (not_so _ keeps.kind) (ap (λ b. b || is_node r) revision)).0) refl))
+    false_from_ne_true (is_revision_record r) (λ revision. keeps.version
+    (rw ((no_others r.headers (false_from_ne_true _ keeps.kind) (ap (λ b. b || is_node r) revision)).0) refl))
 
 -- the first record, if there is one, is no node
 abbrev pub BeginsGroup : List DumpRecord → Type 0
@@ -231,7 +231,7 @@ module _ (is_such : DumpRecord → Bool) where
   before_is_dump revision dump (r ∷ records) has =
       let cut = subst (λ (l : List ℕ). IsCutInto 0 0 dump (r ∷ records) l) has.3.0 has.1 in
       let c = cut_before 0 0 (length dump) dump (r ∷ records) (omega arith) cut in
-      let other : is_such r ≡ false = not_so (is_such r) (λ such. absurd_bool (is_revision_record r) (revision r such)
+      let other : is_such r ≡ false = false_from_ne_true (is_such r) (λ such. absurd_bool (is_revision_record r) (revision r such)
       (first_no_revision r cut.5.lawful)) in (
         [],
         subst (λ t. IsCutInto 0 0 t (before_first is_such (r ∷ records)) []) (sym (cut_at dump (r ∷ records) c).0) c.cut,

@@ -5,7 +5,7 @@ use Rattle.std.specs.List.{AllZip}
 use Rattle.std.proofs.lemmas.Bool.{and_parts}
 use Rattle.std.proofs.lemmas.List.{length-reverse}
 use Rattle.dump_trees.specs.Changes.{Made}
-use Rattle.dump_trees.specs.LoadCheck.{Kind, ToldKinds, kinds_told, source_told}
+use Rattle.dump_trees.specs.LoadCheck.{Kind, kinds_told, source_told}
 use Rattle.dump_trees.specs.LoadCheck as LoadCheck
 use Rattle.dump_trees.specs.Looking.{Placed, end_of}
 use Rattle.dump_trees.specs.Paths.{NodePath, names_of, parent_of}

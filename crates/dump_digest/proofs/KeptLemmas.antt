@@ -1,5 +1,5 @@
 -- Whether a node is kept, by its path.
-use Rattle.dump_digest.proofs.Prelude.{◌≡◌, List, ℕ, false, true, not, refl, sym, Some, None, is_some, path_name, revision_name, copy_path_name, header_value, header_number, has_bad_number, DumpRecord, is_lawful, revision_there, keeps, not_so, has_value, Settings, keeps_path, is_revision_record, is_kept_node, has_lost_source}
+use Rattle.dump_digest.proofs.Prelude.{◌≡◌, List, ℕ, false, true, not, refl, sym, Some, None, is_some, path_name, revision_name, copy_path_name, header_value, header_number, has_bad_number, DumpRecord, is_lawful, revision_there, keeps, false_from_ne_true, has_value, Settings, keeps_path, is_revision_record, is_kept_node, has_lost_source}
 
 -- a record with a path is a kept node exactly if its path is kept
 pub kept_some : (settings : Settings) (r : DumpRecord) (path : List ℕ) → header_value path_name r.headers ≡ Some path
@@ -30,4 +30,4 @@ lost_none settings r is =
 pub revision_told : (r : DumpRecord) (number : ℕ) → is_lawful number r.headers ≡ true
     → is_some (header_number revision_name r.headers) ≡ is_revision_record r
 revision_told r number lawful = sym (revision_there r.headers
-    (not_so (has_bad_number r.headers) (keeps number r.headers lawful).number_ok))
+    (false_from_ne_true (has_bad_number r.headers) (keeps number r.headers lawful).number_ok))

@@ -1,5 +1,5 @@
 -- Mergeinfo is bad if a property of its name has a value that isn't mergeinfo.
-use Rattle.dump_digest.proofs.Prelude.{◌≡◌, ◌↔◌, ℕ, zero, suc, Bool, true, false, List, [], ◌∷◌, refl, sym, ap, subst, ◌∙◌, arith, Contains, IsTrue, IsFalse, inl, inr, absurd_bool, not_so, cases_Bool, same_from_decides, Bool-set, ∥∥₁_elim, and_parts, Property, property_block_once, DumpRecord, Settings, HasMergeLines, value_reads, reads_exactly, is_kept_node, is_mergeinfo, value_of, HasPropertyList, HasPropertyBlock, HasBadMergeinfo, property_reads, properties_read}
+use Rattle.dump_digest.proofs.Prelude.{◌≡◌, ◌↔◌, ℕ, zero, suc, Bool, true, false, List, [], ◌∷◌, refl, sym, ap, subst, ◌∙◌, arith, Contains, IsTrue, IsFalse, inl, inr, absurd_bool, false_from_ne_true, cases_Bool, same_from_decides, Bool-set, ∥∥₁_elim, and_parts, Property, property_block_once, DumpRecord, Settings, HasMergeLines, value_reads, reads_exactly, is_kept_node, is_mergeinfo, value_of, HasPropertyList, HasPropertyBlock, HasBadMergeinfo, property_reads, properties_read}
 
 -- one property
 
@@ -24,7 +24,7 @@ bad_entry p bad = elim (cases_Bool (is_mergeinfo p)) [
 
 entry_bad : (p : Property) → BadEntry p → property_reads p ≡ false
 entry_bad p bad =
-    let unread = not_so (value_reads (value_of p)) (λ e. bad.none ((reads_exactly (value_of p)).0 e)) in
+    let unread = false_from_ne_true (value_reads (value_of p)) (λ e. bad.none ((reads_exactly (value_of p)).0 e)) in
     let named = bad.named in
     rw (named, unread) refl
 
@@ -65,7 +65,7 @@ merge_means settings r ok ps kept block is = (
 )
   where
     found : HasBadMergeinfo settings r → IsFalse ok
-    found (value, (k, qs, other, p, within, named, same), none) = not_so ok (λ e.
+    found (value, (k, qs, other, p, within, named, same), none) = false_from_ne_true ok (λ e.
         let lists = property_block_once r.props qs ps other.0 block.0 in
         let here = subst (λ (l : List Property). Contains l p) lists within in
         let read = read_none ps p (sym is ∙ e) here in

@@ -3,7 +3,7 @@ pub use Rattle.std.proofs.Common.{Bool, Bor, Contains, Err, IfSome, IsFalse, IsN
 pub use Rattle.std.proofs.Math.Bool.{Bool-set, or-false, or-true, or_assoc}
 pub use Rattle.std.proofs.Math.Facts.{Fits-lt-pow}
 pub use Rattle.std.proofs.Math.Logic.{∥∥₁_elim}
-pub use Rattle.std.proofs.lemmas.Bool.{and_parts, cases_Bool, false≢true, or_right, true_from_ne_false}
+pub use Rattle.std.proofs.lemmas.Bool.{and_from, and_parts, cases_Bool, false_from_ne_true, false≢true, or_right, true_from_ne_false}
 pub use Rattle.std.proofs.lemmas.Bool.Decides.{same_from_decides}
 pub use Rattle.std.proofs.lemmas.Option.{same_Some}
 pub use Rattle.std.proofs.lemmas.Slice.Eq.{bytes_eq-Decides}
@@ -28,7 +28,7 @@ pub use Rattle.dump_rules.specs.steps.Merged.{is_outside, no_bounds, nothing_mer
 pub use Rattle.dump_rules.specs.steps.ReadMergeinfo.{value_reads}
 pub use Rattle.dump_rules.specs.steps.RewrittenLines.{value_foreign, value_misses}
 pub use Rattle.dump_text.proofs.BlockLemmas.{has_value}
-pub use Rattle.dump_text.proofs.BoolLemmas.{absurd_bool, both_true, false_true, first_true, not_so, second_true}
+pub use Rattle.dump_text.proofs.BoolLemmas.{absurd_bool, false_true, first_true, second_true}
 pub use Rattle.dump_text.proofs.PropertyChoice.{changes_or_not}
 pub use Rattle.dump_text.proofs.PropertyLemmas.{entry_parts, left_of, property_block_once}
 pub use Rattle.dump_text.proofs.ValueLemmas.{some_copied}

@@ -1,5 +1,5 @@
 -- What the mergeinfo of some properties says, property by property.
-use Rattle.dump_digest.proofs.Prelude.{◌≡◌, ◌↔◌, ◌<◌, ◌^◌, ℕ, Bool, true, false, ◌&&◌, ◌||◌, List, [], ◌∷◌, refl, sym, ap, subst, ◌∙◌, Option, Some, None, IsSome, IsNone, IfSome, is_some, unwrap_or, if◌then◌else◌, MatchOption, IsTrue, IsFalse, or_right, false≢true, list_any, ForSome, Props, PropsReading, Property, IsPropertyBlock, Entry, props_bytes, entry_property, IsReadingOf, absurd_bool, both_true, second_true, DumpRecord, Bounds, Merged, Settings, HasMergeLines, is_outside, no_bounds, nothing_merged, value_misses, value_foreign, value_reads, or-false, or-true, or_assoc, true_from_ne_false, none_outside, Content, Verdict, IsVerdict, Mergeinfo, is_revision_record, is_kept_node, is_mergeinfo, value_of, HasPropertyList, HasPropertyBlock, properties_read, HasBadMergeinfo, misses, is_foreign, IsSaidBy, IsContent, ArePropertiesOf, is_asked}
+use Rattle.dump_digest.proofs.Prelude.{◌≡◌, ◌↔◌, ◌<◌, ◌^◌, ℕ, Bool, true, false, ◌&&◌, ◌||◌, List, [], ◌∷◌, refl, sym, ap, subst, ◌∙◌, Option, Some, None, IsSome, IsNone, IfSome, is_some, unwrap_or, if◌then◌else◌, MatchOption, IsTrue, IsFalse, or_right, false≢true, list_any, ForSome, Props, PropsReading, Property, IsPropertyBlock, Entry, props_bytes, entry_property, IsReadingOf, absurd_bool, and_from, second_true, DumpRecord, Bounds, Merged, Settings, HasMergeLines, is_outside, no_bounds, nothing_merged, value_misses, value_foreign, value_reads, or-false, or-true, or_assoc, true_from_ne_false, none_outside, Content, Verdict, IsVerdict, Mergeinfo, is_revision_record, is_kept_node, is_mergeinfo, value_of, HasPropertyList, HasPropertyBlock, properties_read, HasBadMergeinfo, misses, is_foreign, IsSaidBy, IsContent, ArePropertiesOf, is_asked}
 use Rattle.dump_digest.proofs.MergeLemmas.{read_is, merge_means, merge_unread}
 use Rattle.dump_digest.proofs.PropertyBlocks.{block_stable}
 
@@ -192,7 +192,7 @@ properties_of s r c found is same bytes asked = record {
     λ some. block_stable r (λ none. absurd_bool c.verdict.props_ok
         (second_true (is_asked s r) c.verdict.props_ok (sym is.asked ∙ sym same ∙ some))
         (is.verdict_is.props.1 (asked, none))),
-    λ has. same ∙ is.asked ∙ both_true (is_asked s r) c.verdict.props_ok asked
+    λ has. same ∙ is.asked ∙ and_from (is_asked s r) c.verdict.props_ok asked
         (true_from_ne_false c.verdict.props_ok (λ bad. (is.verdict_is.props.0 bad).1 has)),
   );
 }

@@ -1,5 +1,5 @@
 -- Each record has a verdict.
-use Rattle.dump_digest.proofs.Prelude.{◌≡◌, ◌≢◌, ◌⊎◌, ◌↔◌, ℕ, Bool, true, false, ◌||◌, List, refl, sym, ap, ◌∙◌, inl, inr, Option, Some, None, IsTrue, IsFalse, Result, Ok, Err, bytes_eq, same_Some, ForSome, ∥∥₁_elim, cases_Bool, bytes_eq-Decides, md5_name, sha1_name, has_header, header_value, Property, absurd_bool, false_true, not_so, DumpRecord, Settings, is_revision_record, is_kept_node, has_whole_text, is_checked_text, value_of, HasPropertyList, HasPropertyBlock, HasBadProperties, DiffersFromDigest, HasBadMd5, HasBadSha1, HasBadMergeinfo, properties_read, IsVerdict, Verdict}
+use Rattle.dump_digest.proofs.Prelude.{◌≡◌, ◌≢◌, ◌⊎◌, ◌↔◌, ℕ, Bool, true, false, ◌||◌, List, refl, sym, ap, ◌∙◌, inl, inr, Option, Some, None, IsTrue, IsFalse, Result, Ok, Err, bytes_eq, same_Some, ForSome, ∥∥₁_elim, cases_Bool, bytes_eq-Decides, md5_name, sha1_name, has_header, header_value, Property, absurd_bool, false_true, false_from_ne_true, DumpRecord, Settings, is_revision_record, is_kept_node, has_whole_text, is_checked_text, value_of, HasPropertyList, HasPropertyBlock, HasBadProperties, DiffersFromDigest, HasBadMd5, HasBadSha1, HasBadMergeinfo, properties_read, IsVerdict, Verdict}
 use Rattle.dump_digest.proofs.MergeLemmas.{bad_of, merge_means}
 use Rattle.dump_digest.proofs.PropertyBlocks.{block_or_not}
 use Rattle.md5.specs.Md5.{md5}
@@ -116,7 +116,7 @@ verdict_exists settings r =
         sha1 = sha1_is;
         merge = (
           (λ e. ∣ merge.0 e ∣₁),
-          λ h. not_so merge_ok
+          λ h. false_from_ne_true merge_ok
               (λ fine. ∥∥₁_elim h (λ x y. absurd x) (λ bad. false_true (sym (merge.1 bad) ∙ fine))),
         );
         checked = refl;

@@ -1,11 +1,11 @@
 -- What a verdict's parts mean together.
-use Rattle.dump_digest.proofs.Prelude.{◌≡◌, ◌↔◌, Bool, true, false, ◌||◌, refl, sym, ap, ◌∙◌, not_so, or-false, Option, is_some, IsTrue, IsFalse, IsSome, absurd_bool, or_right, md5_name, sha1_name, DumpRecord, Settings, Verdict, is_revision_record, is_kept_node, HasPropertyBlock, HasBadMergeinfo, HasOtherDigest, is_told_text, IsVerdict}
+use Rattle.dump_digest.proofs.Prelude.{◌≡◌, ◌↔◌, Bool, true, false, ◌||◌, refl, sym, ap, ◌∙◌, false_from_ne_true, or-false, Option, is_some, IsTrue, IsFalse, IsSome, absurd_bool, or_right, md5_name, sha1_name, DumpRecord, Settings, Verdict, is_revision_record, is_kept_node, HasPropertyBlock, HasBadMergeinfo, HasOtherDigest, is_told_text, IsVerdict}
 use Rattle.dump_digest.proofs.MergeLemmas.{merge_other}
 use Rattle.md5.specs.Md5.{md5}
 use Rattle.sha1.specs.Sha1.{sha1}
 
 unread : (r : DumpRecord) (ok : Bool) → (IsTrue ok ↔ HasPropertyBlock r) → IsFalse ok ↔ (¬ HasPropertyBlock r)
-unread r ok means = (λ none has. absurd_bool _ (means.1 has) none, λ none. not_so ok (λ e. none (means.0 e)))
+unread r ok means = (λ none has. absurd_bool _ (means.1 has) none, λ none. false_from_ne_true ok (λ e. none (means.0 e)))
 
 -- properties that aren't needed
 pub not_asked : (r : DumpRecord) → IsFalse (is_revision_record r) → IsFalse true

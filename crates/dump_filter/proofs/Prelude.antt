@@ -3,7 +3,7 @@ pub use Rattle.std.proofs.Common.{All, Bool, Contains, Err, IsFalse, IsTrue, Lis
 pub use Rattle.std.proofs.Math.Bool.{and-false, and-true, or-false}
 pub use Rattle.std.proofs.Math.Logic.{∥∥₁_elim}
 pub use Rattle.std.proofs.Math.Path.{transport}
-pub use Rattle.std.proofs.lemmas.Bool.{eqb-true, lt-ltb, not-false, or_left, or_right}
+pub use Rattle.std.proofs.lemmas.Bool.{and_from, eqb-true, false_from_ne_true, lt-ltb, not-false, not-true, not_from_false, or_left, or_right}
 pub use Rattle.std.proofs.lemmas.Bool.Decides.{leb_tells, nat_tests}
 pub use Rattle.std.proofs.lemmas.Grind.{flat_map-append}
 pub use Rattle.std.proofs.lemmas.List.{length-map, map-append, map-id, nil_from_length}
@@ -73,7 +73,7 @@ pub use Rattle.dump_rules.specs.Settings.{Settings, keeps_path}
 pub use Rattle.dump_rules.specs.steps.RewrittenLines.{value_foreign, value_misses}
 pub use Rattle.dump_rules.specs.steps.RisingNumbers.{RiseFrom}
 pub use Rattle.dump_text.proofs.BlockLemmas.{count_cons, has_value}
-pub use Rattle.dump_text.proofs.BoolLemmas.{absurd_bool, both_true, equals_itself, false_true, first_false, first_true, not_false, not_so, not_true, second_false, second_true}
+pub use Rattle.dump_text.proofs.BoolLemmas.{absurd_bool, equals_itself, false_true, first_false, first_true, second_false, second_true}
 pub use Rattle.dump_text.proofs.PartLemmas.{number_of-spelled, spelled_spells}
 pub use Rattle.dump_text.proofs.PropertyChoice.{untruncated}
 pub use Rattle.dump_text.proofs.PropertyLemmas.{entry_parts, left_of, property-eq, property_block_once}

@@ -2,7 +2,7 @@
 pub use Rattle.std.specs.Prelude.{drop, slice_get, take}
 pub use Rattle.std.proofs.Common.{Bool, Contains, IsSome, IsTrue, MatchBool, None, Option, ap, append-nil, append_assoc, ap₂, arith, bytes_eq, cond, count_by, if◌then◌else◌, inl, inr, is_some, length, lit<, lit≤, map, not, option_and_then, option_map, refl, subst, suc, sym, take_while, true, unwrap_or, zero, ◌&&◌, ◌++◌, ◌+◌, ◌-◌, ◌<◌, ◌==◌, ◌^◌, ◌||◌, ◌↔◌, ◌∙◌, ◌≡◌, ◌≤◌, ◌⊎◌}
 pub use Rattle.std.proofs.Math.Bool.{or-true}
-pub use Rattle.std.proofs.lemmas.Bool.{MatchBool-at_false, and_cases, and_from, and_parts, both_ways, eqb-true, lt-ltb, not-false, not-true, not_from_false, or_cases, or_from, or_left, or_parts, or_right, true_from_ne_false}
+pub use Rattle.std.proofs.lemmas.Bool.{MatchBool-at_false, and_cases, and_from, and_parts, both_ways, eqb-true, false_from_ne_true, lt-ltb, not-false, not-true, not_from_false, or_cases, or_from, or_left, or_parts, or_right, true_from_ne_false}
 pub use Rattle.std.proofs.lemmas.List.{length-map, nil_from_length}
 pub use Rattle.std.proofs.lemmas.List.Elements.{Contains-append_right, Contains-push, Contains-push_cases}
 pub use Rattle.std.proofs.lemmas.List.Folds.{list_all-append, list_any-append}
@@ -55,7 +55,7 @@ pub use Rattle.dump_rules.specs.Rewriting.{HasForeignNumber, HasMissingSource, I
 pub use Rattle.dump_rules.specs.Settings.{Settings, keeps_path}
 pub use Rattle.dump_rules.specs.steps.ReadMergeinfo.{value_reads}
 pub use Rattle.dump_text.proofs.BlockLemmas.{has_value}
-pub use Rattle.dump_text.proofs.BoolLemmas.{absurd_bool, both_true, equals_itself, first_false, first_true, not_false, not_so, not_true, second_false, second_true}
+pub use Rattle.dump_text.proofs.BoolLemmas.{absurd_bool, equals_itself, first_false, first_true, second_false, second_true}
 pub use Rattle.dump_text.proofs.PartLemmas.{number_of-spelled}
 pub use Rattle.dump_text.specs.FaultTable.{NoFault}
 pub use Rattle.dump_text.specs.HeaderBlock.{is_block}

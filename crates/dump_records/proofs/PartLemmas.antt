@@ -1,5 +1,5 @@
 -- Why there is no record at a place, and what is there instead.
-use Rattle.dump_records.proofs.Prelude.{◌≡◌, ◌≢◌, ℕ, ◌+◌, ◌-◌, ◌<◌, ◌≤◌, get_or, Bool, true, false, List, ◌++◌, take, drop, length, slice_range, refl, sym, ap, ◌∙◌, subst, arith, append_assoc, unwrap_or, Result, Ok, Err, absurd_bool, not_so, take-append-drop, length-drop, length-take-le, drop-drop, drop_more, drop_all, ne_eqb, IsErrAnd, IfErr, line_feeds, FaultKind, fault_code, block_text, starts_with_lf, has_empty_line, BeginsWithBlock, HasBlock, block_fault, headers_between, IsBlockBetween, block_once, property_length, text_length, has_bad_kind, has_bad_version, has_bad_number, has_bad_lengths, BeginsWithRecord, is_lawful, HasBlockWith, HoldsOfText, IsCutFault, record_between, version_in, header_fault, IsUnlawful, LengthsOf, Lengths, RecordHeader, IsHeaderOf, Block, block_dump, block_place, block_after, block_headers, IsGap, StandsAt}
+use Rattle.dump_records.proofs.Prelude.{◌≡◌, ◌≢◌, ℕ, ◌+◌, ◌-◌, ◌<◌, ◌≤◌, get_or, Bool, true, false, List, ◌++◌, take, drop, length, slice_range, refl, sym, ap, ◌∙◌, subst, arith, append_assoc, unwrap_or, Result, Ok, Err, absurd_bool, false_from_ne_true, take-append-drop, length-drop, length-take-le, drop-drop, drop_more, drop_all, ne_eqb, IsErrAnd, IfErr, line_feeds, FaultKind, fault_code, block_text, starts_with_lf, has_empty_line, BeginsWithBlock, HasBlock, block_fault, headers_between, IsBlockBetween, block_once, property_length, text_length, has_bad_kind, has_bad_version, has_bad_number, has_bad_lengths, BeginsWithRecord, is_lawful, HasBlockWith, HoldsOfText, IsCutFault, record_between, version_in, header_fault, IsUnlawful, LengthsOf, Lengths, RecordHeader, IsHeaderOf, Block, block_dump, block_place, block_after, block_headers, IsGap, StandsAt}
 use Rattle.dump_text.specs.declared.fault.FaultKind.TheVariants as faults
 use Rattle.dump_text.specs.HeaderLine as line
 use Rattle.dump_records.proofs.Unique.{keeps}
@@ -94,8 +94,8 @@ module _ (number : ℕ) (text : List ℕ) (headers : List line.Header) (after : 
       let kept = keeps number headers lawful in
       record {
         holds = (headers, after, b, short);
-        least = none_below 7 (omega arith) (λ low. not_so _ kept.kind) (λ low. not_so _ kept.version)
-            (λ low. not_so _ kept.number_ok) (λ low. not_so _ kept.lengths);
+        least = none_below 7 (omega arith) (λ low. false_from_ne_true _ kept.kind) (λ low. false_from_ne_true _ kept.version)
+            (λ low. false_from_ne_true _ kept.number_ok) (λ low. false_from_ne_true _ kept.lengths);
       }
 
 -- the record between the places that its lengths give

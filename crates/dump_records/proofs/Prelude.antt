@@ -2,7 +2,7 @@
 pub use Rattle.std.proofs.Common.{Bool, Bor, Err, List, None, Ok, Option, Result, Some, [], ap, append_assoc, ap₂, arith, codes, count_by, drop, false, get_or, if◌then◌else◌, inl, inr, is_none, is_some, length, length-append, lit<, nat_lt, not, option_and_then, refl, slice_range, subst, suc, sym, take, true, unwrap_or, zero, ℕ, ◌&&◌, ◌++◌, ◌+◌, ◌-◌, ◌<◌, ◌==◌, ◌^◌, ◌||◌, ◌∙◌, ◌∷◌, ◌≡◌, ◌≢◌, ◌≤◌, ◌⊎◌}
 pub use Rattle.std.proofs.Math.Logic.{∥∥₁_elim, ∥∥₁_map}
 pub use Rattle.std.proofs.Math.Bool.{and-false}
-pub use Rattle.std.proofs.lemmas.Bool.{and_parts, eqb-false, eqb-true, ne_eqb, true_from_ne_false}
+pub use Rattle.std.proofs.lemmas.Bool.{and_parts, eqb-false, eqb-true, false_from_ne_true, ne_eqb, true_from_ne_false}
 pub use Rattle.std.proofs.lemmas.Bool.Decides.{Decides-eqb, eqb_tells, nat_tests}
 pub use Rattle.std.proofs.lemmas.List.{append-nil, drop-drop, drop-take, drop_all, drop_at, drop_more, length-drop, length-replicate, length-take, length-take-le, nil_from_length, replicate-append-replicate, take-append-drop, take-take, take_all, take_rest}
 pub use Rattle.std.proofs.lemmas.Option.{none-some}
@@ -25,7 +25,7 @@ pub use Rattle.dump_records.specs.steps.RecordPlaces.{place_after, record_betwee
 pub use Rattle.dump_records.specs.steps.RecordViews.{IsInBlock, part_of_node, record_dump, record_item}
 pub use Rattle.dump_records.specs.steps.Standing.{FollowsRecords, IsGap, StandsAt}
 pub use Rattle.dump_text.proofs.BlockLemmas.{block_size, has_value, no_block-lines}
-pub use Rattle.dump_text.proofs.BoolLemmas.{absurd_bool, false_true, first_false, neither_below, not_so, second_false}
+pub use Rattle.dump_text.proofs.BoolLemmas.{absurd_bool, false_true, first_false, neither_below, second_false}
 pub use Rattle.dump_text.proofs.PropertyChoice.{first_of}
 pub use Rattle.dump_text.proofs.ScanLemmas.{clash, header_text-is, is_line, lines_behind, no_line_here}
 pub use Rattle.dump_text.proofs.Splits.{Split, split}

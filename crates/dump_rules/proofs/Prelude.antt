@@ -42,7 +42,7 @@ pub use Rattle.dump_rules.specs.steps.ReadRanges.{both, contradicts, ends_at, en
 pub use Rattle.dump_rules.specs.steps.RewrittenLines.{line_foreign, line_list, line_misses, line_path, list_foreign, part_foreign, range_foreign, text_foreign, text_lines, text_misses, value_foreign, value_misses, with_break, with_new_line, with_new_lines, with_runs}
 pub use Rattle.dump_rules.specs.steps.RisingNumbers.{RiseFrom}
 pub use Rattle.dump_rules.specs.steps.Runs.{HaveNumbers, joined, joined_from, list_ranges, ordered, ordered_into, ranges_of, reaching, runs_of, touches, with_range}
-pub use Rattle.dump_text.proofs.BoolLemmas.{first_false, neither_below, not_false, not_true, second_false}
+pub use Rattle.dump_text.proofs.BoolLemmas.{first_false, neither_below, second_false}
 pub use Rattle.dump_text.proofs.PartLemmas.{number_of-spelled, number_spells}
 pub use Rattle.dump_text.proofs.ScanLemmas.{at_place, back_lacks, front_lacks, has_at, no_place, none_all, nowhere, position_at}
 pub use Rattle.dump_text.proofs.Unique.{has_byte-append}

@@ -21,33 +21,13 @@ pub second_false : (a b : Bool) → (a || b) ≡ false → b ≡ false
 second_false true b h = cc
 second_false false b h = h
 
--- what is denied is false
-pub not_true : (a : Bool) → not a ≡ true → a ≡ false
-not_true true h = cc
-not_true false h = refl
-
 -- nothing is both true and false
 pub absurd_bool : (b : Bool) → b ≡ true → b ≡ false → ⊥
 absurd_bool b t f = cc
 
--- where the first and the second hold, both hold
-pub both_true : (a b : Bool) → a ≡ true → b ≡ true → (a && b) ≡ true
-both_true true true t u = refl
-both_true a b t u = cc
-
--- of what is false the denial is true
-pub not_false : (a : Bool) → a ≡ false → not a ≡ true
-not_false true h = cc
-not_false false h = refl
-
 -- false isn't true
 pub false_true : false ≡ true → ⊥
 false_true bad = cc
-
--- what isn't true is false
-pub not_so : (b : Bool) → (b ≡ true → ⊥) → b ≡ false
-not_so true bad = absurd (bad refl)
-not_so false bad = refl
 
 -- a number is equal to itself
 pub equals_itself : (n : ℕ) → (n == n) ≡ true

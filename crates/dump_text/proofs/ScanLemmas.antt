@@ -1,8 +1,9 @@
 -- A text is cut at a byte in one way, and so into header lines.
+use Rattle.std.proofs.lemmas.Bool.{false_from_ne_true}
 use Rattle.dump_text.proofs.Prelude.{◌≡◌, ℕ, suc, ◌+◌, ◌-◌, ◌<◌, ◌≤◌, nat_lt, true, false, ◌||◌, ◌==◌, List, [], ◌∷◌, ◌++◌, take, drop, map, filter, length, get_or, slice_index, refl, sym, ap, ◌∙◌, arith, length-append, codes, Option, Some, None, position, list_all, position_or_len, All, take-append-drop, drop_more, get_or-take, get_or-drop, length-drop, length-take-le, take_at, drop_at, append-nil, flat_map_more, nil_from_length, All-cons, position-Some, position_or_len_is, fails_before_first, slice_split_at, eqb-true, or_from, or_right, nat_tests, list_all-append, has_byte, header_text, is_header, lines_bytes, starts_with_lf, has_empty_line, header_of, headers_of, AreHeaderLines, IsFirstAt, IsFirstLine, IsCutAtColon, IsNoHeader, IsLinesEnd}
 use Rattle.std.proofs.Common.{append_assoc}
 use Rattle.memchr.specs.Find.{IsFirstByte, is_byte}
-use Rattle.dump_text.proofs.BoolLemmas.{equals_itself as same, absurd_bool, not_so, first_true, first_false, second_false}
+use Rattle.dump_text.proofs.BoolLemmas.{equals_itself as same, absurd_bool, first_true, first_false, second_false}
 use Rattle.dump_text.specs.HeaderLine as line
 use Rattle.dump_text.proofs.Unique.{split_once, Lawful, lawful, text_no_lf, regroup, all_first, all_rest, not_empty, ended}
 
@@ -10,7 +11,7 @@ use Rattle.dump_text.proofs.Unique.{split_once, Lawful, lawful, text_no_lf, regr
 pub lacks : (b : ℕ) (text : List ℕ) → ((k : ℕ) → k < length text → (slice_index text k == b) ≡ true → ⊥)
     → has_byte b text ≡ false
 lacks b [] none = refl
-lacks b (c ∷ text) none = or_from _ _ (not_so (c == b) (none 0 (omega arith)))
+lacks b (c ∷ text) none = or_from _ _ (false_from_ne_true (c == b) (none 0 (omega arith)))
     (lacks b text (λ k small is. none (suc k) (omega arith) is))
 
 -- a byte that follows a front is in the text
@@ -27,14 +28,14 @@ pub found_place : (b : ℕ) (text : List ℕ) (r : Option ℕ) → IsFirstByte (
     → r ≡ position (λ c. c == b) text
 found_place b text None nowhere =
     let place = position_or_len_is (λ c. c == b) text (length text) 0 (omega arith)
-    (λ k small. not_so (get_or text k 0 == b) (λ is. nowhere k (omega arith) small is))
+    (λ k small. false_from_ne_true (get_or text k 0 == b) (λ is. nowhere k (omega arith) small is))
     (λ over. absurd (omega arith)) in
     let end : nat_lt (length text) (length text) ≡ false = grind arith in
     rw place (rw end refl)
 found_place b text (Some k) (none, here) =
     let below = none.high in
     let place = position_or_len_is (λ c. c == b) text k 0 (omega arith)
-    (λ j small. not_so (get_or text j 0 == b) (λ is. none.before j (omega arith) small is)) (λ under. here) in
+    (λ j small. false_from_ne_true (get_or text j 0 == b) (λ is. none.before j (omega arith) small is)) (λ under. here) in
     let inside : nat_lt k (length text) ≡ true = grind (arith, below) in
     rw place (rw inside refl)
 

@@ -1,6 +1,6 @@
 -- The digits of a number, compared with those that are written for it: only leading zeros differ.
+use Rattle.std.proofs.lemmas.Bool.{false_from_ne_true}
 use Rattle.dump_text.proofs.Prelude.{rules, ◌≡◌, ℕ, ◌<◌, ◌≤◌, ◌^◌, nat_lt, nat_le, Bool, true, false, not, ◌==◌, List, get_or, length, bytes_eq, decimal, Option, Some, None, if◌then◌else◌, sym, ap, ◌∙◌, refl, arith, zero, suc, list_all, is_ascii_digit, digits_value, decimal_digit, decimal-digits_value, first_decimal, IsNumeralModel, IsDigitsTest, numerals_by_value, digits_value_short, and_parts, bytes_eq-Decides, is_number, number_of, spelled_number}
-use Rattle.dump_text.proofs.BoolLemmas.{not_so}
 
 digits_test : IsDigitsTest (λ ds. list_all is_ascii_digit ds ≡ true)
 digits_test = search rules
@@ -49,7 +49,7 @@ no_zero_leads digits n e short =
 -- digits with one aren't
 zero_leads : (digits : List ℕ) (n : ℕ) → number_of digits ≡ Some n → 2 ≤ length digits → get_or digits 0 0 ≡ 48
     → bytes_eq digits (spelled_number n) ≡ false
-zero_leads digits n e more leads = not_so _ (λ t. differ n (is_read digits n e).small ((bytes_eq-Decides _ _).0 t))
+zero_leads digits n e more leads = false_from_ne_true _ (λ t. differ n (is_read digits n e).small ((bytes_eq-Decides _ _).0 t))
   where
     differ : (n : ℕ) → n < 2 ^ 64 → digits ≡ decimal n → ⊥
     differ zero small same =

@@ -1,9 +1,10 @@
 -- The values of the known names among header lines, line by line.
+use Rattle.std.proofs.lemmas.Bool.{false_from_ne_true}
 use Rattle.dump_text.proofs.Prelude.{◌≡◌, ◌≢◌, ℕ, zero, suc, replicate, ◌<◌, ◌==◌, not, ◌&&◌, Bool, true, false, List, [], ◌∷◌, ◌++◌, length, refl, sym, ap, ◌∙◌, inl, inr, arith, subst, bytes_eq, Option, Some, None, is_some, Bor, slice_index_or, slice_set, slice_range, none-some, same_Some, option_copied, IfSome, cases_Bool, eqb-true, eqb-false, get_or-set_other, get_or-set_same, bytes_eq-Decides, HeaderName, name_text, name_place, known_name, noted_span, AreValues, may_follow, is_named, has_header, header_value, lines_bytes, headers_between, IsBlockBetween, IsPartBetween, is_known, is_there, no_span, value_at, IsSpanOf, ValuePlace, ValueSpan}
 use denote.Enum.Declared.{tag_of}
 use Rattle.dump_text.specs.contracts.names.HeaderName as enum
 use Rattle.dump_text.specs.HeaderLine as line
-use Rattle.dump_text.proofs.BoolLemmas.{first_false, second_false, not_so}
+use Rattle.dump_text.proofs.BoolLemmas.{first_false, second_false}
 use Rattle.dump_text.proofs.Unique.{regroup}
 use Rattle.dump_text.proofs.BlockLemmas.{has_value, block_bytes, block_size, value_between, rest_between}
 use Rattle.dump_text.proofs.NameLemmas.{known_itself, known_text, known_is, text_once, place_once, tag_place}
@@ -62,7 +63,7 @@ module _ (dump : List ℕ) (headers : List line.Header) (spans : List ValueSpan)
       → AreValues dump (headers ++ line_of name value ∷ []) spans
   unknown_noted none value n =
       subst (IsSpanOf dump (noted_span spans n))
-      (sym (value_other (name_text n) headers (line_of name value) (not_so _ other))) (are n)
+      (sym (value_other (name_text n) headers (line_of name value) (false_from_ne_true _ other))) (are n)
     where
       other : bytes_eq name (name_text n) ≡ true → ⊥
       other same = none-some n (sym none ∙ ap known_name ((bytes_eq-Decides name (name_text n)).0 same) ∙ known_itself n)
@@ -109,7 +110,7 @@ module _ (dump : List ℕ) (headers : List line.Header) (spans : List ValueSpan)
           let apart : name_place m ≢ name_place n = eqb-false (name_place m) (name_place n) at in
           let other : header_value (name_text m) (headers ++ line_of name value ∷ []) ≡ header_value (name_text m) headers =
           value_other (name_text m) headers (line_of name value)
-          (not_so _ (λ same. apart (ap name_place
+          (false_from_ne_true _ (λ same. apart (ap name_place
           (text_once m n (sym ((bytes_eq-Decides name (name_text m)).0 same) ∙ same_name))))) in
           subst (λ s. IsSpanOf dump s (header_value (name_text m) (headers ++ line_of name value ∷ [])))
           (sym (get_or-set_other spans (name_place n) (name_place m) span no_span apart))

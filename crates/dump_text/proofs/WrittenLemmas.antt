@@ -1,7 +1,8 @@
 -- A property block as it is written: which texts are one, and that it is read again as its list.
+use Rattle.std.proofs.lemmas.Bool.{and_from, false_from_ne_true}
 use Rattle.dump_text.proofs.Prelude.{◌≡◌, ◌↔◌, ◌⊎◌, ℕ, ◌<◌, ◌^◌, ◌&&◌, Bool, true, false, List, [], ◌∷◌, ◌++◌, get_or, length, lit<, flat_map, refl, sym, ap, ◌∙◌, subst, arith, Option, Some, None, inl, inr, codes, bytes_eq, same_Some, none-some, All, All-nil, All-cons, All-head, All-tail, same_from_decides, bytes_eq-Decides, spelled_number, Property, sized_text, IsEntry, AreEntries, IsPropertyBlock, block_end, change_text, entry_text, property_block_text, HasPropertyChanges, Parts, Set, Deleted, IsSized, IsEntryOf, IsWritten, parts_property, parts_rest, is_shortest, are_shortest}
 use Rattle.std.proofs.Common.{append_assoc}
-use Rattle.dump_text.proofs.BoolLemmas.{not_so, first_true, second_true, both_true}
+use Rattle.dump_text.proofs.BoolLemmas.{first_true, second_true}
 use Rattle.dump_text.proofs.PartLemmas.{number_spells, spelled_spells, number_of-spelled, sized_once, part_inside}
 use Rattle.dump_text.proofs.PropertyLemmas.{EntryParts, entry_parts, scanned_parts, entry_shorter, property-eq, apart, begins_with, no_entry-end}
 
@@ -98,7 +99,7 @@ scanned_shortest text (Set name value) rest found is = (
     (bytes_eq-Decides _ _).0 (second_true (is_shortest name) (is_shortest value) both),
   ),
   λ (first, second).
-      both_true (is_shortest name) (is_shortest value) ((bytes_eq-Decides _ _).1 first)
+      and_from (is_shortest name) (is_shortest value) ((bytes_eq-Decides _ _).1 first)
       ((bytes_eq-Decides _ _).1 second),
 )
 scanned_shortest text (Deleted name) rest found is = ((bytes_eq-Decides _ _).0, (bytes_eq-Decides _ _).1)
@@ -112,7 +113,7 @@ pub written_step : (whole text : List ℕ) (p : Property) (rest : List ℕ) (e :
     → IsWritten whole ↔ (((spelled && shortest) ≡ true) × IsWritten rest)
 written_step whole text p rest e spelled shortest small short before = (
   λ written. let (so, left) = before.0 written in
-      let (is, more) = written_left text p rest e small left in (both_true spelled shortest so (short.1 is), more),
+      let (is, more) = written_left text p rest e small left in (and_from spelled shortest so (short.1 is), more),
   λ (so, left). before.1 (
     first_true spelled shortest so,
     written_more text p rest e (short.0 (second_true spelled shortest so)) left,
@@ -242,7 +243,7 @@ spelled_is text spelled small to from ps is = same_from_decides {P = text ≡ pr
 
 -- no bytes are no property block as it is written
 pub none_spelled : (text : List ℕ) → text ≡ [] → (ps : List Property) → false ≡ bytes_eq text (property_block_text ps)
-none_spelled text none ps = sym (not_so _ (λ same.
+none_spelled text none ps = sym (false_from_ne_true _ (λ same.
     no_text ps (sym none ∙ (bytes_eq-Decides text (property_block_text ps)).0 same)))
 
 -- and the other way: what is known by the list holds of the bytes

@@ -1,5 +1,5 @@
 -- What is written for records without a fault has no fault if everything is kept.
-use Rattle.dump_filter.proofs.Prelude.{◌≡◌, ℕ, zero, suc, ◌<◌, Bool, true, false, not, ◌&&◌, ◌||◌, List, [], ◌∷◌, ◌++◌, take_while, refl, sym, ap, ◌∙◌, subst, arith, Option, Some, None, MatchOption, Contains, if◌then◌else◌, or_right, or_left, ⊤, list_any, prefix_len, FaultKind, tail-eq, DumpRecord, Settings, KeptRevisions, new_number, is_revision_record, is_node, is_kept_node, keep_all, group_of, keeps_group, revision_number, kept_revisions, written_number, is_whole_file, is_copy, HoldsOfRecord, AreFaultFree, kept_numbers, is_written, absurd_bool, both_true, first_true}
+use Rattle.dump_filter.proofs.Prelude.{◌≡◌, ℕ, zero, suc, ◌<◌, Bool, true, false, not, ◌&&◌, ◌||◌, List, [], ◌∷◌, ◌++◌, take_while, refl, sym, ap, ◌∙◌, subst, arith, Option, Some, None, MatchOption, Contains, if◌then◌else◌, or_right, or_left, ⊤, list_any, prefix_len, FaultKind, tail-eq, DumpRecord, Settings, KeptRevisions, new_number, is_revision_record, is_node, is_kept_node, keep_all, group_of, keeps_group, revision_number, kept_revisions, written_number, is_whole_file, is_copy, HoldsOfRecord, AreFaultFree, kept_numbers, is_written, absurd_bool, and_from, first_true}
 use Rattle.dump_filter.proofs.knowing.FilterLemmas.{none_within}
 use Rattle.dump_text.specs.declared.fault.FaultKind.TheVariants as faults
 use Rattle.dump_filter.proofs.again.Numbers.{kept_revision, dropped_revision, no_revision, new_number_rises}
@@ -42,7 +42,7 @@ dropped_group : (settings : Settings) (r : DumpRecord) (rest : List DumpRecord) 
     → is_written settings true r rest ≡ false → ¬ AnyKept settings rest
 dropped_group settings r rest rev dropped any =
     absurd_bool (is_written settings true r rest)
-    (rw rev (both_true (keeps_group settings (group_of r rest)) true
+    (rw rev (and_from (keeps_group settings (group_of r rest)) true
     (passed_keeps settings r (take_while is_node rest) any) refl)) dropped
 
 -- the kept numbers of the other records

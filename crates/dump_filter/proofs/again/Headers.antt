@@ -1,5 +1,5 @@
 -- The header lines that are written for a record, when they are read again.
-use Rattle.dump_filter.proofs.Prelude.{◌≡◌, ℕ, ◌+◌, ◌<◌, ◌^◌, ◌==◌, nat_le, Bool, true, false, not, ◌&&◌, ◌||◌, List, [], ◌∷◌, length, refl, sym, ap, ◌∙◌, arith, bytes_eq, is_none, list_all, list_any, eqb-true, bytes_eq-Decides, spelled_number, version_name, uuid_name, revision_name, path_name, copy_revision_name, copy_path_name, property_length_name, text_length_name, content_length_name, known_names, Header, has_header, count_named, with_header_value, is_block, spelled_spells, header_number, header_length, property_length, text_length, is_one_alone, has_bad_kind, has_bad_version, has_bad_number, has_bad_lengths, is_lawful, deciding, keeps, with_length, with_lengths, equals_itself, first_true, second_true, first_false, second_false, not_so, absurd_bool}
+use Rattle.dump_filter.proofs.Prelude.{◌≡◌, ℕ, ◌+◌, ◌<◌, ◌^◌, ◌==◌, nat_le, Bool, true, false, not, ◌&&◌, ◌||◌, List, [], ◌∷◌, length, refl, sym, ap, ◌∙◌, arith, bytes_eq, is_none, list_all, list_any, eqb-true, bytes_eq-Decides, spelled_number, version_name, uuid_name, revision_name, path_name, copy_revision_name, copy_path_name, property_length_name, text_length_name, content_length_name, known_names, Header, has_header, count_named, with_header_value, is_block, spelled_spells, header_number, header_length, property_length, text_length, is_one_alone, has_bad_kind, has_bad_version, has_bad_number, has_bad_lengths, is_lawful, deciding, keeps, with_length, with_lengths, equals_itself, first_true, second_true, first_false, second_false, false_from_ne_true, absurd_bool}
 use Rattle.dump_filter.proofs.again.LineChanges.{IsChange, same_has, both_changes, put_has, put_change, length_change, block_names, IsTold, told_later, told_put, told_length, told_reads, told_put_again, told_length_again}
 
 -- a known name occurs at most once in a block
@@ -152,7 +152,7 @@ pub record StaysLawful (old new : List Header) : Type 0 where
 module _ (number : ℕ) (old new : List Header) (lawful : is_lawful number old ≡ true)
     (either : (has_header revision_name old || has_header path_name old) ≡ true) (stays : StaysLawful old new) where
   good_kind : has_bad_kind old ≡ false
-  good_kind = not_so (has_bad_kind old) (keeps number old lawful).kind
+  good_kind = false_from_ne_true (has_bad_kind old) (keeps number old lawful).kind
 
   none_else : (has_header version_name old ≡ false) × (has_header uuid_name old ≡ false)
   none_else = no_others old good_kind either
@@ -202,7 +202,7 @@ module _ (number : ℕ) (old new : List Header) (lawful : is_lawful number old �
           none_else.1,
         )
         (sum (has_header content_length_name new) (length props + length text)
-        (second_false _ _ (not_so (has_bad_lengths old) (keeps number old lawful).lengths)))
+        (second_false _ _ (false_from_ne_true (has_bad_lengths old) (keeps number old lawful).lengths)))
       where
         sum : {b : Bool} (c : Bool) (n : ℕ) → b ≡ false → ((c && not (n == n)) || false || b) ≡ false
         sum true n is = rw (is, equals_itself n) refl

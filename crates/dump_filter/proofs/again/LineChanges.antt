@@ -1,5 +1,5 @@
 -- Header lines that are changed, added or removed, seen name by name.
-use Rattle.dump_filter.proofs.Prelude.{◌≡◌, ℕ, ◌+◌, ◌<◌, ◌≤◌, ◌^◌, ◌==◌, nat_lt, nat_le, Bool, true, false, not, ◌&&◌, ◌||◌, filter, find, count_by, Option, None, option_map, List, [], ◌∷◌, ◌++◌, length, refl, sym, ap, ◌∙◌, subst, arith, bytes_eq, Some, is_some, is_none, option_and_then, unwrap_or, if◌then◌else◌, MatchBool, or-false, list_all, option_or, eqb-true, nat_tests, All-filter, sum_by-filter_both, fold-map, find-append, list_all-map, list_any-append, sum_by_push, AllPass-from_list_all, list_all-from_AllPass, any-filter_same, bytes_eq-Decides, number_of, spelled_number, known_names, Header, is_header, has_byte, is_named, has_header, count_named, header_value, with_header_value, is_block, count_cons, has_value, all_more, lawful, lawful_lines, number_of-spelled, spelled_spells, header_number, header_length, with_length, without_copy_headers, is_copy_line, no_number, second_true, first_false, second_false, both_true, absurd_bool, not_so}
+use Rattle.dump_filter.proofs.Prelude.{◌≡◌, ℕ, ◌+◌, ◌<◌, ◌≤◌, ◌^◌, ◌==◌, nat_lt, nat_le, Bool, true, false, not, ◌&&◌, ◌||◌, filter, find, count_by, Option, None, option_map, List, [], ◌∷◌, ◌++◌, length, refl, sym, ap, ◌∙◌, subst, arith, bytes_eq, Some, is_some, is_none, option_and_then, unwrap_or, if◌then◌else◌, MatchBool, or-false, list_all, option_or, eqb-true, nat_tests, All-filter, sum_by-filter_both, fold-map, find-append, list_all-map, list_any-append, sum_by_push, AllPass-from_list_all, list_all-from_AllPass, any-filter_same, bytes_eq-Decides, number_of, spelled_number, known_names, Header, is_header, has_byte, is_named, has_header, count_named, header_value, with_header_value, is_block, count_cons, has_value, all_more, lawful, lawful_lines, number_of-spelled, spelled_spells, header_number, header_length, with_length, without_copy_headers, is_copy_line, no_number, second_true, first_false, second_false, and_from, absurd_bool, false_from_ne_true}
 
 -- the lines changed only at names that are touched; no line or name was added that a block can't have
 pub record IsChange (touches : List ℕ → Bool) (old new : List Header) : Type 0 where
@@ -36,9 +36,9 @@ pub block_stays : (touches : List ℕ → Bool) (old new : List Header) → IsCh
     → has_header name new ≡ true
     → is_block old ≡ true → is_block new ≡ true
 block_stays touches old new change name has block =
-    both_true (nat_lt 0 (length new) && list_all is_header new)
+    and_from (nat_lt 0 (length new) && list_all is_header new)
     (list_all (λ n. nat_le (count_named n new) 1) known_names)
-    (both_true (nat_lt 0 (length new)) (list_all is_header new) (some_lines name new has)
+    (and_from (nat_lt 0 (length new)) (list_all is_header new) (some_lines name new has)
     (change.lines (lawful_lines old block)))
     (all_implied (λ n. nat_le (count_named n old) 1) (λ n. nat_le (count_named n new) 1) change.once known_names
     (block_names old block))
@@ -198,7 +198,7 @@ put_same name value (h ∷ headers) few is = by_name (put_same name value header
         let one : Some h.value ≡ Some value = sym (rw named refl) ∙ is in
         let value_is : h.value ≡ value = cc in
         let alone : has_header name headers ≡ false =
-        not_so (has_header name headers)
+        false_from_ne_true (has_header name headers)
         (λ has. let some = sym (has_count name headers) ∙ has in let f = few in grind (arith, nat_tests)) in
         rw named (λ i. record { name = sym same i; value = sym value_is i } ∷ put_absent name value headers alone i)
     by_name more false named =
@@ -290,7 +290,7 @@ go_value name other [] = refl
 go_value name other (h ∷ headers) = by_test (go_value name other headers) (is_copy_line h.name) refl
   where
     unlike : is_copy_line h.name ≡ true → is_named name h ≡ false
-    unlike is = not_so (is_named name h) (λ named. absurd_bool (is_other_line h) (copy_like name false other h named)
+    unlike is = false_from_ne_true (is_named name h) (λ named. absurd_bool (is_other_line h) (copy_like name false other h named)
         (ap not is))
 
     by_test : find (is_named name) (without_copy_headers headers) ≡ find (is_named name) headers → (b : Bool)

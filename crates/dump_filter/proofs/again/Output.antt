@@ -1,5 +1,5 @@
 -- What is written for a record is read again as a record, for which the same is written.
-use Rattle.dump_filter.proofs.Prelude.{◌≡◌, ℕ, ◌+◌, ◌<◌, ◌≤◌, ◌^◌, Bool, true, false, ◌&&◌, ◌||◌, List, [], ◌∷◌, ◌++◌, length, refl, sym, ap, ◌∙◌, subst, arith, inl, codes, bytes_eq, Option, Some, None, is_some, is_none, option_and_then, All, Contains, MatchBool, take_while, unwrap_or, if◌then◌else◌, append_assoc, nil_from_length, take_while-cons, All-nil, All-cons, All-contains, number_of, spelled_number, version_name, revision_name, copy_revision_name, copy_path_name, property_length_name, md5_name, sha1_name, text_delta_name, Header, has_header, header_value, with_header_value, is_block, block_text, line_feeds, Property, has_deletes, has_value, number_of-spelled, header_number, property_length, text_length, has_bad_kind, has_bad_lengths, DumpRecord, record_text, is_lawful, BeginsWithRecord, Keeps, keeps, Settings, HasMergeLines, KeptRevisions, image, RiseFrom, IsNewMergeinfo, image_fits, number_small, is_revision_record, is_node, is_kept_node, is_mergeinfo, mergeinfo_name, value_of, has_whole_text, has_lost_source, HasPropertyList, is_copy, HasBadMd5, HasBadSha1, HasBadMergeinfo, DiffersFromDigest, property_list_once, keep_all, group_of, is_padded, revision_number, IsNewProperty, AreNewProperties, is_date, padding_properties, revision_properties, new_block, written_number, is_whole_file, becomes_plain, without_copy_headers, IsWrittenCopyNumber, IsNewCopy, is_copy_line, whole_text, revision_text, IsRevisionOutput, IsNodeOutput, IsWrittenBlock, first_true, second_true, first_false, second_false, not_so, absurd_bool, false_true, no_number}
+use Rattle.dump_filter.proofs.Prelude.{◌≡◌, ℕ, ◌+◌, ◌<◌, ◌≤◌, ◌^◌, Bool, true, false, ◌&&◌, ◌||◌, List, [], ◌∷◌, ◌++◌, length, refl, sym, ap, ◌∙◌, subst, arith, inl, codes, bytes_eq, Option, Some, None, is_some, is_none, option_and_then, All, Contains, MatchBool, take_while, unwrap_or, if◌then◌else◌, append_assoc, nil_from_length, take_while-cons, All-nil, All-cons, All-contains, number_of, spelled_number, version_name, revision_name, copy_revision_name, copy_path_name, property_length_name, md5_name, sha1_name, text_delta_name, Header, has_header, header_value, with_header_value, is_block, block_text, line_feeds, Property, has_deletes, has_value, number_of-spelled, header_number, property_length, text_length, has_bad_kind, has_bad_lengths, DumpRecord, record_text, is_lawful, BeginsWithRecord, Keeps, keeps, Settings, HasMergeLines, KeptRevisions, image, RiseFrom, IsNewMergeinfo, image_fits, number_small, is_revision_record, is_node, is_kept_node, is_mergeinfo, mergeinfo_name, value_of, has_whole_text, has_lost_source, HasPropertyList, is_copy, HasBadMd5, HasBadSha1, HasBadMergeinfo, DiffersFromDigest, property_list_once, keep_all, group_of, is_padded, revision_number, IsNewProperty, AreNewProperties, is_date, padding_properties, revision_properties, new_block, written_number, is_whole_file, becomes_plain, without_copy_headers, IsWrittenCopyNumber, IsNewCopy, is_copy_line, whole_text, revision_text, IsRevisionOutput, IsNodeOutput, IsWrittenBlock, first_true, second_true, first_false, second_false, false_from_ne_true, absurd_bool, false_true, no_number}
 use Rattle.std.proofs.Common.{append-nil}
 use Rattle.dump_filter.proofs.written.CopyLemmas.{AreCopyLines}
 use Rattle.dump_filter.proofs.written.HeaderLemmas.{no_length}
@@ -103,8 +103,8 @@ other_again settings kept {number} {text} {behind} {r} after front b no_revision
     k = keeps number r.headers b.lawful
 
     empty : (property_length r.headers ≡ 0) × (text_length r.headers ≡ 0)
-    empty = no_content r.headers (not_so (has_bad_kind r.headers) k.kind)
-        (not_so (has_bad_lengths r.headers) k.lengths) no_revision no_node
+    empty = no_content r.headers (false_from_ne_true (has_bad_kind r.headers) k.kind)
+        (false_from_ne_true (has_bad_lengths r.headers) k.lengths) no_revision no_node
 
     no_kept : is_kept_node keep_all r ≡ true → ⊥
     no_kept is_kept = absurd_bool (is_node r) (first_true (is_node r) _ is_kept) no_node

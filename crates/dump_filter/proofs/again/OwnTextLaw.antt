@@ -1,5 +1,5 @@
 -- What is written for a dump without a fault is such a dump, and is unchanged if everything is kept.
-use Rattle.dump_filter.proofs.Prelude.{◌≡◌, ℕ, ◌+◌, ◌<◌, ◌≤◌, ◌^◌, Bool, true, false, ◌&&◌, ◌||◌, not, MatchBool, List, [], ◌∷◌, ◌++◌, length, refl, subst, arith, Option, Some, None, unwrap_or, if◌then◌else◌, revision_name, block_text, Ending, IsCutInto, HasRecords, header_number, DumpRecord, record_text, BeginsWithRecord, Settings, KeptRevisions, new_number, RiseFrom, own_value, new_number_fits, is_revision_record, is_node, is_kept_node, has_lost_source, LengthsFit, keep_all, KeepsItsOwnText, group_of, has_kept_node, keeps_group, revision_number, kept_revisions, is_whole_file, IsRevisionOutput, IsNodeOutput, IsCleanText, is_open, absurd_bool, not_so}
+use Rattle.dump_filter.proofs.Prelude.{◌≡◌, ℕ, ◌+◌, ◌<◌, ◌≤◌, ◌^◌, Bool, true, false, ◌&&◌, ◌||◌, not, MatchBool, List, [], ◌∷◌, ◌++◌, length, refl, subst, arith, Option, Some, None, unwrap_or, if◌then◌else◌, revision_name, block_text, Ending, IsCutInto, HasRecords, header_number, DumpRecord, record_text, BeginsWithRecord, Settings, KeptRevisions, new_number, RiseFrom, own_value, new_number_fits, is_revision_record, is_node, is_kept_node, has_lost_source, LengthsFit, keep_all, KeepsItsOwnText, group_of, has_kept_node, keeps_group, revision_number, kept_revisions, is_whole_file, IsRevisionOutput, IsNodeOutput, IsCleanText, is_open, absurd_bool, false_from_ne_true}
 use Rattle.dump_filter.proofs.knowing.Answered.{AllLawful, all_lawful}
 use Rattle.dump_filter.proofs.groups.KindLemmas.{alone}
 use Rattle.dump_filter.proofs.again.ReadAgain.{StandsAgain, AreReadAgain, AtEach}
@@ -97,7 +97,7 @@ module _ (settings : Settings) (dump text : List ℕ) (records : List DumpRecord
           (MatchBool n (IsNodeOutput settings kept r front) (front ≡ block_text r.headers))
           → StandsAgain settings kept r after front
       by_kind true n rev node kept_group out =
-          let no_node : is_node r ≡ false = not_so (is_node r)
+          let no_node : is_node r ≡ false = false_from_ne_true (is_node r)
           (λ is. absurd_bool (is_revision_record r) rev (alone stands.0 r b.lawful is)) in
           revision_again settings kept after front b rev no_node (number_small rev settings.renumber) sizes out
       by_kind false true no_rev node keep out =

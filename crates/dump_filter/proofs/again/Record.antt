@@ -1,5 +1,5 @@
 -- What is written for a record is a record again.
-use Rattle.dump_filter.proofs.Prelude.{◌≡◌, ℕ, ◌+◌, ◌<◌, ◌^◌, ◌==◌, Bool, true, false, not, ◌&&◌, ◌||◌, List, [], ◌++◌, length, refl, sym, ap, ◌∙◌, subst, arith, inl, Some, is_none, bytes_eq, length-append, flat_map, MatchBool, if◌then◌else◌, and-false, eqb-true, bytes_eq-Decides, spelled_number, version_name, uuid_name, revision_name, path_name, copy_revision_name, copy_path_name, property_length_name, text_length_name, content_length_name, Header, has_header, header_value, with_header_value, is_block, block_text, Property, IsPropertyBlock, has_deletes, block_end, entry_text, property_block_text, short_block, header_number, version_from, property_length, text_length, has_bad_kind, has_bad_version, has_bad_number, has_bad_lengths, DumpRecord, is_lawful, BeginsWithRecord, deciding, Keeps, keeps, takes_deletes, HasPropertyList, new_block, with_lengths, without_copy_headers, is_copy_line, whole_text, first_false, second_false, not_so, absurd_bool}
+use Rattle.dump_filter.proofs.Prelude.{◌≡◌, ℕ, ◌+◌, ◌<◌, ◌^◌, ◌==◌, Bool, true, false, not, ◌&&◌, ◌||◌, List, [], ◌++◌, length, refl, sym, ap, ◌∙◌, subst, arith, inl, Some, is_none, bytes_eq, length-append, flat_map, MatchBool, if◌then◌else◌, and-false, eqb-true, bytes_eq-Decides, spelled_number, version_name, uuid_name, revision_name, path_name, copy_revision_name, copy_path_name, property_length_name, text_length_name, content_length_name, Header, has_header, header_value, with_header_value, is_block, block_text, Property, IsPropertyBlock, has_deletes, block_end, entry_text, property_block_text, short_block, header_number, version_from, property_length, text_length, has_bad_kind, has_bad_version, has_bad_number, has_bad_lengths, DumpRecord, is_lawful, BeginsWithRecord, deciding, Keeps, keeps, takes_deletes, HasPropertyList, new_block, with_lengths, without_copy_headers, is_copy_line, whole_text, first_false, second_false, false_from_ne_true, absurd_bool}
 use Rattle.dump_filter.proofs.written.HeaderLemmas.{no_length}
 use Rattle.dump_filter.proofs.again.LineChanges.{IsChange, spelled_line, same_has, block_stays, both_changes, put_has, put_change, go_change, gone, IsTold, told_put, told_reads}
 use Rattle.dump_filter.proofs.again.Headers.{is_length_name, AreTold, lengths_change, text_stays, props_stay, lengths_told, told_lengths, lengths_again, no_others, StaysLawful, lawful_again}
@@ -12,10 +12,10 @@ pub any_number : (number m : ℕ) (headers : List Header) → is_lawful number h
     → (m ≡ 0 → has_header version_name headers ≡ true) → is_lawful m headers ≡ true
 any_number number m headers lawful first =
     rw (
-      not_so (has_bad_kind headers) k.kind,
+      false_from_ne_true (has_bad_kind headers) k.kind,
       version,
-      not_so (has_bad_number headers) k.number_ok,
-      not_so
+      false_from_ne_true (has_bad_number headers) k.number_ok,
+      false_from_ne_true
           (has_bad_lengths headers) k.lengths,
     ) refl
   where
@@ -27,7 +27,7 @@ any_number number m headers lawful first =
     by_zero false is = rw is refl
 
     version : has_bad_version m headers ≡ false
-    version = rw (by_zero (m == 0) refl) (second_false _ _ (not_so (has_bad_version number headers) k.version))
+    version = rw (by_zero (m == 0) refl) (second_false _ _ (false_from_ne_true (has_bad_version number headers) k.version))
 
 -- a record that is no revision and no node has no content
 module _ (headers : List Header) (good : has_bad_kind headers ≡ false) (fine : has_bad_lengths headers ≡ false)
@@ -62,14 +62,14 @@ module _ (headers : List Header) (good : has_bad_kind headers ≡ false) (fine :
 pub stays_same : (number : ℕ) (headers : List Header) → is_lawful number headers ≡ true → StaysLawful headers headers
 stays_same number headers lawful =
     let k = keeps number headers lawful in
-    let numbers = not_so (has_bad_number headers) k.number_ok in
+    let numbers = false_from_ne_true (has_bad_number headers) k.number_ok in
     record {
       version = refl;
       uuid = refl;
       revision = refl;
       node = refl;
       text = refl;
-      copies = second_false _ _ (not_so (has_bad_kind headers) k.kind);
+      copies = second_false _ _ (false_from_ne_true (has_bad_kind headers) k.kind);
       revision_number = first_false _ _ numbers;
       copy_number = first_false _ _ (second_false _ _ numbers);
     }
@@ -216,7 +216,7 @@ module _ {number : ℕ} {text behind : List ℕ} {r : DumpRecord} {b : BeginsWit
   -- there is no version line, neither before nor now
   pub new_version_line : (before : ℕ) → version_from before lines ≡ version_from before r.headers
   new_version_line before =
-      let good = not_so (has_bad_kind r.headers) (keeps number r.headers b.lawful).kind in
+      let good = false_from_ne_true (has_bad_kind r.headers) (keeps number r.headers b.lawful).kind in
       rw (new_stays.version, (no_others r.headers good w.either).0) refl
 
   -- the block of the new properties is one that is read again, and it stays unchanged

@@ -1,5 +1,5 @@
 -- What is written for a list of records, when it is read again.
-use Rattle.dump_filter.proofs.Prelude.{◌≡◌, ℕ, ◌+◌, ◌<◌, ◌==◌, Bool, true, false, ◌||◌, MatchBool, List, [], ◌∷◌, ◌++◌, length, refl, sym, ap, ◌∙◌, subst, arith, append_assoc, or_right, version_name, has_header, line_feeds, IsCutInto, HaveVersions, DumpRecord, record_text, is_lawful, version_from, kind_of, RecordKind, keeps, Settings, keeps_path, KeptRevisions, is_revision_record, is_node, keep_all, Group, group_of, group_number, has_kept_node, keeps_group, IsOutput, is_written, AreOutputs, absurd_bool, both_true, not_so}
+use Rattle.dump_filter.proofs.Prelude.{◌≡◌, ℕ, ◌+◌, ◌<◌, ◌==◌, Bool, true, false, ◌||◌, MatchBool, List, [], ◌∷◌, ◌++◌, length, refl, sym, ap, ◌∙◌, subst, arith, append_assoc, or_right, version_name, has_header, line_feeds, IsCutInto, HaveVersions, DumpRecord, record_text, is_lawful, version_from, kind_of, RecordKind, keeps, Settings, keeps_path, KeptRevisions, is_revision_record, is_node, keep_all, Group, group_of, group_number, has_kept_node, keeps_group, IsOutput, is_written, AreOutputs, absurd_bool, and_from, false_from_ne_true}
 use Rattle.dump_records.specs.declared.kind.RecordKind.TheVariants as kinds
 use Rattle.dump_filter.proofs.groups.KindLemmas.{IsOfKind, of_kind}
 use Rattle.dump_filter.proofs.knowing.Answered.{AllLawful}
@@ -56,7 +56,7 @@ dropped_version : (settings : Settings) (number before : ℕ) (r : DumpRecord) (
 dropped_version settings number before r after lawful dropped =
     let written = version_written settings number r after lawful in
     let none : has_header version_name r.headers ≡ false =
-    not_so (has_header version_name r.headers)
+    false_from_ne_true (has_header version_name r.headers)
     (λ has. absurd_bool (is_written settings true r after) (written has) dropped) in
     rw none refl
 
@@ -175,7 +175,7 @@ pub all_written : (s : DumpRecord) (after : List DumpRecord) → is_written keep
 all_written s after = cases (is_revision_record s) (is_node s) refl refl
   where
     cases : (v n : Bool) → is_revision_record s ≡ v → is_node s ≡ n → is_written keep_all true s after ≡ true
-    cases true n rev node = rw rev (both_true (keeps_group keep_all (group_of s after)) true
+    cases true n rev node = rw rev (and_from (keeps_group keep_all (group_of s after)) true
         (all_groups (group_of s after)) refl)
     cases false true other node = rw (other, node) refl
     cases false false other no_node = rw (other, no_node) refl

@@ -1,5 +1,5 @@
 -- The answer of a filter to the next record: its fate, or its fault.
-use Rattle.dump_filter.proofs.Prelude.{◌≡◌, ◌⊎◌, ◌↔◌, ℕ, ◌+◌, ◌<◌, nat_lt, Bool, true, false, not, ◌&&◌, ◌||◌, List, [], ◌∷◌, ◌++◌, refl, sym, ap, ◌∙◌, subst, arith, inl, inr, Option, Some, None, unwrap_or, IsTrue, IsFalse, Result, Ok, Err, if◌then◌else◌, FaultKind, fault_code, NoFault, Property, block_stable, DumpRecord, is_lawful, code_once, Settings, keeps_path, KeptRevisions, image, HasForeignNumber, is_revision_record, is_node, is_kept_node, node_path, HasPropertyList, HasPropertyBlock, HasBadMergeinfo, IsVerdict, Verdict, CopyChange, Fate, kept_revisions, is_whole_file, stays_copy, IsNewCopy, has_lost_source, copied_headers, present_number, HasBadCopyRevision, HoldsOfRecord, IsRecordFault, merge_fault, PresentGroup, State, node_revision, NoGroup, Pending, Written, front_kept, takes_node, is_in_order, is_orphan, HasNoSource, copy_change, kept_unless, with_fault, node_fate, fate_of, decided, AreAsked, is_plain, Stands, first_true, second_true, both_true, absurd_bool}
+use Rattle.dump_filter.proofs.Prelude.{◌≡◌, ◌⊎◌, ◌↔◌, ℕ, ◌+◌, ◌<◌, nat_lt, Bool, true, false, not, ◌&&◌, ◌||◌, List, [], ◌∷◌, ◌++◌, refl, sym, ap, ◌∙◌, subst, arith, inl, inr, Option, Some, None, unwrap_or, IsTrue, IsFalse, Result, Ok, Err, if◌then◌else◌, FaultKind, fault_code, NoFault, Property, block_stable, DumpRecord, is_lawful, code_once, Settings, keeps_path, KeptRevisions, image, HasForeignNumber, is_revision_record, is_node, is_kept_node, node_path, HasPropertyList, HasPropertyBlock, HasBadMergeinfo, IsVerdict, Verdict, CopyChange, Fate, kept_revisions, is_whole_file, stays_copy, IsNewCopy, has_lost_source, copied_headers, present_number, HasBadCopyRevision, HoldsOfRecord, IsRecordFault, merge_fault, PresentGroup, State, node_revision, NoGroup, Pending, Written, front_kept, takes_node, is_in_order, is_orphan, HasNoSource, copy_change, kept_unless, with_fault, node_fate, fate_of, decided, AreAsked, is_plain, Stands, first_true, second_true, and_from, absurd_bool}
 use borrow.Author.Tests.{ltb-true, ltb-false}
 use Rattle.dump_text.specs.declared.fault.FaultKind.TheVariants as faults
 use Rattle.dump_filter.specs.declared.decide.Fate.TheVariants as fates
@@ -133,7 +133,7 @@ module _ (settings : Settings) (before : List DumpRecord) (s : State) (text : Li
         let renumber = first_true settings.renumber (is_kept_node settings r)
         (first_true (settings.renumber && is_kept_node settings r) (stays_copy settings r) on) in
         let stays = second_true (settings.renumber && is_kept_node settings r) (stays_copy settings r) on in
-        (both_true settings.renumber (stays_copy settings r) renumber stays, n, at, moved where_is)
+        (and_from settings.renumber (stays_copy settings r) renumber stays, n, at, moved where_is)
       where
         moved : (image (kept_revisions settings (before ++ r ∷ [])) n ≡ None) ⊎ (present_number before < n)
             → (image kept n ≡ None) ⊎ (present < n)
@@ -144,8 +144,8 @@ module _ (settings : Settings) (before : List DumpRecord) (s : State) (text : Li
     bad_source (on, n, at, where_is) =
         let renumber = first_true settings.renumber (stays_copy settings r) on in
         let stays = second_true settings.renumber (stays_copy settings r) on in (
-          both_true (settings.renumber && is_kept_node settings r) (stays_copy settings r)
-              (both_true settings.renumber (is_kept_node settings r) renumber keep) stays,
+          and_from (settings.renumber && is_kept_node settings r) (stays_copy settings r)
+              (and_from settings.renumber (is_kept_node settings r) renumber keep) stays,
           n,
           at,
           moved where_is,
@@ -157,14 +157,14 @@ module _ (settings : Settings) (before : List DumpRecord) (s : State) (text : Li
         moved (inr above) = inr (subst (λ p. p < n) (sym place_is) above)
 
     orphan_is : HoldsOfRecord settings before r faults.CopySource → IsTrue (is_orphan settings r)
-    orphan_is h = both_true (has_lost_source settings r) (not (is_whole_file r))
+    orphan_is h = and_from (has_lost_source settings r) (not (is_whole_file r))
         (second_true (is_kept_node settings r) (has_lost_source settings r)
         (first_true (is_kept_node settings r && has_lost_source settings r) (not (is_whole_file r)) h))
         (second_true (is_kept_node settings r && has_lost_source settings r) (not (is_whole_file r)) h)
 
     orphan_holds : IsTrue (is_orphan settings r) → HoldsOfRecord settings before r faults.CopySource
-    orphan_holds orphan = both_true (is_kept_node settings r && has_lost_source settings r) (not (is_whole_file r))
-        (both_true (is_kept_node settings r) (has_lost_source settings r) keep
+    orphan_holds orphan = and_from (is_kept_node settings r && has_lost_source settings r) (not (is_whole_file r))
+        (and_from (is_kept_node settings r) (has_lost_source settings r) keep
         (first_true (has_lost_source settings r) (not (is_whole_file r)) orphan))
         (second_true (has_lost_source settings r) (not (is_whole_file r)) orphan)
 

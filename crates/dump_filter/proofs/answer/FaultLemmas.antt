@@ -1,5 +1,5 @@
 -- Which fault a record has after others.
-use Rattle.dump_filter.proofs.Prelude.{◌≡◌, ◌⊎◌, ℕ, ◌<◌, nat_lt, Bool, true, false, not, ◌&&◌, ◌||◌, List, [], ◌∷◌, ◌++◌, refl, sym, ap, ◌∙◌, subst, arith, append_assoc, inl, inr, Option, Some, None, IsTrue, MatchBool, Result, Ok, Err, is_some, if◌then◌else◌, last_or, list_all, list_any, FaultKind, spelled_number, copy_revision_name, with_header_value, header_number, has_bad_kind, has_bad_number, DumpRecord, is_lawful, part_of_node, keeps, Settings, KeptRevisions, image, is_revision_record, is_node, is_kept_node, CopyChange, revision_number, revision_numbers, first_number, kept_revisions, is_whole_file, becomes_plain, stays_copy, IsWrittenCopyNumber, IsNewCopy, is_copy, has_lost_source, copied_headers, ends_in_group, IsOutOfOrder, State, front_kept, takes_node, rises, is_in_order, is_orphan, HasNoSource, imaged, source_change, copy_change, is_plain, kept_numbers, Shape, Stands, Fresh, Idle, Passed, Waits, copy_both, copy_there, false_true, not_so, first_true, second_true, not_true, not_false, both_true, absurd_bool}
+use Rattle.dump_filter.proofs.Prelude.{◌≡◌, ◌⊎◌, ℕ, ◌<◌, nat_lt, Bool, true, false, not, ◌&&◌, ◌||◌, List, [], ◌∷◌, ◌++◌, refl, sym, ap, ◌∙◌, subst, arith, append_assoc, inl, inr, Option, Some, None, IsTrue, MatchBool, Result, Ok, Err, is_some, if◌then◌else◌, last_or, list_all, list_any, FaultKind, spelled_number, copy_revision_name, with_header_value, header_number, has_bad_kind, has_bad_number, DumpRecord, is_lawful, part_of_node, keeps, Settings, KeptRevisions, image, is_revision_record, is_node, is_kept_node, CopyChange, revision_number, revision_numbers, first_number, kept_revisions, is_whole_file, becomes_plain, stays_copy, IsWrittenCopyNumber, IsNewCopy, is_copy, has_lost_source, copied_headers, ends_in_group, IsOutOfOrder, State, front_kept, takes_node, rises, is_in_order, is_orphan, HasNoSource, imaged, source_change, copy_change, is_plain, kept_numbers, Shape, Stands, Fresh, Idle, Passed, Waits, copy_both, copy_there, false_true, false_from_ne_true, first_true, second_true, not-true, not_from_false, and_from, absurd_bool}
 use borrow.Author.Tests.{ltb-true, ltb-false}
 use Rattle.dump_text.specs.declared.fault.FaultKind.TheVariants as faults
 use Rattle.dump_filter.specs.declared.copies.CopyChange.TheVariants as copies
@@ -19,13 +19,13 @@ module _ (settings : Settings) (before : List DumpRecord) (s : State) (text : Li
   ordered alone good (inl bad) =
       let node : is_node r ≡ true = first_true (is_node r) (not (ends_in_group (last_or None before))) bad in
       let none : ends_in_group (last_or None before) ≡ false =
-      not_true (ends_in_group (last_or None before))
+      not-true (ends_in_group (last_or None before))
       (second_true (is_node r) (not (ends_in_group (last_or None before))) bad) in
       let some : takes_node s.group ≡ true = sym (rw node refl) ∙ good in
       absurd_bool (takes_node s.group) some (sym ends_is ∙ none)
   ordered alone good (inr (rev, present, at, low)) =
       let other : is_node r ≡ false =
-      not_so (is_node r) (λ node. absurd_bool (is_revision_record r) rev (alone node)) in
+      false_from_ne_true (is_node r) (λ node. absurd_bool (is_revision_record r) rev (alone node)) in
       let up : rises s.revisions.present (revision_number r) ≡ true = sym (rw (other, rev) refl) ∙ good in
       let above = ltb-true present (revision_number r)
       (ap (λ p. rises p (revision_number r)) (sym (st.present_is ∙ at)) ∙ up) in
@@ -44,8 +44,8 @@ module _ (settings : Settings) (before : List DumpRecord) (s : State) (text : Li
           → (if n then takes_node s.group else if v then rises s.revisions.present (revision_number r) else true) ≡ false
           → IsOutOfOrder before r
       by_kind true v node is none =
-          inl (both_true (is_node r) (not (ends_in_group (last_or None before))) node
-          (not_false (ends_in_group (last_or None before)) (ends_is ∙ none)))
+          inl (and_from (is_node r) (not (ends_in_group (last_or None before))) node
+          (not_from_false (ends_in_group (last_or None before)) (ends_is ∙ none)))
       by_kind false true other rev low = by_present rev s.revisions.present refl low
       by_kind false false other no_rev no_way = absurd (false_true (sym no_way))
 
@@ -90,8 +90,8 @@ copies_told : (number : ℕ) (r : DumpRecord) → IsTrue (is_lawful number r.hea
     → is_copy r ≡ is_some (header_number copy_revision_name r.headers)
 copies_told number r lawful node =
     let k = keeps number r.headers lawful in
-    sym (copy_both r.headers (not_so (has_bad_kind r.headers) k.kind) node)
-    ∙ copy_there r.headers (not_so (has_bad_number r.headers) k.number_ok)
+    sym (copy_both r.headers (false_from_ne_true (has_bad_kind r.headers) k.kind) node)
+    ∙ copy_there r.headers (false_from_ne_true (has_bad_number r.headers) k.number_ok)
 
 -- what the filter does with a kept node's copy source, or its fault
 abbrev pub CopyJudged : Settings → KeptRevisions → ℕ → DumpRecord → Result CopyChange FaultKind → Type 0
@@ -125,8 +125,8 @@ module _ (settings : Settings) (kept : KeptRevisions) (present : ℕ) (number : 
     source_judged (Some n) at copy = by_renumber settings.renumber refl
       where
         stays_so : stays_copy settings r ≡ true
-        stays_so = both_true (is_copy r) (not (becomes_plain settings r)) copy
-            (not_false (becomes_plain settings r) plain_false)
+        stays_so = and_from (is_copy r) (not (becomes_plain settings r)) copy
+            (not_from_false (becomes_plain settings r) plain_false)
 
         the_number : (m : ℕ) → header_number copy_revision_name r.headers ≡ Some m → m ≡ n
         the_number m is = let same : Some m ≡ Some n = sym is ∙ at in cc
@@ -142,7 +142,7 @@ module _ (settings : Settings) (kept : KeptRevisions) (present : ℕ) (number : 
               refl,
               no_orphan,
               (
-                both_true settings.renumber
+                and_from settings.renumber
                     (stays_copy settings r) renumber stays_so,
                 n,
                 at,
@@ -169,7 +169,7 @@ module _ (settings : Settings) (kept : KeptRevisions) (present : ℕ) (number : 
               refl,
               no_orphan,
               (
-                both_true settings.renumber (stays_copy settings r) renumber stays_so,
+                and_from settings.renumber (stays_copy settings r) renumber stays_so,
                 n,
                 at,
                 inr
@@ -197,19 +197,19 @@ module _ (settings : Settings) (kept : KeptRevisions) (present : ℕ) (number : 
           → CopyJudged settings kept present r (if c then Ok copies.Dropped else Err faults.CopySource)
       by_whole lost true whole =
           let plain : becomes_plain settings r ≡ true =
-          both_true (has_lost_source settings r) (is_whole_file r) lost whole in (
+          and_from (has_lost_source settings r) (is_whole_file r) lost whole in (
             rw plain refl,
             (λ h. absurd_bool (is_whole_file r) whole
-                (not_true (is_whole_file r) (second_true (has_lost_source settings r) (not (is_whole_file r)) h))),
-            λ h. absurd_bool (becomes_plain settings r) plain (not_true (becomes_plain settings r)
+                (not-true (is_whole_file r) (second_true (has_lost_source settings r) (not (is_whole_file r)) h))),
+            λ h. absurd_bool (becomes_plain settings r) plain (not-true (becomes_plain settings r)
                 (second_true (is_copy r) (not (becomes_plain settings r))
                 (second_true settings.renumber (stays_copy settings r) h.0))),
           )
       by_whole lost false whole =
           inl (
             refl,
-            both_true (has_lost_source settings r) (not (is_whole_file r)) lost
-                (not_false (is_whole_file r) whole),
+            and_from (has_lost_source settings r) (not (is_whole_file r)) lost
+                (not_from_false (is_whole_file r) whole),
           )
 
       found : has_lost_source settings r ≡ false

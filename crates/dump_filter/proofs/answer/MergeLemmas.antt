@@ -1,5 +1,5 @@
 -- The faults of the mergeinfo of a kept node.
-use Rattle.dump_filter.proofs.Prelude.{◌≡◌, ◌⊎◌, ◌↔◌, ◌||◌, ℕ, Bool, true, false, List, refl, sym, ap, subst, inl, inr, Option, Some, None, Contains, IsFalse, IsTrue, if◌then◌else◌, or_right, list_any, ∥∥₁_elim, FaultKind, Property, property_block_once, DumpRecord, Settings, KeptRevisions, HasMergeLines, HasMissingSource, HasForeignNumber, value_misses, value_foreign, found, finds, missing_there, missing_back, foreign_there, foreign_back, has_lines, record_item, Done, done_record, done_settings, done_verdict, is_asked, is_revision_record, is_kept_node, is_mergeinfo, value_of, HasPropertyList, HasPropertyBlock, IsReadNode, IsMergeinfoValueOf, HasBadMergeinfo, bad_choice, misses, is_foreign, merge_fault, HasGoodMergeinfo, first_true, second_true, both_true, false_true, absurd_bool, block_or_not, property_list_once}
+use Rattle.dump_filter.proofs.Prelude.{◌≡◌, ◌⊎◌, ◌↔◌, ◌||◌, ℕ, Bool, true, false, List, refl, sym, ap, subst, inl, inr, Option, Some, None, Contains, IsFalse, IsTrue, if◌then◌else◌, or_right, list_any, ∥∥₁_elim, FaultKind, Property, property_block_once, DumpRecord, Settings, KeptRevisions, HasMergeLines, HasMissingSource, HasForeignNumber, value_misses, value_foreign, found, finds, missing_there, missing_back, foreign_there, foreign_back, has_lines, record_item, Done, done_record, done_settings, done_verdict, is_asked, is_revision_record, is_kept_node, is_mergeinfo, value_of, HasPropertyList, HasPropertyBlock, IsReadNode, IsMergeinfoValueOf, HasBadMergeinfo, bad_choice, misses, is_foreign, merge_fault, HasGoodMergeinfo, first_true, second_true, and_from, false_true, absurd_bool, block_or_not, property_list_once}
 use Rattle.dump_text.specs.declared.fault.FaultKind.TheVariants as faults
 
 -- some element that passes a test
@@ -51,7 +51,7 @@ module _ (settings : Settings) (r : DumpRecord) (keep : is_kept_node settings r 
     none_misses : list_any (misses settings) ps ≡ false → ¬ Misses settings r
     none_misses none (value, (kept, qs, other, p, within, is, same), missing) =
         none_passes (misses settings) none qs other p within
-        (both_true (is_mergeinfo p) (value_misses settings (value_of p)) is
+        (and_from (is_mergeinfo p) (value_misses settings (value_of p)) is
         (missing_back settings (value_of p) (subst (HasMissingSource settings) (sym same) missing)))
 
     some_is_foreign : list_any (is_foreign settings kept.first present) ps ≡ true → IsForeign settings kept present r
@@ -67,7 +67,7 @@ module _ (settings : Settings) (r : DumpRecord) (keep : is_kept_node settings r 
     none_is_foreign : list_any (is_foreign settings kept.first present) ps ≡ false → ¬ IsForeign settings kept present r
     none_is_foreign none (value, (keeps, qs, other, p, within, is, same), bad) =
         none_passes (is_foreign settings kept.first present) none qs other p within
-        (both_true (is_mergeinfo p) (value_foreign settings kept.first present (value_of p)) is
+        (and_from (is_mergeinfo p) (value_foreign settings kept.first present (value_of p)) is
         (foreign_back settings kept present (value_of p)
         (subst (HasForeignNumber settings kept present) (sym same) bad)))
 

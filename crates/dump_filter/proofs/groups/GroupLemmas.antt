@@ -1,5 +1,5 @@
 -- Groups and what is written, where a list is cut before a record that is no node.
-use Rattle.dump_filter.proofs.Prelude.{◌≡◌, ℕ, suc, ◌+◌, Bool, true, false, not, ◌&&◌, ◌||◌, ◌==◌, List, [], ◌∷◌, ◌++◌, take, take_while, refl, sym, ap, ◌∙◌, subst, arith, append_assoc, MatchBool, or-false, and-false, and-true, list_all, list_any, prefix_len, list_all-append, list_any-append, DumpRecord, block_text, Settings, KeptRevisions, is_revision_record, is_node, is_kept_node, Group, group_of, groups, group_number, has_kept_node, is_bare, is_pad, is_padded, keeps_group, keeps_empty, revision_number, revision_text, IsRevisionOutput, IsNodeOutput, IsOutput, is_plain, first_true, second_true, first_false, second_false, not_true, is_open, is_written, AreOutputs}
+use Rattle.dump_filter.proofs.Prelude.{◌≡◌, ℕ, suc, ◌+◌, Bool, true, false, not, ◌&&◌, ◌||◌, ◌==◌, List, [], ◌∷◌, ◌++◌, take, take_while, refl, sym, ap, ◌∙◌, subst, arith, append_assoc, MatchBool, or-false, and-false, and-true, list_all, list_any, prefix_len, list_all-append, list_any-append, DumpRecord, block_text, Settings, KeptRevisions, is_revision_record, is_node, is_kept_node, Group, group_of, groups, group_number, has_kept_node, is_bare, is_pad, is_padded, keeps_group, keeps_empty, revision_number, revision_text, IsRevisionOutput, IsNodeOutput, IsOutput, is_plain, first_true, second_true, first_false, second_false, not-true, is_open, is_written, AreOutputs}
 use Rattle.std.proofs.lemmas.List.{append-nil}
 
 -- what is taken from a list begins with its first record
@@ -42,7 +42,7 @@ plain_node r h = first_true (is_node r) (not (is_revision_record r)) h
 
 -- what is a node and nothing else is no revision
 pub plain_other : (r : DumpRecord) → is_plain r ≡ true → is_revision_record r ≡ false
-plain_other r h = not_true (is_revision_record r) (second_true (is_node r) (not (is_revision_record r)) h)
+plain_other r h = not-true (is_revision_record r) (second_true (is_node r) (not (is_revision_record r)) h)
 
 pub all_nodes : (ns : List DumpRecord) → list_all is_plain ns ≡ true → list_all is_node ns ≡ true
 all_nodes [] all = refl

@@ -1,5 +1,5 @@
 -- What a record is, by its deciding names, of which exactly one is there.
-use Rattle.dump_filter.proofs.Prelude.{◌≡◌, ℕ, Bool, true, false, refl, sym, ◌∙◌, subst, IsTrue, version_name, uuid_name, revision_name, path_name, has_header, has_bad_kind, kind_of, RecordKind, DumpRecord, Record, record_item, record_number, is_lawful, OneKind, deciding, keeps, is_revision_record, is_node, not_so, false_true, absurd_bool}
+use Rattle.dump_filter.proofs.Prelude.{◌≡◌, ℕ, Bool, true, false, refl, sym, ◌∙◌, subst, IsTrue, version_name, uuid_name, revision_name, path_name, has_header, has_bad_kind, kind_of, RecordKind, DumpRecord, Record, record_item, record_number, is_lawful, OneKind, deciding, keeps, is_revision_record, is_node, false_from_ne_true, false_true, absurd_bool}
 use Rattle.dump_records.specs.declared.kind.RecordKind.TheVariants as kinds
 
 -- a record is of this kind, and of no other
@@ -17,7 +17,7 @@ of_kind number r lawful =
   where
     one : OneKind (has_header version_name r.headers) (has_header uuid_name r.headers)
         (has_header revision_name r.headers) (has_header path_name r.headers)
-    one = deciding r.headers (not_so (has_bad_kind r.headers) (keeps number r.headers lawful).kind)
+    one = deciding r.headers (false_from_ne_true (has_bad_kind r.headers) (keeps number r.headers lawful).kind)
 
     is_kind : (which : RecordKind) → kind_of r.headers ≡ which → IsOfKind r which → IsOfKind r (kind_of r.headers)
     is_kind which e of = subst (IsOfKind r) (sym e) of

@@ -1,5 +1,5 @@
 -- A filter's step and end, from what it knows about the records that it has accepted.
-use Rattle.dump_filter.proofs.Prelude.{◌≡◌, ◌↔◌, ◌⊎◌, ℕ, ◌+◌, ◌^◌, ◌<◌, ◌≤◌, Bool, true, false, not, ◌&&◌, List, [], ◌∷◌, ◌++◌, length, refl, sym, ap, ◌∙◌, subst, arith, length-append, filter, inl, inr, Option, Some, None, option_map, IsTrue, Result, Ok, Err, or_right, not-false, length-map, count_by-le-length, length-filter, FaultKind, NoFault, Property, tail-eq, block_or_not, Record, DumpRecord, record_dump, record_number, record_item, BeginsWithRecords, IsRecordOf, strip, begins_once, one_more, least_once, Settings, done_record, done_settings, done_verdict, Done, is_revision_record, is_node, is_kept_node, is_checked_text, IsVerdict, Verdict, CopyChange, Fate, Inside, Report, groups, group_number, keeps_group, kept_revisions, HoldsOfRecord, IsRecordFault, AreFaultFree, IsWrittenText, report_of, Seen, FilterState, count_up_to, AreAccepted, IsOfSameDump, Accepts, Refuses, Finishes, State, CanCountMore, view_state, new_state, revision_count, IsEndText, IsPiece, ended, next_state, decided, AreAsked, Stands, AreUpTo, KnowsAccepted, Fresh, absurd_bool, not_so, not_true, ∥∥₁_elim, transport, IsReadNode}
+use Rattle.dump_filter.proofs.Prelude.{◌≡◌, ◌↔◌, ◌⊎◌, ℕ, ◌+◌, ◌^◌, ◌<◌, ◌≤◌, Bool, true, false, not, ◌&&◌, List, [], ◌∷◌, ◌++◌, length, refl, sym, ap, ◌∙◌, subst, arith, length-append, filter, inl, inr, Option, Some, None, option_map, IsTrue, Result, Ok, Err, or_right, not-false, length-map, count_by-le-length, length-filter, FaultKind, NoFault, Property, tail-eq, block_or_not, Record, DumpRecord, record_dump, record_number, record_item, BeginsWithRecords, IsRecordOf, strip, begins_once, one_more, least_once, Settings, done_record, done_settings, done_verdict, Done, is_revision_record, is_node, is_kept_node, is_checked_text, IsVerdict, Verdict, CopyChange, Fate, Inside, Report, groups, group_number, keeps_group, kept_revisions, HoldsOfRecord, IsRecordFault, AreFaultFree, IsWrittenText, report_of, Seen, FilterState, count_up_to, AreAccepted, IsOfSameDump, Accepts, Refuses, Finishes, State, CanCountMore, view_state, new_state, revision_count, IsEndText, IsPiece, ended, next_state, decided, AreAsked, Stands, AreUpTo, KnowsAccepted, Fresh, absurd_bool, false_from_ne_true, not-true, ∥∥₁_elim, transport, IsReadNode}
 use Rattle.dump_text.specs.declared.fault.FaultKind.TheVariants as faults
 use Rattle.dump_filter.specs.declared.decide.Fate.TheVariants as fates
 use Rattle.dump_filter.proofs.knowing.StandsNext.{IsReadable, ended_numbers, ended_dropped, ended_text, becomes_ended}
@@ -292,8 +292,8 @@ module _ {f : Inside} {state : FilterState} (h : Holds f state) where
 
       -- the properties of a record with a fate were read
       pub is_read : v.props_ok ≡ true
-      is_read = not-false v.props_ok (not_so (not v.props_ok) (λ bad. taken.free faults.Props
-          (means.props.0 (not_true v.props_ok bad))))
+      is_read = not-false v.props_ok (false_from_ne_true (not v.props_ok) (λ bad. taken.free faults.Props
+          (means.props.0 (not-true v.props_ok bad))))
 
       -- a node that is kept was read as one
       pub node_is_read : (copy : CopyChange) → fate ≡ fates.Keep copy → IsReadNode done
@@ -301,7 +301,7 @@ module _ {f : Inside} {state : FilterState} (h : Holds f state) where
         subst (λ (x : Settings). is_kept_node x r ≡ true) (settings_is ∙ sym asked)
             (subst (IsTaken settings before s r) keeps taken).is.1,
         is_read,
-        not-false v.merge_ok (not_so (not v.merge_ok) (λ bad. ∥∥₁_elim (means.merge.0 (not_true v.merge_ok bad))
+        not-false v.merge_ok (false_from_ne_true (not v.merge_ok) (λ bad. ∥∥₁_elim (means.merge.0 (not-true v.merge_ok bad))
             (λ x y. absurd x) (taken.free faults.MergeInfo))),
       )
 

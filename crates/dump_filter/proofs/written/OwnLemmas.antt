@@ -1,5 +1,5 @@
 -- The text of a record alone is what is written for it, whichever records follow.
-use Rattle.dump_filter.proofs.Prelude.{◌≡◌, ℕ, ◌+◌, ◌<◌, ◌≤◌, ◌==◌, Bool, true, false, not, ◌&&◌, List, [], ◌∷◌, length, refl, sym, ap, ap₂, ◌∙◌, subst, arith, inl, inr, suc, Some, All, Contains, MatchBool, list_any, leb_tells, copy_revision_name, Header, Property, header_number, DumpRecord, Settings, KeptRevisions, image, IsNewMergeinfo, HasForeignNumber, later_revisions, is_kept_node, is_mergeinfo, value_of, HasPropertyBlock, CopyChange, is_bare, is_pad, is_padded, revision_number, becomes_plain, stays_copy, without_copy_headers, IsWrittenCopyNumber, IsNewCopy, is_copy, AreNewProperties, IsRevisionOutput, IsNodeOutput, copied_headers, revision_own, pads, IsOwnRevision, IsOwnNode, HasNoSource, GoesOn, both_true, not_false}
+use Rattle.dump_filter.proofs.Prelude.{◌≡◌, ℕ, ◌+◌, ◌<◌, ◌≤◌, ◌==◌, Bool, true, false, not, ◌&&◌, List, [], ◌∷◌, length, refl, sym, ap, ap₂, ◌∙◌, subst, arith, inl, inr, suc, Some, All, Contains, MatchBool, list_any, leb_tells, copy_revision_name, Header, Property, header_number, DumpRecord, Settings, KeptRevisions, image, IsNewMergeinfo, HasForeignNumber, later_revisions, is_kept_node, is_mergeinfo, value_of, HasPropertyBlock, CopyChange, is_bare, is_pad, is_padded, revision_number, becomes_plain, stays_copy, without_copy_headers, IsWrittenCopyNumber, IsNewCopy, is_copy, AreNewProperties, IsRevisionOutput, IsNodeOutput, copied_headers, revision_own, pads, IsOwnRevision, IsOwnNode, HasNoSource, GoesOn, and_from, not_from_false}
 use Rattle.dump_filter.proofs.groups.KeptLemmas.{all_weaker, whole_is, next_written, image_kept}
 use Rattle.dump_filter.proofs.answer.MergeLemmas.{IsForeign}
 use Rattle.dump_filter.proofs.written.CopyLemmas.{AreCopyLines}
@@ -49,9 +49,9 @@ new_copy_kept settings kept whole present r headers g good new = by_plain (becom
         low renumber = elim (leb_tells old present) [
           | inl within ↦ let under = within.1 in omega arith
           | inr over ↦ absurd (good (
-            both_true settings.renumber (stays_copy settings r) renumber
-                (both_true (is_copy r) (not (becomes_plain settings r)) copy
-                (not_false (becomes_plain settings r) plain)),
+            and_from settings.renumber (stays_copy settings r) renumber
+                (and_from (is_copy r) (not (becomes_plain settings r)) copy
+                (not_from_false (becomes_plain settings r) plain)),
             old,
             at,
             inr over.1,

@@ -1,5 +1,5 @@
 -- A block that is written unchanged: its numbers and lengths stay, and are spelled as the filter writes them.
-use Rattle.dump_filter.proofs.Prelude.{◌≡◌, ℕ, ◌+◌, ◌==◌, nat_eq, nat_le, Bool, true, false, not, ◌&&◌, ◌||◌, List, length, refl, sym, ap, ◌∙◌, Option, Some, None, is_none, unwrap_or, option_and_then, option_eq, eqb-true, not-false, bytes_eq-Decides, number_of, spelled_number, revision_name, copy_revision_name, property_length_name, text_length_name, content_length_name, Header, has_header, count_named, header_value, first_true, second_true, first_false, second_false, false_true, not_so, absurd_bool, header_number, header_length, property_length, text_length, has_bad_number, has_bad_lengths, are_spelled, is_spelled, are_written, DumpRecord, BeginsWithRecord, keeps, CopyChange, Same, Renumbered, Dropped, Changes, with_lengths, AreLengths, StaysCopied, copied_headers, new_headers, put_all}
+use Rattle.dump_filter.proofs.Prelude.{◌≡◌, ℕ, ◌+◌, ◌==◌, nat_eq, nat_le, Bool, true, false, not, ◌&&◌, ◌||◌, List, length, refl, sym, ap, ◌∙◌, Option, Some, None, is_none, unwrap_or, option_and_then, option_eq, eqb-true, not-false, bytes_eq-Decides, number_of, spelled_number, revision_name, copy_revision_name, property_length_name, text_length_name, content_length_name, Header, has_header, count_named, header_value, first_true, second_true, first_false, second_false, false_true, false_from_ne_true, absurd_bool, header_number, header_length, property_length, text_length, has_bad_number, has_bad_lengths, are_spelled, is_spelled, are_written, DumpRecord, BeginsWithRecord, keeps, CopyChange, Same, Renumbered, Dropped, Changes, with_lengths, AreLengths, StaysCopied, copied_headers, new_headers, put_all}
 use Rattle.dump_filter.proofs.written.HeaderLemmas.{no_length}
 use Rattle.dump_filter.proofs.again.LineChanges.{IsTold, put_same}
 use Rattle.dump_filter.proofs.again.Headers.{AreTold, known_once, lengths_again}
@@ -105,7 +105,7 @@ told_all : (number : ℕ) (text : List ℕ) (r : DumpRecord) (after : List ℕ) 
 told_all number text r after b written =
     let parts = parts_of r.headers written in
     let lawful = keeps number r.headers b.lawful in
-    let good = are_good r.headers (not_so (has_bad_number r.headers) lawful.number_ok) in
+    let good = are_good r.headers (false_from_ne_true (has_bad_number r.headers) lawful.number_ok) in
     let sum : length r.props + length r.text ≡ property_length r.headers + text_length r.headers
     = ap (λ n. n + length r.text) b.props_fit ∙ ap (λ n. property_length r.headers + n) b.text_fits in
     record {
@@ -115,7 +115,7 @@ told_all number text r after b written =
       text_told = told_of text_length_name (length r.text) r.headers parts.text good.text (λ has. sym b.text_fits)
           (λ none. b.text_fits ∙ no_length text_length_name r.headers none);
       content_told = told_of content_length_name (length r.props + length r.text) r.headers parts.content good.content
-          (λ has. adds_up has (first_false _ _ (first_false _ _ (not_so (has_bad_lengths r.headers) lawful.lengths)))
+          (λ has. adds_up has (first_false _ _ (first_false _ _ (false_from_ne_true (has_bad_lengths r.headers) lawful.lengths)))
           ∙ sym sum)
           (λ none. sum ∙ eqb-true (property_length r.headers + text_length r.headers) 0
           (sym (ap (λ b. b || property_length r.headers + text_length r.headers == 0) none) ∙ parts.there));

@@ -1,5 +1,5 @@
 -- The revisions of a dump, and the revisions of what is written of it.
-use Rattle.dump_history.proofs.Prelude.{◌≡◌, suc, ◌==◌, Bool, true, ◌||◌, map, MatchBool, refl, sym, ap, ◌∙◌, subst, take_while, if◌then◌else◌, list_all, eqb-true, take_while-cons, equals_itself, first_true, second_true, both_true, DumpRecord, Settings, KeptRevisions, is_revision_record, is_node, Group, groups, group_number, has_kept_node, is_bare, keeps_empty, first_number, keeps_group, kept_revisions, IsNewProperty, IsWrittenCopyNumber, Change, NewNumber, AreNewRevisions, names_none_behind, kept_from, kept_of, counts_from, names_revision, count_to_gap, HasNamingNode, HasNamingNodeBehind, Patching}
+use Rattle.dump_history.proofs.Prelude.{◌≡◌, suc, ◌==◌, Bool, true, ◌||◌, map, MatchBool, refl, sym, ap, ◌∙◌, subst, take_while, if◌then◌else◌, list_all, eqb-true, take_while-cons, equals_itself, first_true, second_true, and_from, DumpRecord, Settings, KeptRevisions, is_revision_record, is_node, Group, groups, group_number, has_kept_node, is_bare, keeps_empty, first_number, keeps_group, kept_revisions, IsNewProperty, IsWrittenCopyNumber, Change, NewNumber, AreNewRevisions, names_none_behind, kept_from, kept_of, counts_from, names_revision, count_to_gap, HasNamingNode, HasNamingNodeBehind, Patching}
 use Rattle.std.proofs.Common.{ℕ, false, List, [], ◌∷◌}
 use Rattle.dump_history.proofs.again.NodeChanges.{entries_kept}
 use Rattle.dump_history.proofs.again.NamingNodes.{none_named_behind}
@@ -18,7 +18,7 @@ all_nodes (r ∷ records) = cases (is_node r) refl (all_nodes records)
         → list_all is_node (take_while is_node (r ∷ records)) ≡ true
     cases true is more = ap (list_all is_node) (take_while-cons is_node r records
         ∙ ap (λ c. if c then r ∷ take_while is_node records else []) is)
-        ∙ both_true (is_node r) (list_all is_node (take_while is_node records)) is more
+        ∙ and_from (is_node r) (list_all is_node (take_while is_node records)) is more
     cases false is more = ap (list_all is_node) (take_while-cons is_node r records
         ∙ ap (λ c. if c then r ∷ take_while is_node records else []) is)
 
@@ -45,7 +45,7 @@ numbered_from n (g ∷ gs) counts =
 pub counted_from : (n : ℕ) (gs : List Group) → AreNumberedFrom n gs → counts_from n (map group_number gs) ≡ true
 counted_from n [] numbered = refl
 counted_from n (g ∷ gs) numbered =
-    both_true (group_number g == n) (counts_from (suc n) (map group_number gs))
+    and_from (group_number g == n) (counts_from (suc n) (map group_number gs))
     (ap (λ m. m == n) numbered.0 ∙ equals_itself n) (counted_from (suc n) gs numbered.1)
 
 -- the numbers of these groups are 0 and then those of these revisions, possibly with a gap

@@ -1,5 +1,5 @@
 -- What is written of a kept node, read again, makes the filtered change.
-use Rattle.dump_history.proofs.Prelude.{◌≡◌, Bool, true, not, ◌&&◌, ◌||◌, ◌==◌, refl, sym, ap, ◌∙◌, subst, bytes_eq, Option, None, is_some, unwrap_or, MatchBool, if◌then◌else◌, list_all, list_any, bytes_eq-Decides, action_name, node_kind_name, path_name, property_length_name, text_delta_name, prop_delta_name, has_byte, has_header, header_value, Property, first_true, second_true, both_true, not_true, absurd_bool, DumpRecord, has_prop_delta, has_text_delta, Settings, keeps_path, IsNewMergeinfo, KeptRevisions, is_mergeinfo, mergeinfo_name, value_of, is_node, is_copy, has_text, node_path, has_lost_source, property_list_once, AreNewProperties, IsNewProperty, is_whole_file, becomes_plain, IsWrittenCopyNumber, IsNodeAgain, IsReadAgain, path_of, is_short, keeps, Made, PropertyChange, TextChange, Change, KeepsEntries, edits_props, sets_whole_text, sets_whole, AreNewProps, IsNewMade, IsNewChange, keeps_text, Patching, has_known_action, deletes, makes, made_by_kind, copy_path, copied_from, made_of, property_change_of, text_change_of, has_undefined_delta, change_of, is_plain_line, loads_as_written, MakesChange}
+use Rattle.dump_history.proofs.Prelude.{◌≡◌, Bool, true, not, ◌&&◌, ◌||◌, ◌==◌, refl, sym, ap, ◌∙◌, subst, bytes_eq, Option, None, is_some, unwrap_or, MatchBool, if◌then◌else◌, list_all, list_any, bytes_eq-Decides, action_name, node_kind_name, path_name, property_length_name, text_delta_name, prop_delta_name, has_byte, has_header, header_value, Property, first_true, second_true, and_from, not-true, absurd_bool, DumpRecord, has_prop_delta, has_text_delta, Settings, keeps_path, IsNewMergeinfo, KeptRevisions, is_mergeinfo, mergeinfo_name, value_of, is_node, is_copy, has_text, node_path, has_lost_source, property_list_once, AreNewProperties, IsNewProperty, is_whole_file, becomes_plain, IsWrittenCopyNumber, IsNodeAgain, IsReadAgain, path_of, is_short, keeps, Made, PropertyChange, TextChange, Change, KeepsEntries, edits_props, sets_whole_text, sets_whole, AreNewProps, IsNewMade, IsNewChange, keeps_text, Patching, has_known_action, deletes, makes, made_by_kind, copy_path, copied_from, made_of, property_change_of, text_change_of, has_undefined_delta, change_of, is_plain_line, loads_as_written, MakesChange}
 use Rattle.std.proofs.Common.{ℕ, false, List, [], ◌∷◌, codes, Some}
 use Rattle.dump_history.proofs.again.NodeLines.{value_stays, text_there, props_there, plain_stays, HasNewSource, new_source, short_stays}
 
@@ -124,10 +124,10 @@ module _ (patched : Patching) (settings : Settings) (kept : KeptRevisions) (r s 
       let source = is_short (copy_path r) in
       let three = first_true (lines && names && is_short (node_path r)) source is in
       let two = first_true (lines && names) (is_short (node_path r)) three in
-      both_true (list_all is_plain_line s.headers && list_all is_plain_property a.new && is_short (node_path s))
+      and_from (list_all is_plain_line s.headers && list_all is_plain_property a.new && is_short (node_path s))
       (is_short (copy_path s))
-      (both_true (list_all is_plain_line s.headers && list_all is_plain_property a.new) (is_short (node_path s))
-      (both_true (list_all is_plain_line s.headers) (list_all is_plain_property a.new)
+      (and_from (list_all is_plain_line s.headers && list_all is_plain_property a.new) (is_short (node_path s))
+      (and_from (list_all is_plain_line s.headers) (list_all is_plain_property a.new)
       (plain_stays settings kept r s a (first_true lines names two))
       (plain_names settings kept a.old a.new a.new_props ∙ second_true lines names two))
       (ap is_short same_path ∙ second_true (lines && names) (is_short (node_path r)) three))
@@ -147,11 +147,11 @@ module _ (patched : Patching) (settings : Settings) (kept : KeptRevisions) (r s 
       by_case false is =
           let lost : has_lost_source settings r ≡ true = rw (copies, is) refl in
           absurd (absurd_bool (becomes_plain settings r)
-          (both_true (has_lost_source settings r) (is_whole_file r) lost (a.whole lost)) stays)
+          (and_from (has_lost_source settings r) (is_whole_file r) lost (a.whole lost)) stays)
 
   lost_source : becomes_plain settings r ≡ true → keeps settings (path_of (copy_path r)) ≡ false
   lost_source plain = keeps_text settings (copy_path r)
-      ∙ not_true (keeps_path settings (copy_path r))
+      ∙ not-true (keeps_path settings (copy_path r))
       (second_true (is_copy r) (not (keeps_path settings (copy_path r)))
       (first_true (has_lost_source settings r) (is_whole_file r) plain))
 
@@ -180,17 +180,17 @@ module _ (patched : Patching) (settings : Settings) (kept : KeptRevisions) (r s 
       (first_true (file && (has_text r && not (has_text_delta r))) _ whole) in
       rw (
         first_true (has_text r) (not (has_text_delta r)) both,
-        not_true (has_text_delta r) (second_true (has_text r) (not (has_text_delta r)) both),
+        not-true (has_text_delta r) (second_true (has_text r) (not (has_text_delta r)) both),
       ) refl
 
   whole_change : is_whole_file r ≡ true → sets_whole (node_change patched r a.old) ≡ true
   whole_change whole =
-      both_true (sets_whole_text (text_change_of patched r)) (not (edits_props (property_change_of r a.old)))
+      and_from (sets_whole_text (text_change_of patched r)) (not (edits_props (property_change_of r a.old)))
       (whole_text whole)
       (by_length (has_header property_length_name r.headers))
     where
       replaces : has_prop_delta r ≡ false
-      replaces = not_true (has_prop_delta r)
+      replaces = not-true (has_prop_delta r)
           (second_true (tells (header_value node_kind_name r.headers) (codes "file")
           && (has_text r && not (has_text_delta r))) (not (has_prop_delta r)) whole)
 

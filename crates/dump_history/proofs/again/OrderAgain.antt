@@ -1,5 +1,5 @@
 -- The records that are read again are in order: their nodes are in revisions.
-use Rattle.dump_history.proofs.Prelude.{◌≡◌, Bool, true, not, ◌||◌, refl, sym, ap, ◌∙◌, subst, or-true, first_true, second_true, both_true, absurd_bool, DumpRecord, Settings, KeptRevisions, is_revision_record, is_node, is_written, AllLawful, AreReadAgain, has_ordered_nodes}
+use Rattle.dump_history.proofs.Prelude.{◌≡◌, Bool, true, not, ◌||◌, refl, sym, ap, ◌∙◌, subst, or-true, first_true, second_true, and_from, absurd_bool, DumpRecord, Settings, KeptRevisions, is_revision_record, is_node, is_written, AllLawful, AreReadAgain, has_ordered_nodes}
 use Rattle.std.proofs.Common.{ℕ, false, List, [], ◌∷◌}
 use Rattle.dump_history.proofs.again.GroupsAgain.{Reads, keeps_first, keeps_first-node, dropped_behind, node_written}
 
@@ -48,7 +48,7 @@ module _ (settings : Settings) (kept : KeptRevisions) where
           let allowed = may (keeps_first-node settings kept r after true node
           ∙ ap (λ b. b || keeps_first settings kept after) keep) in
           ap (has_ordered_nodes may_again) same
-          ∙ both_true (not (is_node s) || may_again) (has_ordered_nodes (is_revision_record s || is_node s) more)
+          ∙ and_from (not (is_node s) || may_again) (has_ordered_nodes (is_revision_record s || is_node s) more)
           (ap (λ b. not (is_node s) || b) allowed ∙ or-true (not (is_node s)))
           (later (is_revision_record s || is_node s) more
           (λ first. ap (λ b. is_revision_record s || b) (read.node ∙ node)
@@ -60,7 +60,7 @@ module _ (settings : Settings) (kept : KeptRevisions) where
           ∙ ap (λ b. b || keeps_first settings kept after) drop ∙ first)) reads
       by_node false other true written (s, more, same, read, reads) later =
           ap (has_ordered_nodes may_again) same
-          ∙ both_true (not (is_node s) || may_again) (has_ordered_nodes (is_revision_record s || is_node s) more)
+          ∙ and_from (not (is_node s) || may_again) (has_ordered_nodes (is_revision_record s || is_node s) more)
           (ap (λ b. not b || may_again) (read.node ∙ other))
           (later (is_revision_record s || is_node s) more (λ first. now_open (is_revision_record r) refl first) reads)
         where

@@ -1,5 +1,5 @@
 -- What the new lines of a kept node keep of the old ones.
-use Rattle.dump_history.proofs.Prelude.{◌≡◌, ◌+◌, ◌<◌, ◌^◌, ◌==◌, Bool, true, ◌&&◌, ◌++◌, length, refl, ◌∙◌, arith, None, if◌then◌else◌, list_all, is_ascii_digit, digits_value, list_any-append, list_all-append, is_number, number_of, spelled_number, property_length_name, text_length_name, content_length_name, Header, has_byte, is_named, has_header, with_header_value, first_true, second_true, both_true, number_of-spelled, with_length, with_lengths, without_copy_headers, is_copy_line, put_has, is_plain_line}
+use Rattle.dump_history.proofs.Prelude.{◌≡◌, ◌+◌, ◌<◌, ◌^◌, ◌==◌, Bool, true, ◌&&◌, ◌++◌, length, refl, ◌∙◌, arith, None, if◌then◌else◌, list_all, is_ascii_digit, digits_value, list_any-append, list_all-append, is_number, number_of, spelled_number, property_length_name, text_length_name, content_length_name, Header, has_byte, is_named, has_header, with_header_value, first_true, second_true, and_from, number_of-spelled, with_length, with_lengths, without_copy_headers, is_copy_line, put_has, is_plain_line}
 use Rattle.std.proofs.Common.{ℕ, nat_lt, nat_le, false, List, [], ◌∷◌, Some}
 
 -- digits
@@ -32,7 +32,7 @@ pub plain_put : (name value : List ℕ) → has_byte 0 name ≡ false → has_by
     → list_all is_plain_line headers ≡ true → list_all is_plain_line (with_header_value name value headers) ≡ true
 plain_put name value plain_name plain_value [] all = refl
 plain_put name value plain_name plain_value (h ∷ headers) all =
-    both_true (is_plain_line (if is_named name h then record { name = name; value = value } else h))
+    and_from (is_plain_line (if is_named name h then record { name = name; value = value } else h))
     (list_all is_plain_line (with_header_value name value headers)) (one (is_named name h))
     (plain_put name value plain_name plain_value headers
     (second_true (is_plain_line h) (list_all is_plain_line headers) all))

@@ -1,5 +1,5 @@
 -- What is filtered names kept paths only.
-use Rattle.dump_history.proofs.Prelude.{◌≡◌, Bool, true, not, refl, ap, ◌∙◌, both_true, list_all, MatchBool-at_false, keeps, keeps_revision, Settings, Made, Change, NewProperty, NewNumber, IsNewMade, EmptyRule, AreNewChanges, AreNewRevisions}
+use Rattle.dump_history.proofs.Prelude.{◌≡◌, Bool, true, not, refl, ap, ◌∙◌, and_from, list_all, MatchBool-at_false, keeps, keeps_revision, Settings, Made, Change, NewProperty, NewNumber, IsNewMade, EmptyRule, AreNewChanges, AreNewRevisions}
 use Rattle.std.proofs.Common.{false, List, [], ◌∷◌, Option, Some, None}
 use Rattle.std.proofs.lemmas.Bool.{MatchBool-at_true}
 use Rattle.dump_trees.specs.Restriction.{is_lost}
@@ -33,8 +33,8 @@ module _ (settings : Settings) (IsNew : NewProperty) (IsNumber : NewNumber) wher
       sides later true kept =
           let (new, rest, is, is_new, more) = MatchBool-at_true _ _ kept are in
           ap (list_all (tells_kept_paths settings)) is
-          ∙ both_true (tells_kept_paths settings new) (list_all (tells_kept_paths settings) rest)
-          (both_true (keeps settings new.path) (not (is_lost settings new.made))
+          ∙ and_from (tells_kept_paths settings new) (list_all (tells_kept_paths settings) rest)
+          (and_from (keeps settings new.path) (not (is_lost settings new.made))
           (ap (keeps settings) is_new.path ∙ kept) (source_kept _ c.made new.made is_new.made))
           (later rest more)
       sides later false left = later written (MatchBool-at_false _ _ left are)
@@ -56,7 +56,7 @@ module _ (settings : Settings) (IsNew : NewProperty) (IsNumber : NewNumber) wher
       sides later true kept =
           let (new, rest, is, one, more) = MatchBool-at_true _ _ kept are in
           ap (list_all (λ cs. list_all (tells_kept_paths settings) cs)) is
-          ∙ both_true (list_all (tells_kept_paths settings) new)
+          ∙ and_from (list_all (tells_kept_paths settings) new)
           (list_all (λ cs. list_all (tells_kept_paths settings) cs) rest)
           (changes_tell changes new one) (later rest more)
       sides later false left = later written (MatchBool-at_false _ _ left are)

@@ -1,5 +1,5 @@
 -- Records with nodes after them: their text is a dump, which makes their changes and those of the nodes.
-use Rattle.dump_history.proofs.Prelude.{◌≡◌, Bool, true, not, ◌||◌, ◌++◌, drop, map, refl, sym, ap, ◌∙◌, subst, arith, take_while, AllZip, if◌then◌else◌, list_all, take_while-cons, or-true, first_true, second_true, both_true, not_so, absurd_bool, Ending, HasRecords, IsCutInto, DumpRecord, is_node, is_revision_record, has_header, alone, Group, group_of, groups, has_ordered_nodes, Change, Patching, MakesChange, MakeChanges, counts_from}
+use Rattle.dump_history.proofs.Prelude.{◌≡◌, Bool, true, not, ◌||◌, ◌++◌, drop, map, refl, sym, ap, ◌∙◌, subst, arith, take_while, AllZip, if◌then◌else◌, list_all, take_while-cons, or-true, first_true, second_true, and_from, false_from_ne_true, absurd_bool, Ending, HasRecords, IsCutInto, DumpRecord, is_node, is_revision_record, has_header, alone, Group, group_of, groups, has_ordered_nodes, Change, Patching, MakesChange, MakeChanges, counts_from}
 use Rattle.std.proofs.Common.{ℕ, false, List, [], ◌∷◌}
 use Rattle.dump_records.specs.DumpText.{HaveVersions, line_feeds}
 use Rattle.dump_text.specs.Names.{revision_name, path_name}
@@ -146,7 +146,7 @@ same_ordered may [] [] same order = order
 same_ordered may [] (y ∷ ys) same order = absurd same
 same_ordered may (x ∷ xs) [] same order = absurd same
 same_ordered may (x ∷ xs) (y ∷ ys) (one, same) order =
-    both_true (not (is_node y) || may) (has_ordered_nodes (is_revision_record y || is_node y) ys)
+    and_from (not (is_node y) || may) (has_ordered_nodes (is_revision_record y || is_node y) ys)
     (ap (λ h. not (has_header path_name h) || may) one.headers
     ∙ first_true (not (is_node x) || may) (has_ordered_nodes (is_revision_record x || is_node x) xs) order)
     (ap (λ h. has_ordered_nodes (has_header revision_name h || has_header path_name h) ys) one.headers
@@ -204,7 +204,7 @@ behind_ordered : (may_node : Bool) (records : List DumpRecord) (behind : List (L
 behind_ordered may_node [] behind may order = refl
 behind_ordered may_node (r ∷ records) [] may order = absurd may
 behind_ordered may_node (r ∷ records) (nodes ∷ behind) (one, may) order =
-    both_true (not (is_node r) || may_node) (has_ordered_nodes (is_revision_record r || is_node r) later)
+    and_from (not (is_node r) || may_node) (has_ordered_nodes (is_revision_record r || is_node r) later)
     (first_true (not (is_node r) || may_node) (has_ordered_nodes (is_revision_record r || is_node r) records) order)
     (cases (is_node r) refl (behind_ordered (is_revision_record r || is_node r) records behind may
     (second_true (not (is_node r) || may_node) (has_ordered_nodes (is_revision_record r || is_node r) records) order)))
@@ -287,7 +287,7 @@ module _ (patched : Patching) where
       no_nodes : is_revision_record r ≡ true → later ≡ records_behind records behind
       no_nodes rev =
           ap (λ (ns : List WrittenNode). map (node_record r.place r.version) ns ++ records_behind records behind)
-          (none_behind r nodes (not_so (is_node r) (λ node.
+          (none_behind r nodes (false_from_ne_true (is_node r) (λ node.
           absurd_bool (is_revision_record r) rev (alone fits.number r fits.lawful node))) one)
 
       cases : (b : Bool) → is_revision_record r ≡ b → (revisions : List (List Change))

@@ -1,5 +1,5 @@
 -- What remains of a node, and the nodes before it: they are nodes, break no rule, and make their changes.
-use Rattle.dump_history.proofs.Prelude.{◌≡◌, ◌+◌, ◌==◌, Bool, true, not, ◌&&◌, ◌||◌, ◌++◌, length, refl, sym, ap, ◌∙◌, subst, lit<, if◌then◌else◌, list_all, list_any, bytes_eq, Option, None, is_some, unwrap_or, option_and_then, number_of, header_number, first_true, second_true, both_true, first_false, second_false, not_so, or-true, has_byte, has_header, header_value, has_value, path_name, action_name, property_length_name, text_length_name, content_length_name, prop_delta_name, text_delta_name, node_kind_name, copy_path_name, copy_revision_name, is_block, IsCutInto, property_length, text_length, BeginsWithRecord, DumpRecord, record_text, is_lawful, Property, HasPropertyList, is_node, is_revision_record, is_copy, node_path, copy_path, is_copy_line, gone, put_has, put_own, put_change, alone, is_short, path_of, Made, PropertyChange, TextChange, Change, Patching, MakesChange, change_of, made_of, makes, copied_from, made_by_kind, is_plain_line, loads_as_written}
+use Rattle.dump_history.proofs.Prelude.{◌≡◌, ◌+◌, ◌==◌, Bool, true, not, ◌&&◌, ◌||◌, ◌++◌, length, refl, sym, ap, ◌∙◌, subst, lit<, if◌then◌else◌, list_all, list_any, bytes_eq, Option, None, is_some, unwrap_or, option_and_then, number_of, header_number, first_true, second_true, and_from, first_false, second_false, false_from_ne_true, or-true, has_byte, has_header, header_value, has_value, path_name, action_name, property_length_name, text_length_name, content_length_name, prop_delta_name, text_delta_name, node_kind_name, copy_path_name, copy_revision_name, is_block, IsCutInto, property_length, text_length, BeginsWithRecord, DumpRecord, record_text, is_lawful, Property, HasPropertyList, is_node, is_revision_record, is_copy, node_path, copy_path, is_copy_line, gone, put_has, put_own, put_change, alone, is_short, path_of, Made, PropertyChange, TextChange, Change, Patching, MakesChange, change_of, made_of, makes, copied_from, made_by_kind, is_plain_line, loads_as_written}
 use Rattle.std.proofs.Common.{ℕ, false, List, [], ◌∷◌, Some, codes, is_none}
 use Rattle.std.proofs.Math.Bool.{and-false}
 use Rattle.dump_records.specs.HeaderRules.{has_bad_kind, has_bad_version, has_bad_number, has_bad_lengths, is_one_alone}
@@ -30,7 +30,7 @@ lawful_node number r lawful node = record {
   node = node;
   no_revision = alone number r lawful node;
   no_version =
-      (no_others r.headers (not_so (has_bad_kind r.headers) (unique.keeps number r.headers lawful).kind)
+      (no_others r.headers (false_from_ne_true (has_bad_kind r.headers) (unique.keeps number r.headers lawful).kind)
       (ap (λ b. is_revision_record r || b) node ∙ or-true (is_revision_record r))).0;
 }
 
@@ -123,18 +123,18 @@ module _ (r s : DumpRecord) (fits : Fits r) (node : is_node r ≡ true) (touches
         there revision_name apart.revision,
         there path_name apart.node,
       )
-      (last (first_false _ _ (not_so (has_bad_kind r.headers) kept_rules.kind)))
+      (last (first_false _ _ (false_from_ne_true (has_bad_kind r.headers) kept_rules.kind)))
     where
       last : {b : Bool} → b ≡ false → (b || false) ≡ false
       last is = rw is refl
 
   new_version : has_bad_version fits.number s.headers ≡ false
   new_version = rw (there version_name apart.version, change.same version_name apart.version)
-      (not_so (has_bad_version fits.number r.headers) kept_rules.version)
+      (false_from_ne_true (has_bad_version fits.number r.headers) kept_rules.version)
 
   new_number : has_bad_number s.headers ≡ false
   new_number =
-      let numbers = not_so (has_bad_number r.headers) kept_rules.number_ok in
+      let numbers = false_from_ne_true (has_bad_number r.headers) kept_rules.number_ok in
       let revision : (has_header revision_name r.headers && is_none (header_number revision_name r.headers)) ≡ false =
       first_false _ _ numbers in
       rw (
@@ -164,7 +164,7 @@ module _ (r s : DumpRecord) (fits : Fits r) (node : is_node r ≡ true) (touches
         change.same text_length_name apart.text,
         change.same content_length_name apart.content,
       )
-      (not_so (has_bad_lengths r.headers) kept_rules.lengths)
+      (false_from_ne_true (has_bad_lengths r.headers) kept_rules.lengths)
 
   pub changed_fits : Fits s
   changed_fits = record {
@@ -190,14 +190,14 @@ source_lines : (r : DumpRecord) → Fits r → is_node r ≡ true
 source_lines r fits node =
     let both : (has_header path_name r.headers
     && is_one_alone (has_header copy_revision_name r.headers) (has_header copy_path_name r.headers)) ≡ false =
-    second_false _ _ (not_so (has_bad_kind r.headers) (unique.keeps fits.number r.headers fits.lawful).kind) in
+    second_false _ _ (false_from_ne_true (has_bad_kind r.headers) (unique.keeps fits.number r.headers fits.lawful).kind) in
     sym (ap (λ b. b
     && is_one_alone (has_header copy_revision_name r.headers) (has_header copy_path_name r.headers)) node) ∙ both
 
 source_number : (r : DumpRecord) → Fits r
     → (has_header copy_revision_name r.headers && is_none (header_number copy_revision_name r.headers)) ≡ false
 source_number r fits =
-    first_false _ _ (second_false _ _ (not_so (has_bad_number r.headers)
+    first_false _ _ (second_false _ _ (false_from_ne_true (has_bad_number r.headers)
     (unique.keeps fits.number r.headers fits.lawful).number_ok))
 
 -- a node that replaces fits
@@ -265,9 +265,9 @@ module _ (r s : DumpRecord) (touches : List ℕ → Bool) (change : IsChange tou
         let three = first_true (list_all is_plain_line r.headers && plain_names ps && is_short (node_path r))
         (is_short (copy_path r)) is in
         let two = first_true (list_all is_plain_line r.headers && plain_names ps) (is_short (node_path r)) three in
-        both_true (list_all is_plain_line s.headers && plain_names ps && is_short (node_path s)) (is_short (copy_path s))
-        (both_true (list_all is_plain_line s.headers && plain_names ps) (is_short (node_path s))
-        (both_true (list_all is_plain_line s.headers) (plain_names ps)
+        and_from (list_all is_plain_line s.headers && plain_names ps && is_short (node_path s)) (is_short (copy_path s))
+        (and_from (list_all is_plain_line s.headers && plain_names ps) (is_short (node_path s))
+        (and_from (list_all is_plain_line s.headers) (plain_names ps)
         (lines (first_true (list_all is_plain_line r.headers) (plain_names ps) two))
         (second_true (list_all is_plain_line r.headers) (plain_names ps) two))
         (ap (λ o. is_short (unwrap_or o [])) (change.same path_name node_stays)

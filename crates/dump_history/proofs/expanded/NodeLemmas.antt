@@ -1,5 +1,5 @@
 -- The nodes that are written in place of others are records of a dump, and make their changes.
-use Rattle.dump_history.proofs.Prelude.{◌≡◌, ◌+◌, ◌<◌, ◌^◌, ◌==◌, Bool, true, not, ◌&&◌, ◌++◌, length, Option, None, refl, sym, inl, arith, list_all, spelled_number, has_byte, Property, property_block_text, first_true, second_true, not_true, absurd_bool, number_of-spelled, equals_itself, subst, DumpRecord, record_text, is_lawful, BeginsWithRecord, HasPropertyList, is_short, Patching, MakesChange, change_of, loads_as_written}
+use Rattle.dump_history.proofs.Prelude.{◌≡◌, ◌+◌, ◌<◌, ◌^◌, ◌==◌, Bool, true, not, ◌&&◌, ◌++◌, length, Option, None, refl, sym, inl, arith, list_all, spelled_number, has_byte, Property, property_block_text, first_true, second_true, not-true, absurd_bool, number_of-spelled, equals_itself, subst, DumpRecord, record_text, is_lawful, BeginsWithRecord, HasPropertyList, is_short, Patching, MakesChange, change_of, loads_as_written}
 use Rattle.std.proofs.Common.{ℕ, false, List, [], Some}
 use Rattle.std.proofs.Math.Bool.{and-false}
 use Rattle.std.proofs.lemmas.Bool.{ltb-true}
@@ -16,8 +16,8 @@ record IsPlain (value : List ℕ) : Type 0 where
 
 plain : (value : List ℕ) → is_plain_value value ≡ true → IsPlain value
 plain value is = record {
-  no_lf = not_true (has_byte 10 value) (first_true (not (has_byte 10 value)) (not (has_byte 0 value)) is);
-  no_zero = not_true (has_byte 0 value) (second_true (not (has_byte 10 value)) (not (has_byte 0 value)) is);
+  no_lf = not-true (has_byte 10 value) (first_true (not (has_byte 10 value)) (not (has_byte 0 value)) is);
+  no_zero = not-true (has_byte 0 value) (second_true (not (has_byte 10 value)) (not (has_byte 0 value)) is);
 }
 
 -- a path that is read as it is
@@ -54,7 +54,7 @@ settings_of : (entries : List Property) → are_plain_entries entries ≡ true �
 settings_of entries is =
     let names = list_all (λ (p : Property). not (has_byte 0 p.name)) entries in record {
       names = first_true names (not (has_deletes entries)) is;
-      set = not_true (has_deletes entries) (second_true names (not (has_deletes entries)) is);
+      set = not-true (has_deletes entries) (second_true names (not (has_deletes entries)) is);
     }
 
 -- the conditions for each kind of node, one by one

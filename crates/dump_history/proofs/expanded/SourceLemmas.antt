@@ -1,5 +1,5 @@
 -- If an expanded form loses no source, the filter misses none.
-use Rattle.dump_history.proofs.Prelude.{map, ◌≡◌, Bool, true, not, ◌&&◌, ◌||◌, ◌++◌, refl, sym, ap, ◌∙◌, subst, take_while, AllZip, if◌then◌else◌, list_all, list_all-append, take_while-cons, first_true, second_true, both_true, absurd_bool, not_true, DumpRecord, Settings, keeps_path, is_node, is_kept_node, is_revision_record, is_copy, node_path, has_lost_source, is_whole_file, Group, group_of, groups, has_ordered_nodes, keeps, keeps_text, Change, Patching, MakesChange, MakeChanges, makes, copy_path, copied_from, made_by_kind, None, gone}
+use Rattle.dump_history.proofs.Prelude.{map, ◌≡◌, Bool, true, not, ◌&&◌, ◌||◌, ◌++◌, refl, sym, ap, ◌∙◌, subst, take_while, AllZip, if◌then◌else◌, list_all, list_all-append, take_while-cons, first_true, second_true, and_from, absurd_bool, not-true, DumpRecord, Settings, keeps_path, is_node, is_kept_node, is_revision_record, is_copy, node_path, has_lost_source, is_whole_file, Group, group_of, groups, has_ordered_nodes, keeps, keeps_text, Change, Patching, MakesChange, MakeChanges, makes, copy_path, copied_from, made_by_kind, None, gone}
 use Rattle.std.proofs.Common.{ℕ, false, List, [], ◌∷◌, Some, codes}
 use Rattle.std.proofs.Math.Bool.{and-false}
 use Rattle.dump_text.specs.Names.{copy_path_name}
@@ -52,15 +52,15 @@ module _ (settings : Settings) where
       → list_all is_free (map (node_record place version) nodes) ≡ true
   nodes_free place version [] = refl
   nodes_free place version (w ∷ nodes) =
-      both_true (is_free (node_record place version w)) (list_all is_free (map (node_record place version) nodes))
+      and_from (is_free (node_record place version w)) (list_all is_free (map (node_record place version) nodes))
       (written_free place version w) (nodes_free place version nodes)
 
   own_free : (r : DumpRecord) (own : OwnForm) → may_be_left r own ≡ true → takes_idle_source settings r own ≡ true
       → list_all is_free (own_records r own) ≡ true
-  own_free r OwnForm.AsItIs may free = both_true (is_free r) true free refl
-  own_free r OwnForm.WithoutSource may free = both_true (is_free (without_source r)) true
+  own_free r OwnForm.AsItIs may free = and_from (is_free r) true free refl
+  own_free r OwnForm.WithoutSource may free = and_from (is_free (without_source r)) true
       (no_copy_free (without_source r) (gone copy_path_name refl r.headers)) refl
-  own_free r OwnForm.Replacing may free = both_true (is_free (as_replacement r)) true
+  own_free r OwnForm.Replacing may free = and_from (is_free (as_replacement r)) true
       (making_free (as_replacement r)
       (replacing_adds r (second_true (is_node r) (has_action (codes "add") r) may))) refl
   own_free r OwnForm.LeftOut may free = refl
@@ -70,7 +70,7 @@ module _ (settings : Settings) where
   stand_free r stead again stand free =
       all_same_free (stead_records r stead) again stand.same
       ∙ list_all-append is_free (map (node_record r.place r.version) stead.nodes) (own_records r stead.own)
-      ∙ both_true (list_all is_free (map (node_record r.place r.version) stead.nodes))
+      ∙ and_from (list_all is_free (map (node_record r.place r.version) stead.nodes))
       (list_all is_free (own_records r stead.own)) (nodes_free r.place r.version stead.nodes)
       (own_free r stead.own (is_left r stead stand.may) free)
 
@@ -83,7 +83,7 @@ module _ (settings : Settings) where
   all_free (r ∷ records) [] again stand take = absurd stand
   all_free (r ∷ records) (stead ∷ steads) again (first, rest, is, here, more) (free, take) =
       ap (list_all is_free) is ∙ list_all-append is_free first rest
-      ∙ both_true (list_all is_free first) (list_all is_free rest) (stand_free r stead first here free)
+      ∙ and_from (list_all is_free first) (list_all is_free rest) (stand_free r stead first here free)
       (all_free records steads rest more take)
 
   free_at : (before after : List DumpRecord) (s : DumpRecord) → list_all is_free (before ++ s ∷ after) ≡ true
@@ -194,10 +194,10 @@ module _ (settings : Settings) where
 
         by_making : (b : Bool) → makes s ≡ b → ⊥
         by_making false idle = absurd_bool (has_idle_source settings s)
-            (both_true (is_kept_node settings s && has_lost_source settings s) (not (makes s))
-            (both_true (is_kept_node settings s) (has_lost_source settings s) keep lost)
+            (and_from (is_kept_node settings s && has_lost_source settings s) (not (makes s))
+            (and_from (is_kept_node settings s) (has_lost_source settings s) keep lost)
             (ap not idle))
-            (not_true (has_idle_source settings s) free)
+            (not-true (has_idle_source settings s) free)
         by_making true making =
             let change = (change_is patched s ps c is).1 in
             let made : c.made ≡ Some (copied_from s) = ap (λ (d : Change). d.made) (sym change)
@@ -210,8 +210,8 @@ module _ (settings : Settings) where
             ∙ ap not (keeps_text settings (copy_path s))
             ∙ second_true (is_copy s) (not (keeps_path settings (copy_path s))) lost in
             absurd_bool (keeps settings c.path && is_lost settings c.made)
-            (both_true (keeps settings c.path) (is_lost settings c.made) here there)
-            (not_true (keeps settings c.path && is_lost settings c.made) finds)
+            (and_from (keeps settings c.path) (is_lost settings c.made) here there)
+            (not-true (keeps settings c.path && is_lost settings c.made) finds)
 
 -- if the changes lose no source, no record in an expanded form misses its source
 none_is_missed : (patched : Patching) (settings : Settings) (records : List DumpRecord) (steads : List Stead)

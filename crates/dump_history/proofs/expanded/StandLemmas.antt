@@ -1,5 +1,5 @@
 -- What records have in common with the records that replace them.
-use Rattle.dump_history.proofs.Prelude.{◌≡◌, ◌==◌, Bool, true, not, ◌&&◌, ◌||◌, ◌++◌, map, refl, sym, ap, ◌∙◌, subst, unwrap_or, take_while, AllZip, if◌then◌else◌, list_all, take_while-cons, or-true, first_true, second_true, both_true, absurd_bool, has_header, path_name, header_number, DumpRecord, Property, HasPropertyList, is_node, is_revision_record, Group, group_number, groups, makes, has_ordered_nodes}
+use Rattle.dump_history.proofs.Prelude.{◌≡◌, ◌==◌, Bool, true, not, ◌&&◌, ◌||◌, ◌++◌, map, refl, sym, ap, ◌∙◌, subst, unwrap_or, take_while, AllZip, if◌then◌else◌, list_all, take_while-cons, or-true, first_true, second_true, and_from, absurd_bool, has_header, path_name, header_number, DumpRecord, Property, HasPropertyList, is_node, is_revision_record, Group, group_number, groups, makes, has_ordered_nodes}
 use Rattle.std.proofs.Common.{ℕ, false, List, [], ◌∷◌, codes}
 use Rattle.dump_text.specs.Names.{revision_name, version_name}
 use Rattle.dump_text.specs.PropertyList.{IsPropertyBlock}
@@ -230,6 +230,6 @@ same_order may (r ∷ records) (stead ∷ steads) again (fits, fit) (first, rest
     by_node false other done =
         let (s, one, same) = other_stands r stead first other here in
         ap (λ (l : List DumpRecord). has_ordered_nodes may (l ++ rest)) one
-        ∙ both_true (not (is_node s) || may) (has_ordered_nodes (is_revision_record s || is_node s) rest)
+        ∙ and_from (not (is_node s) || may) (has_ordered_nodes (is_revision_record s || is_node s) rest)
         (ap (λ h. not (has_header path_name h) || may) same.headers ∙ follows)
         (ap (λ h. has_ordered_nodes (has_header revision_name h || has_header path_name h) rest) same.headers ∙ done)

@@ -1,5 +1,5 @@
 -- The changes that replace a dump's changes are those of the records that replace its records.
-use Rattle.dump_history.proofs.Prelude.{◌≡◌, Bool, true, not, ◌++◌, drop, map, refl, sym, ap, ◌∙◌, subst, take_while, AllZip, if◌then◌else◌, list_all, take_while-cons, first_true, second_true, absurd_bool, not_so, not_true, has_header, path_name, change_of, loads_as_written, DumpRecord, is_node, is_revision_record, alone, Group, group_of, groups, Change, Patching, MakesChange, MakeChanges, MakeRevisions, makes, Ending, HasRecords, Settings, root_alone}
+use Rattle.dump_history.proofs.Prelude.{◌≡◌, Bool, true, not, ◌++◌, drop, map, refl, sym, ap, ◌∙◌, subst, take_while, AllZip, if◌then◌else◌, list_all, take_while-cons, first_true, second_true, absurd_bool, false_from_ne_true, not-true, has_header, path_name, change_of, loads_as_written, DumpRecord, is_node, is_revision_record, alone, Group, group_of, groups, Change, Patching, MakesChange, MakeChanges, MakeRevisions, makes, Ending, HasRecords, Settings, root_alone}
 use Rattle.std.proofs.Common.{ℕ, false, List, [], ◌∷◌, codes}
 use Rattle.dump_text.specs.Names.{revision_name}
 use Rattle.dump_history.specs.RecordChanges.{has_action}
@@ -65,7 +65,7 @@ module _ (patched : Patching) where
       → AllZip (MakesChange patched) (own_records r own) (own_changes own c)
   own_make r OwnForm.AsItIs c may make = (make, tt)
   own_make r OwnForm.WithoutSource c may make =
-      (bare_makes patched r (not_true (makes r) (second_true (is_node r) (not (makes r)) may)) c make, tt)
+      (bare_makes patched r (not-true (makes r) (second_true (is_node r) (not (makes r)) may)) c make, tt)
   own_make r OwnForm.Replacing c may make =
       (replacing_makes patched r (second_true (is_node r) (has_action (codes "add") r) may) c make, tt)
   own_make r OwnForm.LeftOut c may make = tt
@@ -156,7 +156,7 @@ module _ (patched : Patching) where
           → AllZip (MakeChanges patched) (groups (first ++ rest))
           (expanded_revisions (stead_groups (r ∷ records) (stead ∷ steads)) revisions)
       by_revision true rev revisions make later =
-          let other : is_node r ≡ false = not_so (is_node r) (λ node.
+          let other : is_node r ≡ false = false_from_ne_true (is_node r) (λ node.
           absurd_bool (is_revision_record r) rev (alone fits.number r fits.lawful node)) in
           let (s, one, same) = other_stands r stead first other here in
           let begins : groups (first ++ rest) ≡ group_of s rest ∷ groups rest =

@@ -1,6 +1,6 @@
 -- What is found in a node is found exactly: a node without an obstacle makes a change, and one without an alarm a quiet
 -- change.
-use Rattle.dump_history.proofs.Prelude.{◌≡◌, ◌⊎◌, ◌↔◌, ◌<◌, Bool, true, not, ◌&&◌, ◌||◌, ◌++◌, Option, None, is_some, option_map, cond, if◌then◌else◌, refl, sym, ap, ap₂, ◌∙◌, subst, inl, inr, Contains, IsTrue, arith, list_any, last_or, or-true, or_parts, or_cases, copy_revision_name, property_length_name, has_header, Property, CopyRevision, MergeSource, MergeRange, first_true, second_true, first_false, second_false, both_true, not_true, not_false, header_number, DumpRecord, has_prop_delta, Settings, HasMergeLines, KeptRevisions, new_number, last_kept, image, HasMissingSource, HasForeignNumber, value_reads, reads_exactly, found, finds, missing_there, missing_back, foreign_there, foreign_back, is_copy, is_kept_node, is_mergeinfo, value_of, node_path, HasPropertyList, HasPropertyBlock, HasBadMergeinfo, IsMergeinfoValueOf, property_list_once, block_or_not, kept_revisions, stays_copy, present_number, HasBadCopyRevision, HoldsOfRecord, path_of, Made, is_copied, PropertyChange, Change, cuts_alike, is_quiet_kept, is_quiet_dropped, is_quiet, keeps_text, Patching, has_known_action, deletes, makes, made_by_kind, copy_path, copied_from, made_of, property_change_of, has_undefined_delta, change_of, loads_as_written, MakesChange, begins_at, Finding, every_finding, NodeFaults, AreNodeFaultsOf, has_kept_path, has_kept_source, is_above_prefix, is_found, findings_of, IsReadBlock, is_obstacle, is_alarm, is_unread_value, names_missing_source, names_outside, has_up_to, is_missing_number, copy_refused, faults_read, copy_faults, no_node_faults, FindingsAreOnce, ObstaclesAreExact, AlarmsAreExact}
+use Rattle.dump_history.proofs.Prelude.{◌≡◌, ◌⊎◌, ◌↔◌, ◌<◌, Bool, true, not, ◌&&◌, ◌||◌, ◌++◌, Option, None, is_some, option_map, cond, if◌then◌else◌, refl, sym, ap, ap₂, ◌∙◌, subst, inl, inr, Contains, IsTrue, arith, list_any, last_or, or-true, or_parts, or_cases, copy_revision_name, property_length_name, has_header, Property, CopyRevision, MergeSource, MergeRange, first_true, second_true, first_false, second_false, and_from, not-true, not_from_false, header_number, DumpRecord, has_prop_delta, Settings, HasMergeLines, KeptRevisions, new_number, last_kept, image, HasMissingSource, HasForeignNumber, value_reads, reads_exactly, found, finds, missing_there, missing_back, foreign_there, foreign_back, is_copy, is_kept_node, is_mergeinfo, value_of, node_path, HasPropertyList, HasPropertyBlock, HasBadMergeinfo, IsMergeinfoValueOf, property_list_once, block_or_not, kept_revisions, stays_copy, present_number, HasBadCopyRevision, HoldsOfRecord, path_of, Made, is_copied, PropertyChange, Change, cuts_alike, is_quiet_kept, is_quiet_dropped, is_quiet, keeps_text, Patching, has_known_action, deletes, makes, made_by_kind, copy_path, copied_from, made_of, property_change_of, has_undefined_delta, change_of, loads_as_written, MakesChange, begins_at, Finding, every_finding, NodeFaults, AreNodeFaultsOf, has_kept_path, has_kept_source, is_above_prefix, is_found, findings_of, IsReadBlock, is_obstacle, is_alarm, is_unread_value, names_missing_source, names_outside, has_up_to, is_missing_number, copy_refused, faults_read, copy_faults, no_node_faults, FindingsAreOnce, ObstaclesAreExact, AlarmsAreExact}
 use Rattle.std.proofs.Common.{ℕ, false, List, [], ◌∷◌, filter, Some}
 use Rattle.std.specs.Prelude.{nat_lt, nat_le}
 use Rattle.dump_history.proofs.again.NodeChanges.{makes_change, node_change, change_is}
@@ -112,7 +112,7 @@ module _ (settings : Settings) (before : List DumpRecord) (r : DumpRecord) where
       sides : (number : ℕ) → (not (has_up_to number kept.numbers) || nat_lt present number) ≡ true
           → (image kept number ≡ None) ⊎ (present < number)
       sides number some = elim (or_cases (not (has_up_to number kept.numbers)) (nat_lt present number) some) [
-        | inl none ↦ inl (no_image kept number (not_true (has_up_to number kept.numbers) none))
+        | inl none ↦ inl (no_image kept number (not-true (has_up_to number kept.numbers) none))
         | inr above ↦ inr (grind (arith, above))
       ]
 
@@ -125,7 +125,7 @@ module _ (settings : Settings) (before : List DumpRecord) (r : DumpRecord) where
 
   copy_known : HasBadCopyRevision settings before r → copy_refused settings before r ≡ true
   copy_known (on, number, at, missing) =
-      both_true asked (is_missing_number (header_number copy_revision_name r.headers) kept.numbers present) on
+      and_from asked (is_missing_number (header_number copy_revision_name r.headers) kept.numbers present) on
       (ap (λ o. is_missing_number o kept.numbers present) at ∙ sides missing)
     where
       sides : (image kept number ≡ None) ⊎ (present < number)
@@ -154,12 +154,12 @@ module _ (settings : Settings) (before : List DumpRecord) (r : DumpRecord) (keep
         value_of p,
         own p within (first_true (is_mergeinfo p) _ so),
         λ has. let bad : true ≡ false = sym ((reads_exactly (value_of p)).1 has)
-            ∙ not_true (value_reads (value_of p)) (second_true (is_mergeinfo p) _ so) in cc,
+            ∙ not-true (value_reads (value_of p)) (second_true (is_mergeinfo p) _ so) in cc,
       )
 
   unread_back : HasBadMergeinfo settings r → list_any is_unread_value ps ≡ true
   unread_back (value, (kept, qs, other, p, within, is, same), none) =
-      finds is_unread_value ps p (within_own qs other p within) (both_true (is_mergeinfo p) (not (value_reads (value_of p))) is (not_false (value_reads (value_of p))
+      finds is_unread_value ps p (within_own qs other p within) (and_from (is_mergeinfo p) (not (value_reads (value_of p))) is (not_from_false (value_reads (value_of p))
       (refused (value_reads (value_of p)) refl)))
     where
       refused : (b : Bool) → value_reads (value_of p) ≡ b → value_reads (value_of p) ≡ false
@@ -181,7 +181,7 @@ module _ (settings : Settings) (before : List DumpRecord) (r : DumpRecord) (keep
   missing_known (value, (kept, qs, other, p, within, is, same), misses) =
       let here : HasMissingSource settings (value_of p) = subst (HasMissingSource settings) (sym same) misses in
       finds (names_missing_source settings) ps p (within_own qs other p within)
-      (both_true (is_mergeinfo p) _ is (both_true (value_reads (value_of p)) _
+      (and_from (is_mergeinfo p) _ is (and_from (value_reads (value_of p)) _
       ((reads_exactly (value_of p)).1 (here.1, here.2)) (missing_back settings (value_of p) here)))
 
   -- the number with which the dump begins, and the number of the present revision
@@ -208,7 +208,7 @@ module _ (settings : Settings) (before : List DumpRecord) (r : DumpRecord) (keep
       let here : HasForeignNumber settings revisions last (value_of p)
       = subst (HasForeignNumber settings revisions last) (sym same) names in
       finds (names_outside settings first last) ps p (within_own qs other p within)
-      (both_true (is_mergeinfo p) _ is (both_true (value_reads (value_of p)) _
+      (and_from (is_mergeinfo p) _ is (and_from (value_reads (value_of p)) _
       ((reads_exactly (value_of p)).1 (here.1, here.2)) (foreign_back settings revisions last (value_of p) here)))
 
   pub faults_of_kept : AreNodeFaultsOf settings before r
@@ -315,8 +315,8 @@ module _ (patched : Patching) (settings : Settings) (r : DumpRecord) (m : NodeFa
       let last = second_false (not (has_known_action r)) _ further in
       let known = not-false (has_known_action r) (first_false (not (has_known_action r)) _ further) in
       let plain = not-false (loads_as_written r ps) (first_false (not (loads_as_written r ps)) false last) in
-      let both = both_true (has_known_action r) (not (has_undefined_delta r)) known
-      (not_false (has_undefined_delta r) (first_false (has_undefined_delta r) _ all)) in
+      let both = and_from (has_known_action r) (not (has_undefined_delta r)) known
+      (not_from_false (has_undefined_delta r) (first_false (has_undefined_delta r) _ all)) in
       (node_change patched r ps, (ps, list, plain, change_made ps both))
 
   none_three : (a b c : Bool) → a ≡ false → b ≡ true → c ≡ true → (a || (not b || (not c || false))) ≡ false
@@ -329,7 +329,7 @@ module _ (patched : Patching) (settings : Settings) (r : DumpRecord) (m : NodeFa
       let made = (change_is patched r qs c is).0 in
       obstacles ps
       ∙ none_three (has_undefined_delta r) (has_known_action r) (loads_as_written r ps)
-      (not_true (has_undefined_delta r) (second_true (has_known_action r) (not (has_undefined_delta r)) made))
+      (not-true (has_undefined_delta r) (second_true (has_known_action r) (not (has_undefined_delta r)) made))
       (first_true (has_known_action r) (not (has_undefined_delta r)) made)
       (ap (loads_as_written r) (sym same) ∙ plain)
 

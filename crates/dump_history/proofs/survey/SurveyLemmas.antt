@@ -1,5 +1,5 @@
 -- If a survey finds nothing, the premise of the law of filtered dumps is true.
-use Rattle.dump_history.proofs.Prelude.{◌≡◌, zero, suc, Bool, true, not, ◌&&◌, ◌||◌, ◌==◌, ◌++◌, length, take_while, if◌then◌else◌, MatchBool, None, refl, sym, ap, ◌∙◌, subst, inl, append_assoc, AllZip, list_all, list_any, last_or, eqb-true, both_ways, nil_from_length, Order, first_true, second_true, first_false, second_false, both_true, not_true, not_so, DumpRecord, Settings, is_revision_record, is_node, Group, group_of, groups, revision_numbers, is_bare, ends_in_group, AreFaultFree, Change, is_quiet, are_quiet, Patching, MakesChange, counts_from, has_ordered_nodes, MakeChanges, MakeRevisions, NamesRevisionBehind, KeepsNamedNumbers, MakePartRevisions, Finding, begins_at, has_source_before, AreFindingsOf, is_obstacle, is_alarm, every_dump_finding, rise, first_has_node, is_found_in_dump, HasUnreadRevision, AreDumpFindingsOf, AreFindingsBehind, HaveFindingsBehind, none_is, RestrictsFrom, SurveyedDumpRestricts, SurveyedDumpFrontRestricts}
+use Rattle.dump_history.proofs.Prelude.{◌≡◌, zero, suc, Bool, true, not, ◌&&◌, ◌||◌, ◌==◌, ◌++◌, length, take_while, if◌then◌else◌, MatchBool, None, refl, sym, ap, ◌∙◌, subst, inl, append_assoc, AllZip, list_all, list_any, last_or, eqb-true, both_ways, nil_from_length, Order, first_true, second_true, first_false, second_false, and_from, not-true, false_from_ne_true, DumpRecord, Settings, is_revision_record, is_node, Group, group_of, groups, revision_numbers, is_bare, ends_in_group, AreFaultFree, Change, is_quiet, are_quiet, Patching, MakesChange, counts_from, has_ordered_nodes, MakeChanges, MakeRevisions, NamesRevisionBehind, KeepsNamedNumbers, MakePartRevisions, Finding, begins_at, has_source_before, AreFindingsOf, is_obstacle, is_alarm, every_dump_finding, rise, first_has_node, is_found_in_dump, HasUnreadRevision, AreDumpFindingsOf, AreFindingsBehind, HaveFindingsBehind, none_is, RestrictsFrom, SurveyedDumpRestricts, SurveyedDumpFrontRestricts}
 use Rattle.std.proofs.Common.{ℕ, false, List, [], ◌∷◌}
 use Rattle.dump_history.proofs.survey.FindingLemmas.{none_passes, obstacles_exact, alarms_exact}
 use Rattle.dump_history.proofs.survey.PartLemmas.{groups_lowered, lowered_quiet}
@@ -53,7 +53,7 @@ module _ (patched : Patching) (settings : Settings) where
       → AreFindingsOf settings before r found → not (list_any is_obstacle found) ≡ true
       → (c : Change) × MakesChange patched r c × (not (list_any is_alarm found) ≡ true → is_quiet settings c ≡ true)
   node_change_is before r found (ps, m, read, faults, same) none =
-      let no_obstacle = ap (λ fs. list_any is_obstacle fs) (sym same) ∙ not_true (list_any is_obstacle found) none in
+      let no_obstacle = ap (λ fs. list_any is_obstacle fs) (sym same) ∙ not-true (list_any is_obstacle found) none in
       let made = (obstacles_exact patched settings r ps m read).0 no_obstacle in (
         made.0,
         made.1,
@@ -74,7 +74,7 @@ module _ (patched : Patching) (settings : Settings) where
       let more = nodes_change rs found all.1 (second_true (not (list_any is_obstacle f)) _ none) in (
         one.0 ∷ more.0,
         (one.1, more.1),
-        λ quiet. both_true (is_quiet settings one.0) (list_all (is_quiet settings) more.0)
+        λ quiet. and_from (is_quiet settings one.0) (list_all (is_quiet settings) more.0)
             (one.2 (first_true (not (list_any is_alarm f)) _ quiet))
             (more.2 (second_true (not (list_any is_alarm f)) _ quiet)),
       )
@@ -95,7 +95,7 @@ module _ (patched : Patching) (settings : Settings) where
       (second_true (list_all (λ node. not (list_any is_obstacle node)) f) (none_is is_obstacle found) none) in (
         one.0 ∷ more.0,
         (one.1, more.1),
-        λ quiet. both_true (list_all (is_quiet settings) one.0)
+        λ quiet. and_from (list_all (is_quiet settings) one.0)
             (are_quiet settings more.0)
             (one.2 (first_true (list_all (λ node. not (list_any is_alarm node)) f) (none_is is_alarm found) quiet))
             (more.2 (second_true (list_all (λ node. not (list_any is_alarm node)) f) (none_is is_alarm found) quiet)),
@@ -122,7 +122,7 @@ module _ (patched : Patching) (settings : Settings) where
         more.1,
         (one.1, more.2),
         ap suc more.3,
-        λ quiet. both_true (list_all (is_quiet settings) one.0)
+        λ quiet. and_from (list_all (is_quiet settings) one.0)
             (are_quiet settings more.0)
             (one.2 (first_true (list_all (λ node. not (list_any is_alarm node)) f) (none_is is_alarm found) quiet))
             (more.4 (second_true (list_all (λ node. not (list_any is_alarm node)) f) (none_is is_alarm found) quiet)),
@@ -141,10 +141,10 @@ module _ (settings : Settings) (all : List DumpRecord) (free : AreFaultFree sett
       → has_ordered_nodes (ends_in_group (last_or None before)) rest ≡ true
   order_behind before [] at = refl
   order_behind before (r ∷ rest) at =
-      both_true (not (is_node r) || ends_in_group (last_or None before))
+      and_from (not (is_node r) || ends_in_group (last_or None before))
       (has_ordered_nodes (is_revision_record r || is_node r) rest)
       (may_stand (is_node r) (ends_in_group (last_or None before))
-      (not_so (is_node r && not (ends_in_group (last_or None before))) (λ out. free before rest r at Order (inl out))))
+      (false_from_ne_true (is_node r && not (ends_in_group (last_or None before))) (λ out. free before rest r at Order (inl out))))
       (subst (λ o. has_ordered_nodes (ends_in_group o) rest ≡ true) (last_or_pushed None before r)
       (order_behind (before ++ r ∷ []) rest (at ∙ sym (append_assoc before (r ∷ []) rest))))
 

@@ -1,6 +1,6 @@
 -- The expanded form of the example dump, filtered and trimmed: a copy stays, and after it a file is deleted that the
 -- copy takes to an excluded path.
-use Rattle.dump_history.proofs.Prelude.{◌≡◌, ◌+◌, ◌<◌, ◌^◌, true, ◌++◌, length, refl, ap, ◌∙◌, subst, inl, inr, None, arith, lit<, cond, bytes_eq, slice_get, drop, Contains, AllZip, Exclude, Pad, Settings, Ending, HasRecords, NoFault, copy_revision_name, with_header_value, property_block_text, Property, DumpRecord, record_text, HasPropertyList, LengthsFit, kept_revisions, HoldsOfRecord, AreFaultFree, IsWrittenBlock, IsWrittenText, IsCleanText, AreNewProperties, IsNewProperty, IsNewNode, property_list_once, path_of, NodePath, Node, Tree, root_alone, put, Change, Patching, LoadsAs, map, not, both_ways, first_true, not_true, list_all, keeps, sym}
+use Rattle.dump_history.proofs.Prelude.{◌≡◌, ◌+◌, ◌<◌, ◌^◌, true, ◌++◌, length, refl, ap, ◌∙◌, subst, inl, inr, None, arith, lit<, cond, bytes_eq, slice_get, drop, Contains, AllZip, Exclude, Pad, Settings, Ending, HasRecords, NoFault, copy_revision_name, with_header_value, property_block_text, Property, DumpRecord, record_text, HasPropertyList, LengthsFit, kept_revisions, HoldsOfRecord, AreFaultFree, IsWrittenBlock, IsWrittenText, IsCleanText, AreNewProperties, IsNewProperty, IsNewNode, property_list_once, path_of, NodePath, Node, Tree, root_alone, put, Change, Patching, LoadsAs, map, not, both_ways, first_true, not-true, list_all, keeps, sym}
 use Rattle.std.proofs.Common.{ℕ, Bool, false, List, [], ◌∷◌, Some, codes}
 use Rattle.std.specs.Fmt.{digits}
 use Rattle.dump_trees.specs.Trees.{at_top}
@@ -595,7 +595,7 @@ not_another (nodes, rest, rests, listed, deleted, trimmed, more) =
         ≡ deletion_of (path_of (codes "branch") ++ r) ∷ deletions (path_of (codes "branch")) rests = some in cc) in
         let at : path_of (codes "branch/new") ≡ path_of (codes "branch") ++ r = ap (λ (d : Change). d.path) first in
         absurd (both_ways (keeps settings (path_of (codes "branch") ++ r))
-        (not_true (keeps settings (path_of (codes "branch") ++ r))
+        (not-true (keeps settings (path_of (codes "branch") ++ r))
         (first_true (not (keeps settings (path_of (codes "branch") ++ r)))
         (list_all (λ more. not (keeps settings (path_of (codes "branch") ++ more))) rests) cover.left))
         (ap (keeps settings) (sym at)))

@@ -1,5 +1,5 @@
 -- The queues of a pool, and their first passes.
-use Rattle.std.specs.Prelude.{◌≡◌, true, false, [], length, All}
+use Rattle.std.specs.Prelude.{◌≡◌, false, [], length, All}
 use Rattle.std.specs.Arc.{arc_value}
 use Rattle.crossbeam_queue.specs.Passes.{view, IsPassOf}
 use Rattle.dump_lanes.specs.declared.passes.TheConstants.{PARTS}

@@ -1,6 +1,6 @@
 -- A value has a fault if a line's path isn't kept, or a line whose path is kept has a number that the dump can't have.
-use Rattle.dump_rules.proofs.Prelude.{◌≡◌, ◌⊎◌, ℕ, ◌<◌, zero, suc, Bool, true, false, not, ◌&&◌, ◌||◌, List, [], ◌∷◌, nat_lt, refl, sym, ap, subst, ◌∙◌, inl, inr, arith, Some, None, Option, Contains, list_any, Any-from_list_any, list_any-from_Any, All-contains, All-contains_itself, All-filter, filter_passes, both_ways, cases_Bool, AllZip, and_parts, or_right, or_cases, or_left, lt-ltb, ltb-true, not_true, not_false, Settings, keeps_path, KeptRevisions, Range, HasNumber, range_of, range_parts, MergeLine, IsMergeLine, IsMergeinfo, HasMergeLines, without_lf, value_reads, staying_lines, HasMissingSource, HasForeignNumber, HaveNumbers, ranges_of, with_range, list_ranges, line_list, line_misses, text_misses, range_foreign, part_foreign, list_foreign, line_foreign, text_foreign}
-use Rattle.dump_text.proofs.BoolLemmas.{both_true as both}
+use Rattle.std.proofs.lemmas.Bool.{and_from as both}
+use Rattle.dump_rules.proofs.Prelude.{◌≡◌, ◌⊎◌, ℕ, ◌<◌, zero, suc, Bool, true, false, not, ◌&&◌, ◌||◌, List, [], ◌∷◌, nat_lt, refl, sym, ap, subst, ◌∙◌, inl, inr, arith, Some, None, Option, Contains, list_any, Any-from_list_any, list_any-from_Any, All-contains, All-contains_itself, All-filter, filter_passes, both_ways, cases_Bool, AllZip, and_parts, or_right, or_cases, or_left, lt-ltb, ltb-true, not-true, not_from_false, Settings, keeps_path, KeptRevisions, Range, HasNumber, range_of, range_parts, MergeLine, IsMergeLine, IsMergeinfo, HasMergeLines, without_lf, value_reads, staying_lines, HasMissingSource, HasForeignNumber, HaveNumbers, ranges_of, with_range, list_ranges, line_list, line_misses, text_misses, range_foreign, part_foreign, list_foreign, line_foreign, text_foreign}
 use Rattle.dump_rules.proofs.reading.MergeinfoLemmas.{reads_exactly}
 use Rattle.dump_rules.proofs.new_values.RunsLaw.{have_numbers}
 use Rattle.dump_rules.proofs.new_values.ValueLemmas.{line_parts, texts_are}
@@ -44,16 +44,16 @@ pub missing_there : (settings : Settings) (value : List ℕ) → HasMergeLines v
 missing_there settings value has e =
     let parts = and_parts (not settings.skip_missing) _ (sym (misses_is settings value has.0 has.1) ∙ e) in
     let some = found (λ (line : MergeLine). not (keeps_path settings line.path)) has.0 parts.1 in
-    (not_true settings.skip_missing parts.0, has.0, has.1, some.0, some.1, not_true _ some.2)
+    (not-true settings.skip_missing parts.0, has.0, has.1, some.0, some.1, not-true _ some.2)
 
 -- the test finds a missing source in each value that has one
 pub missing_back : (settings : Settings) (value : List ℕ) → HasMissingSource settings value
     → text_misses settings (without_lf value) ≡ true
 missing_back settings value (skip, lines, is, line, within, misses) =
     misses_is settings value lines is
-    ∙ both _ _ (not_false settings.skip_missing skip)
+    ∙ both _ _ (not_from_false settings.skip_missing skip)
     (finds (λ (l : MergeLine). not (keeps_path settings l.path)) lines line within
-    (not_false (keeps_path settings line.path) misses))
+    (not_from_false (keeps_path settings line.path) misses))
 
 -- foreign numbers
 
@@ -109,7 +109,7 @@ number_there settings first now (r ∷ rest) have some =
         | inr under ↦
             let parts = and_parts (not settings.skip_missing) (nat_lt r.from first) under in
             let low = ltb-true r.from first parts.1 in
-            (r.inheritable, r.from, inl (refl, omega arith, order), inr (not_true settings.skip_missing parts.0, low))
+            (r.inheritable, r.from, inl (refl, omega arith, order), inr (not-true settings.skip_missing parts.0, low))
       ]
       | inr more ↦
           let later = number_there settings first now rest have.1 more in (later.0, later.1, inr later.2, later.3)
@@ -126,7 +126,7 @@ number_back settings first now (r ∷ rest) kind number (inl has) (inl over) =
 number_back settings first now (r ∷ rest) kind number (inl has) (inr under) =
     let low = has.1 in
     let lower = under.1 in
-    or_left _ _ (or_right _ _ (both _ _ (not_false settings.skip_missing under.0) (lt-ltb r.from first (omega arith))))
+    or_left _ _ (or_right _ _ (both _ _ (not_from_false settings.skip_missing under.0) (lt-ltb r.from first (omega arith))))
 
 -- lines whose paths are kept
 

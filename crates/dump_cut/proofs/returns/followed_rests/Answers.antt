@@ -1,4 +1,4 @@
-use Rattle.std.proofs.Common.{◌≡◌, ◌++◌, ◌&&◌, arith, take, filter, is_some, map, not, sym, ap, ap₂, ◌∙◌}
+use Rattle.std.proofs.Common.{◌≡◌, ◌++◌, ◌&&◌, take, filter, is_some, map, not, sym, ap, ap₂, ◌∙◌}
 use Rattle.std.proofs.lemmas.List.{take_all}
 use Rattle.dump_trees.specs.Following.{from_of}
 use Rattle.dump_trees.specs.Paths.{names_of}

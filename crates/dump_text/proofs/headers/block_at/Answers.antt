@@ -1,5 +1,5 @@
+use Rattle.std.proofs.lemmas.Bool.{and_from}
 use Rattle.dump_text.proofs.Prelude.{◌≡◌, [], ◌∷◌, ◌++◌, ◌&&◌, length, true, refl, sym, ap, ◌∙◌, subst, eqb-true, known_names, name_text, all_names, noted_span, may_follow, IsSpanOf, header_value, lines_bytes}
-use Rattle.dump_text.proofs.BoolLemmas.{both_true}
 use Rattle.dump_text.proofs.ScanLemmas.{lines_behind, lines_more, all_more, is_line, lines_end, clash, no_line_here}
 use Rattle.dump_text.proofs.BlockLemmas.{counts_once, once_more, block_end, no_block-lines, no_block-once, no_block-empty}
 use Rattle.dump_text.proofs.ValueLemmas.{none_noted, line_of}
@@ -55,7 +55,7 @@ loop-whole-preserved c =
       hs ++ h ∷ [],
       lines_more _ _ _ _ hs h is c.in-Some.ensures cut,
       all_more hs h all (is_line _ _ _ c.in-Some.ensures.one_line cut),
-      once_more hs h ∙ both_true _ _ follows once,
+      once_more hs h ∙ and_from _ _ follows once,
       c.note.ensures.noted c.args.dump.now hs c.in-Some-name_and_value.value.now are c.before-in-Some.ensures c.if-not-note.false,
     )
 

@@ -4,7 +4,7 @@ use Rattle.dump_index.specs.InOrder.{ends_in_slash}
 use Rattle.dump_index.specs.Children.{stands_in}
 use Rattle.dump_index.proofs.ChildLemmas.{name_at, bare_child, child_kind, stands_more, stands_same}
 use Rattle.dump_index.proofs.index.ChangeIndex.standing.Goals as goal
-use Rattle.dump_index.proofs.index.ChangeIndex.standing.Goals.{After-deref, then-is_some+in_ok-push, else-is_some}
+use Rattle.dump_index.proofs.index.ChangeIndex.standing.Goals.{then-is_some+in_ok-push, else-is_some}
 
 pub kind_at-requires : goal.kind_at-requires
 kind_at-requires c =

@@ -1,4 +1,4 @@
-use Rattle.std.proofs.Common.{◌≡◌, ◌||◌, ℕ, Bool, List, Option, Some, None, true, false, ap, ap₂, sym, subst, ◌∙◌}
+use Rattle.std.proofs.Common.{◌≡◌, ◌||◌, ℕ, Option, Some, None, ap, ap₂, sym, ◌∙◌}
 use Rattle.dump_index.specs.Settings.{latest_for, sets_at, Unset}
 use Rattle.dump_index.specs.steps.Touching.{shapes, later}
 use Rattle.dump_index.specs.steps.Looks.{is_place}

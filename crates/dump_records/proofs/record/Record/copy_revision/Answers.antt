@@ -1,4 +1,4 @@
-use Rattle.dump_records.proofs.Prelude.{◌≡◌, ℕ, Bool, true, false, if◌then◌else◌, List, Option, None, refl, ap, ◌∙◌, option_and_then, number_of, not_so, path_name, copy_revision_name, has_header, header_value, record_item}
+use Rattle.dump_records.proofs.Prelude.{◌≡◌, ℕ, Bool, true, false, if◌then◌else◌, List, Option, None, refl, ap, ◌∙◌, option_and_then, number_of, false_from_ne_true, path_name, copy_revision_name, has_header, header_value, record_item}
 use Rattle.dump_records.proofs.HeaderLemmas.{copy_both}
 use Rattle.dump_records.proofs.RecordLemmas.{copy_has}
 use Rattle.dump_records.proofs.Unique.{keeps}
@@ -15,5 +15,5 @@ returns-in-None c =
     let r = c.args.self.now in
     let headers = (record_item r).headers in
     ap (option_and_then number_of) (c.in-None.ensures.value ∙ copy_has r copy_revision_name
-    (λ node none. copy_both headers (not_so _ (keeps r.number headers r.stands.lawful).kind) node ∙ none))
+    (λ node none. copy_both headers (false_from_ne_true _ (keeps r.number headers r.stands.lawful).kind) node ∙ none))
     ∙ number_of_part (has_header path_name headers) (header_value copy_revision_name headers)

@@ -1,5 +1,5 @@
+use Rattle.std.proofs.lemmas.Bool.{and_from}
 use Rattle.dump_text.proofs.Prelude.{◌≡◌, ◌&&◌, false, [], sym, ap, ◌∙◌, inr, is_some, bytes_eq, property_value, entry_property}
-use Rattle.dump_text.proofs.BoolLemmas.{both_true}
 use Rattle.dump_text.proofs.PropertyLemmas.{entry_parts, left_of, value_here, value_behind, value_between, rest_between, property_block_once, value_there, no_value_there}
 use Rattle.dump_text.proofs.props.Props.get.Goals as goal
 use Rattle.dump_text.proofs.props.Props.get.Goals.{else-not-entry-via-then-not-entry+else-eq, else-not-entry-via-else-not-entry}
@@ -12,7 +12,7 @@ returns-then-eq-clause-value c = λ ps is.
     let left = left_of _ p _ qs (entry_parts _ text _ p cut one) here in
     let set = value_there c.in-Some.entry c.if-not-entry.true in
     sym (same ∙ ap (property_value c.args.name.now) left.list
-    ∙ value_here c.args.name.now p left.others (both_true _ _ (sym c.eq.ensures ∙ c.if-eq.true) (ap is_some set)) ∙ set)
+    ∙ value_here c.args.name.now p left.others (and_from _ _ (sym c.eq.ensures ∙ c.if-eq.true) (ap is_some set)) ∙ set)
 
 pub returns-then-eq-clause-lent : goal.returns-then-eq-clause-lent
 returns-then-eq-clause-lent c =
