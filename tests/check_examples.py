@@ -14,9 +14,9 @@ It also looks at the pages: whether man shows the examples as they are, whether 
 format and the survey's each line of docs/SURVEY.md, whether the cases that docs/DIFFERENCES.md names show what it says of
 Subversion's own tool, and whether those in a column Case of a table in docs/ exist.
 
-The page of a crate, at the head of its src/lib.rt, has examples of public calls. The paragraph after an example begins with
-the name of the function in the crate's tests, or in those of another crate, that has these lines. A line '// ..' is in place
-of lines that the page omits. The last line is 'N passed, M failed'.
+The page of a library that tests call, at the head of its src/lib.rt, has examples of public calls. The paragraph after an
+example begins with the name of the function in the crate's tests, or in those of another crate, that has these lines. A
+line '// ..' is in place of lines that the page omits. The last line is 'N passed, M failed'.
 """
 import glob
 import os
@@ -27,7 +27,7 @@ import sys
 import tempfile
 
 sys.path.insert(0, os.path.join(os.path.dirname(__file__), "..", "tools"))
-from repository import cases, ended, installed_names, lacking, path as path_to, programs, read
+from repository import cases, ended, installed_names, lacking, libraries, path as path_to, programs, read
 
 # the names by which the programs are installed, by their own words
 NAMES = installed_names("svndumpfilter-proved")
@@ -282,12 +282,13 @@ def wrong_example(text, name, crate):
 def wrong_on_crate_pages():
     """What is wrong with the examples on the pages of the crates."""
     found = []
+    texts = [text for crate in libraries() for text in test_sources(crate).values()]
     for file in sorted(glob.glob(path_to("crates", "*", "src", "lib.rt"))):
         crate = file.split(os.sep)[-3]
         page = "".join(line[3:].removeprefix(" ") for line in read(file).splitlines(True) if line.startswith("//!"))
         blocks = BLOCK.findall(page)
-        if not blocks and any("#[test]" in it for it in test_sources(crate).values()):
-            found.append(f"the page of {crate} has no example")
+        if not blocks and any(re.search(rf"^use {crate}::", it, re.MULTILINE) for it in texts):
+            found.append(f"the page of {crate} has no example, and tests call the crate")
         found += [f"the page of {crate}: {it}" for block in blocks if (it := wrong_example(block[0], block[1], block[2] or crate))]
     return found
 
