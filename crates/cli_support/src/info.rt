@@ -31,8 +31,7 @@ pub fn info_of(words: &[&str]) -> Option<Info>
 fn info_in(line: &[&str]) -> Option<Info>
     ensures { result ≡ info_in (map (λ word. word.now) line.now) }
 {
-    let mut left = line;
-    while let [word, others @ ..] = left {
+    for word in line {
         if *word == "--" {
             return None;
         }
@@ -40,7 +39,6 @@ fn info_in(line: &[&str]) -> Option<Info>
         if info.is_some() {
             return info;
         }
-        left = others;
     }
     None
 }

@@ -54,10 +54,8 @@ pub fn with_texts<'a>(
     ensures { IfOk result (λ all. map (λ prefix. prefix.now) all.items ≡ map (λ prefix. prefix.now) prefixes.entry.items ++ prefixes_of_texts (map (λ text. text.items) texts.now)) }
 {
     let mut all = prefixes;
-    let mut left = texts;
-    while let [text, others @ ..] = left {
+    for text in texts {
         all = with_text(all, text.as_slice())?;
-        left = others;
     }
     Ok(all)
 }

@@ -1,10 +1,10 @@
 -- What the reading of a dump's changes says of the dump.
-use Rattle.std.proofs.Common.{◌≡◌, ◌≤◌, ◌-◌, ◌⊎◌, ℕ, Bool, true, false, List, [], ◌∷◌, ◌++◌, drop, get_or, take, length, map, Option, Some, None, refl, sym, ap, ap₂, ◌∙◌, subst, inl, inr, arith, append-nil, append_assoc}
+use Rattle.std.proofs.Common.{◌≡◌, ◌≤◌, ◌<◌, ◌+◌, ◌⊎◌, ℕ, Bool, true, false, List, [], ◌∷◌, ◌++◌, drop, get_or, take, length, map, Option, Some, None, refl, sym, ap, ap₂, ◌∙◌, subst, inl, inr, arith, append-nil, append_assoc}
 use Rattle.std.specs.Prelude.{MatchBool, MatchOption}
 use Rattle.std.specs.List.{list_all}
 use Rattle.std.proofs.Math.Seq.{take-length}
 use Rattle.std.proofs.lemmas.Bool.{and_parts}
-use Rattle.std.proofs.lemmas.List.{length-map, map-append, take-append-drop, take-append-le, take-map, take_rest}
+use Rattle.std.proofs.lemmas.List.{drop_more, length-map, map-append, take-append-drop, take-append-le, take-map, take_all, take_more}
 use Rattle.std.proofs.lemmas.List.Folds.{list_all-append}
 use Rattle.dump_records.specs.DumpText.{Ending, HasRecords}
 use Rattle.dump_records.specs.RecordText.{DumpRecord}
@@ -266,26 +266,19 @@ front_in_order drops dump known stop listed (begins, up_to) ordered is = (
     by None are = subst (AreChangesOf dump) (sym is) (in_order_known dump known are ordered)
     by (Some reason) un = un
 
--- the changes that are known so far, and those that are left
-pub record KnownSoFar (all changes left : List NodeChange) : Type 0 where
-  pub before : List NodeChange
-  pub parts : all ≡ before ++ left
-  pub same : without changes ≡ without before
+-- these are the changes up to this place, but for the numbers that are corrected
+abbrev pub KnownSoFar : List NodeChange → List NodeChange → ℕ → Type 0
+KnownSoFar all changes place = without changes ≡ without (take place all)
 
-pub one_more_known : (all changes more left : List NodeChange) (d known : NodeChange) → 1 ≤ length left
-    → KnownSoFar all changes left → without_number (listed_of known) ≡ without_number (listed_of (get_or left 0 d))
-    → more ≡ changes ++ known ∷ [] → KnownSoFar all more (take (length left - 1) (drop 1 left))
-one_more_known all changes more [] d known some so_far its more_is = absurd (omega arith)
-one_more_known all changes more (c ∷ left) d known some so_far its more_is = record {
-  before = so_far.before ++ c ∷ [];
-  parts =
-      so_far.parts ∙ sym (append_assoc so_far.before (c ∷ []) left)
-      ∙ ap (λ cs. (so_far.before ++ c ∷ []) ++ cs) (sym (take_rest (c ∷ left) 1));
-  same =
-      ap without more_is ∙ pushed changes known
-      ∙ ap₂ (λ ls l. ls ++ l ∷ []) so_far.same its
-      ∙ sym (pushed so_far.before c);
-}
+pub one_more_known : (all changes more seen : List NodeChange) (place : ℕ) (d known : NodeChange) → seen ≡ all
+    → place < length seen → KnownSoFar all changes place
+    → without_number (listed_of known) ≡ without_number (listed_of (get_or seen place d))
+    → more ≡ changes ++ known ∷ [] → KnownSoFar all more (place + 1)
+one_more_known all changes more seen place d known is low so_far its more_is =
+    ap without more_is ∙ (pushed changes known
+    ∙ (ap₂ (λ ls l. ls ++ l ∷ []) so_far (its ∙ ap (λ cs. without_number (listed_of (get_or cs place d))) is)
+    ∙ sym (ap without (take_more all place d (subst (λ cs. place < length cs) is low))
+    ∙ pushed (take place all) (get_or all place d))))
   where
     pushed : (cs : List NodeChange) (c : NodeChange)
         → without (cs ++ c ∷ []) ≡ without cs ++ without_number (listed_of c) ∷ []
@@ -293,15 +286,18 @@ one_more_known all changes more (c ∷ left) d known some so_far its more_is = r
         ap (map without_number) (map-append listed_of cs (c ∷ []))
         ∙ map-append without_number (map listed_of cs) (listed_of c ∷ [])
 
-pub all_known : (all changes left : List NodeChange) → length left ≡ 0 → KnownSoFar all changes left
-    → without changes ≡ without all
-all_known all changes [] none so_far = so_far.same ∙ ap without (sym (so_far.parts ∙ append-nil so_far.before))
-all_known all changes (c ∷ left) none so_far = absurd (omega arith)
+pub all_known : (all changes seen : List NodeChange) (place : ℕ) → seen ≡ all → length seen ≤ place
+    → KnownSoFar all changes place → without changes ≡ without all
+all_known all changes seen place is high so_far =
+    so_far ∙ ap without (take_all place all (subst (λ cs. length cs ≤ place) is high))
 
-pub unknown_next : (drops : Bool) (dump : List ℕ) (reading : Reading) (changes left : List NodeChange) (d : NodeChange)
-    (reason : Unread) → reading.numbered ≡ false → 1 ≤ length left → KnownSoFar reading.changes.items changes left
-    → IsUnknownFor drops (listed_of (get_or left 0 d)) reason → IsReadingOfDump dump reading
-    → AreKnownUpTo drops dump changes (Some reason)
-unknown_next drops dump reading changes [] d reason isnt some so_far unknown read = absurd (omega arith)
-unknown_next drops dump reading changes (c ∷ left) d reason isnt some so_far unknown read =
-    known_before drops dump reading read isnt changes so_far.before c left so_far.same so_far.parts reason unknown
+pub unknown_next : (drops : Bool) (dump : List ℕ) (reading : Reading) (changes seen : List NodeChange) (place : ℕ)
+    (d : NodeChange) (reason : Unread) → reading.numbered ≡ false → seen ≡ reading.changes.items → place < length seen
+    → KnownSoFar reading.changes.items changes place → IsUnknownFor drops (listed_of (get_or seen place d)) reason
+    → IsReadingOfDump dump reading → AreKnownUpTo drops dump changes (Some reason)
+unknown_next drops dump reading changes seen place d reason isnt is low so_far unknown read =
+    let all = reading.changes.items in
+    known_before drops dump reading read isnt changes (take place all) (get_or all place d) (drop (place + 1) all) so_far
+    (sym (take-append-drop place all)
+    ∙ ap (λ rest. take place all ++ rest) (drop_more all place d (subst (λ cs. place < length cs) is low))) reason
+    (subst (λ cs. IsUnknownFor drops (listed_of (get_or cs place d)) reason) is unknown)

@@ -111,11 +111,9 @@ fn lines_of(alloc: Global, fates: &[RevisionFate], after: Option<u64>) -> io::Re
 {
     let mut text = Vec::new(alloc);
     let mut last = None;
-    let mut left = fates;
-    while let [fate, others @ ..] = left {
+    for fate in fates {
         push_shown(&mut text, after, last, *fate)?;
         last = last_after(last, *fate);
-        left = others;
     }
     Ok(text)
 }

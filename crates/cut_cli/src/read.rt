@@ -91,8 +91,7 @@ fn known_changes<'a>(alloc: Global, reading: Reading<'a>, drop: bool) -> Result<
         });
     }
     let mut changes = Vec::new(alloc);
-    let mut left = reading.changes.as_slice();
-    while let [change, others @ ..] = left {
+    for change in &reading.changes {
         match known_change(&reading.numbers, change, drop) {
             Ok(known) => changes.push(known)?,
             Err(unread) => {
@@ -100,7 +99,6 @@ fn known_changes<'a>(alloc: Global, reading: Reading<'a>, drop: bool) -> Result<
                 return Ok(Known { changes, stop });
             }
         }
-        left = others;
     }
     Ok(Known { changes, stop })
 }

@@ -117,12 +117,10 @@ fn read_named<'a, E: Write>(
 fn is_one_empty(prefixes: &[&[u8]]) -> bool
     ensures { result ≡ list_any is_empty (map (λ prefix. prefix.now) prefixes.now) }
 {
-    let mut left = prefixes;
-    while let [prefix, others @ ..] = left {
+    for prefix in prefixes {
         if prefix.is_empty() {
             return true;
         }
-        left = others;
     }
     false
 }

@@ -1,23 +1,21 @@
 -- Texts that end in a slash or don't, and texts of paths below others.
-use Rattle.std.proofs.Common.{◌≡◌, ℕ, zero, suc, Bool, true, false, List, [], ◌∷◌, ◌++◌, length, drop, nat_eq, bytes_eq, append-nil, refl, sym, ◌∙◌, ◌≢◌}
+use Rattle.std.proofs.Common.{◌≡◌, ◌≤◌, ◌==◌, ◌-◌, ℕ, zero, suc, Bool, true, false, List, [], ◌∷◌, ◌++◌, length, drop, get_or, nat_eq, arith, bytes_eq, append-nil, refl, sym, ap, ◌∙◌, ◌≢◌}
 use Rattle.std.proofs.lemmas.Bool.{and_parts}
 use Rattle.dump_trees.specs.Paths.{names_of}
 use Rattle.dump_index.specs.InOrder.{ends_in_slash}
 use Rattle.dump_index.specs.steps.Touching.{goes_on, stands_over, rest_text, joined_text}
 use Rattle.dump_trees.proofs.paths.CanonicalLemmas.{split_joined}
 
--- whether the last byte is a slash; if there is none, this
-abbrev pub ends_from : Bool → List ℕ → Bool
-ends_from last [] = last
-ends_from last (b ∷ text) = ends_from (nat_eq b 47) text
-
-ends_more : (b : ℕ) (text : List ℕ) → ends_in_slash (b ∷ text) ≡ ends_from (nat_eq b 47) text
-ends_more b [] = refl
-ends_more b (c ∷ text) = ends_more c text
-
-pub ends_first : (text : List ℕ) → ends_in_slash text ≡ ends_from false text
-ends_first [] = refl
-ends_first (b ∷ text) = ends_more b text
+-- whether the last byte is a slash, if there is one
+pub ends_last : (text : List ℕ) (d : ℕ) → 1 ≤ length text
+    → (get_or text (length text - 1) d == 47) ≡ ends_in_slash text
+ends_last [] d some = absurd (omega arith)
+ends_last (b ∷ []) d some = refl
+ends_last (b ∷ c ∷ text) d some =
+    let last : length (b ∷ c ∷ text) - 1 ≡ suc (length text) = omega arith in
+    let before : length (c ∷ text) - 1 ≡ length text = omega arith in
+    ap (λ n. get_or (b ∷ c ∷ text) n d == 47) last
+    ∙ (sym (ap (λ n. get_or (c ∷ text) n d == 47) before) ∙ ends_last (c ∷ text) d (omega arith))
 
 ends_tail : (b : ℕ) (text : List ℕ) → ends_in_slash (b ∷ text) ≡ false → ends_in_slash text ≡ false
 ends_tail b [] is = refl

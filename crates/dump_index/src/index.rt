@@ -65,13 +65,11 @@ pub fn first_out_of_order(changes: &[NodeChange<'_>]) -> Option<usize>
     ensures { IsFirstOutOfOrder changes.now result }
 {
     let mut least = 0;
-    let mut left = changes;
-    while let [change, others @ ..] = left {
+    for (place, change) in changes.iter().enumerate() {
         if !comes_in_order(least, change) {
-            return Some(changes.len() - left.len());
+            return Some(place);
         }
         least = change.revision;
-        left = others;
     }
     None
 }

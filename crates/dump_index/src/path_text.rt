@@ -11,13 +11,10 @@ use std::alloc::Global;
 pub fn ends_in_slash(text: &[u8]) -> bool
     ensures { result ≡ ends_in_slash text.now }
 {
-    let mut ends = false;
-    let mut rest = text;
-    while let [byte, behind @ ..] = rest {
-        ends = *byte == b'/';
-        rest = behind;
+    match text {
+        [.., byte] => *byte == b'/',
+        [] => false,
     }
-    ends
 }
 
 /// The text that follows a top and a slash in the path; empty if no text follows.
@@ -62,16 +59,12 @@ pub fn top_of(alloc: Global, path: &[u8]) -> Result<Vec<u8>, Memory>
 fn name_end(text: &[u8]) -> usize
     ensures { result ≡ name_end text.now }
 {
-    let mut end = 0;
-    let mut rest = text;
-    while let [byte, behind @ ..] = rest {
+    for (end, byte) in text.iter().enumerate() {
         if *byte == b'/' {
             return end;
         }
-        end += 1;
-        rest = behind;
     }
-    end
+    text.len()
 }
 
 /// How a path compares with the text with which the paths below a directory begin, the top.

@@ -1,7 +1,7 @@
 -- The place of --map in a line, and the line without it.
-use Rattle.survey_cli.proofs.Prelude.{◌≡◌, ◌≤◌, ◌||◌, ◌+◌, ◌-◌, ◌++◌, ◌∷◌, ◌∙◌, ℕ, suc, true, false, List, [], Option, Some, None, ap, ap₂, arith, codes, drop, drop-map, Bor, map, map-append, sym, take-map, get_or, is_some, length, list_any, subst, take, option_map, refl, bytes_eq, filter_call_of, survey_of, call_of_line, call_of_words, filter_line, filter_command, is_line_of, is_line_taken_by, is_survey_call, is_taken_call, place_of_map, without, ReadsAsFilter, ReadsMapAnywhere, or_parts, Bool}
+use Rattle.survey_cli.proofs.Prelude.{◌≡◌, ◌<◌, ◌≤◌, ◌||◌, ◌+◌, ◌-◌, ◌++◌, ◌∷◌, ◌∙◌, ℕ, suc, true, false, List, [], Option, Some, None, ap, ap₂, arith, codes, drop, drop-map, Bor, map, map-append, sym, take-map, get_or, is_some, length, list_any, subst, take, option_map, refl, bytes_eq, filter_call_of, survey_of, call_of_line, call_of_words, filter_line, filter_command, is_line_of, is_line_taken_by, is_survey_call, is_taken_call, place_of_map, without, ReadsAsFilter, ReadsMapAnywhere, or_parts, Bool}
 use Rattle.clap.specs.Words.{Text}
-use Rattle.std.proofs.lemmas.List.{take_rest}
+use Rattle.std.proofs.lemmas.List.{drop_more}
 
 -- a place among the words left, counted from the line's front
 abbrev pub after : ℕ → Option ℕ → Option ℕ
@@ -55,38 +55,28 @@ without_words place line =
     ∙ ap₂ (λ front rest. front ++ rest) (sym (take-map (λ (word : Bor Text). word.now) place line))
     (sym (drop-map (λ (word : Bor Text). word.now) (place + 1) line))
 
--- after so many words without --map or two minus signs, these words of the line are left
-abbrev pub IsLooking : List (Bor Text) → ℕ → List (Bor Text) → Type 0
-IsLooking line count left = (count + length left ≡ length line)
-    × (place_of_map (map (λ (word : Bor Text). word.now) line)
-    ≡ after count (place_of_map (map (λ (word : Bor Text). word.now) left)))
+-- none of the words up to this place is --map or two minus signs
+abbrev pub IsLooking : List (Bor Text) → ℕ → Type 0
+IsLooking line count = place_of_map (map (λ (word : Bor Text). word.now) line)
+    ≡ after count (place_of_map (map (λ (word : Bor Text). word.now) (drop count line)))
 
-pub looking_begins : (line : List (Bor Text)) → IsLooking line 0 line
-looking_begins line = (omega arith, sym (from_front (place_of_map (map (λ (word : Bor Text). word.now) line))))
+pub looking_begins : (line : List (Bor Text)) → IsLooking line 0
+looking_begins line = sym (from_front (place_of_map (map (λ (word : Bor Text). word.now) line)))
 
 word_passed : (word : Text) (words : List Text) → bytes_eq word (codes "--") ≡ false → bytes_eq word (codes "--map") ≡ false
     → place_of_map (word ∷ words) ≡ option_map suc (place_of_map words)
 word_passed word words no_end no_map = rw no_end (rw no_map refl)
 
-module _ (line : List (Bor Text)) (count : ℕ) (none : Bor Text) where
-  one_passed : (left : List (Bor Text)) → 1 ≤ length left → IsLooking line count left
-      → bytes_eq (get_or left 0 none).now (codes "--") ≡ false
-      → bytes_eq (get_or left 0 none).now (codes "--map") ≡ false
-      → IsLooking line (count + 1) (drop 1 left)
-  one_passed [] some looking no_end no_map = absurd (omega arith)
-  one_passed (word ∷ left) some (size, place) no_end no_map = (
-    omega (arith, size),
-    place
-        ∙ ap (after count) (word_passed word.now (map (λ (w : Bor Text). w.now) left) no_end no_map)
-        ∙ one_more count (place_of_map (map (λ (w : Bor Text). w.now) left)),
-  )
-
-  pub looking_goes_on : (left : List (Bor Text)) → 1 ≤ length left → IsLooking line count left
-      → bytes_eq (get_or left 0 none).now (codes "--") ≡ false
-      → bytes_eq (get_or left 0 none).now (codes "--map") ≡ false
-      → IsLooking line (count + 1) (take (length left - 1) (drop 1 left))
-  looking_goes_on left some looking no_end no_map =
-      subst (IsLooking line (count + 1)) (sym (take_rest left 1)) (one_passed left some looking no_end no_map)
+pub looking_goes_on : (line : List (Bor Text)) (count : ℕ) (d : Bor Text) → count < length line → IsLooking line count
+    → bytes_eq (get_or line count d).now (codes "--") ≡ false
+    → bytes_eq (get_or line count d).now (codes "--map") ≡ false
+    → IsLooking line (count + 1)
+looking_goes_on line count d low looking no_end no_map =
+    looking
+    ∙ (ap (λ left. after count (place_of_map (map (λ (word : Bor Text). word.now) left))) (drop_more line count d low)
+    ∙ (ap (after count) (word_passed (get_or line count d).now (map (λ (w : Bor Text). w.now) (drop (count + 1) line))
+    no_end no_map)
+    ∙ one_more count (place_of_map (map (λ (w : Bor Text). w.now) (drop (count + 1) line)))))
 
 -- what words ask for, and whether they are accepted, by the line that is read without --map
 pub record IsReadAs (words : List Text) (map : Bool) (rest : List Text) : Type 0 where

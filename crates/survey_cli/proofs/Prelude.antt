@@ -1,5 +1,5 @@
 -- The words of std, of the definitions and of the lemmas below, for the proofs of this crate.
-pub use Rattle.std.proofs.Common.{Bool, Err, IfErr, IfOk, IfSome, List, MatchBool, None, Ok, OnErr, Option, Result, Some, [], ap, ap₂, append_assoc, arith, codes, drop, false, get_or, inl, inr, is_some, length, map, refl, rules, subst, suc, sym, take, true, ℕ, ◌+◌, ◌-◌, ◌≤◌, ◌++◌, ◌||◌, ◌∙◌, ◌∷◌, ◌≡◌}
+pub use Rattle.std.proofs.Common.{Bool, Err, IfErr, IfOk, IfSome, List, MatchBool, None, Ok, OnErr, Option, Result, Some, [], ap, ap₂, append_assoc, arith, codes, drop, false, get_or, inl, inr, is_some, length, map, refl, rules, subst, suc, sym, take, true, ℕ, ◌+◌, ◌-◌, ◌<◌, ◌≤◌, ◌++◌, ◌||◌, ◌∙◌, ◌∷◌, ◌≡◌}
 pub use Rattle.std.proofs.KnownBytes.{Appends-kept, Appends-trans}
 pub use Rattle.std.proofs.lemmas.Bool.{or_parts}
 pub use Rattle.std.proofs.lemmas.List.{drop-map, map-append, take-map}

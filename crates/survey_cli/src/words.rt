@@ -44,17 +44,13 @@ fn place_of_map(line: &[&str]) -> Option<usize>
     ensures place { result ≡ place_of_map (map (λ word. word.now) line.now) }
     ensures inside { IfSome result (λ place. place < length line.now) }
 {
-    let mut place = 0;
-    let mut left = line;
-    while let [word, others @ ..] = left {
+    for (place, word) in line.iter().enumerate() {
         if *word == "--" {
             return None;
         }
         if *word == "--map" {
             return Some(place);
         }
-        place += 1;
-        left = others;
     }
     None
 }

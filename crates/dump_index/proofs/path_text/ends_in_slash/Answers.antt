@@ -1,5 +1,5 @@
-use Rattle.dump_index.proofs.SlashLemmas.{ends_first}
+use Rattle.dump_index.proofs.SlashLemmas.{ends_last}
 use Rattle.dump_index.proofs.path_text.ends_in_slash.Goals as goal
 
-pub loop-rest-init : goal.loop-rest-init
-loop-rest-init c = ends_first c.args.text.now
+pub returns-in-len1-up : goal.returns-in-len1-up
+returns-in-len1-up c = ends_last c.args.text.now _ c.in-len1-up.len_at_least
