@@ -1,10 +1,10 @@
 -- The counts of the findings, one finding after the other.
-use Rattle.dump_survey.proofs.Prelude.{◌≡◌, ◌<◌, ℕ, ◌+◌, ◌==◌, Bool, true, false, not, ◌&&◌, ◌||◌, List, [], ◌∷◌, length, get_or, take-length, cond, refl, sym, ap, subst, ◌∙◌, arith, list_any, and_parts, not-true, inl, inr, Finding, every_finding, Counts, Found, finding_place, AreWithNode, count_in, has_found}
-use Rattle.std.proofs.Common.{lit<, ◌≤◌, ◌-◌, take, drop, slice_index_or, slice_set}
+use Rattle.dump_survey.proofs.Prelude.{◌≡◌, ◌<◌, ℕ, ◌+◌, ◌==◌, Bool, true, false, not, ◌&&◌, ◌||◌, List, [], ◌∷◌, length, cond, refl, sym, ap, subst, ◌∙◌, list_any, and_parts, not-true, inl, inr, Finding, every_finding, Counts, Found, finding_place, AreWithNode, count_in, has_found}
+use Rattle.std.proofs.Common.{lit<, ◌≤◌, drop, slice_index_or, slice_set}
 use denote.Enum.Declared.{tag_of}
 use Rattle.dump_history.specs.contracts.findings.Finding as in_node
 use Rattle.std.proofs.lemmas.Bool.{cases_Bool, eqb-false}
-use Rattle.std.proofs.lemmas.List.{get_or-set_same, get_or-set_other, length-set}
+use Rattle.std.proofs.lemmas.List.{drop_all, drop_more, get_or-set_same, get_or-set_other, length-set}
 use Rattle.dump_survey.proofs.KindLemmas.{same_place}
 use Rattle.dump_history.specs.declared.findings.Finding.TheVariants as findings
 use Rattle.dump_text.proofs.BoolLemmas.{equals_itself}
@@ -22,18 +22,6 @@ is_each_once (f ∷ left) = not (is_among left f) && is_each_once left
 abbrev pub AreCounted : Counts → Found → List Finding → List ℕ → Type 0
 AreCounted old found left times = (f : Finding) → count_in (record { times = times }) f
     ≡ cond (has_found found f && not (is_among left f)) (count_in old f + 1) (count_in old f)
-
-all_among : (f : Finding) → is_among every_finding f ≡ true
-all_among findings.UnreadBlock = refl
-all_among f = refl
-
-pub none_counted_yet : (old : Counts) (found : Found) → AreCounted old found every_finding old.times
-none_counted_yet old found f = sym (ap (λ b. cond (has_found found f && not b) (count_in old f + 1) (count_in old f)) (all_among f)
-    ∙ none (has_found found f))
-  where
-    none : (b : Bool) → cond (b && false) (count_in old f + 1) (count_in old f) ≡ count_in old f
-    none true = refl
-    none false = refl
 
 module _ (old : Counts) (found : Found) (g : Finding) (left : List Finding) (times : List ℕ)
     (once : is_each_once (g ∷ left) ≡ true) (are : AreCounted old found (g ∷ left) times) where
@@ -94,11 +82,6 @@ place_of_tag : (f : Finding) → tag_of in_node.the_type f ≡ finding_place f
 place_of_tag findings.UnreadBlock = refl
 place_of_tag f = refl
 
--- what is left behind the first one
-rest_of : (g : Finding) (left : List Finding) → take (length (g ∷ left) - 1) left ≡ left
-rest_of g left =
-    ap (λ n. take n left) (let e : length (g ∷ left) - 1 ≡ length left = omega arith in e) ∙ take-length left
-
 -- the state of the count: these findings are left
 pub record IsCounting (old : Counts) (found : Found) (left : List Finding) (times : List ℕ) : Type 0 where
   pub once : is_each_once left ≡ true
@@ -109,51 +92,56 @@ in_table : (f : Finding) → tag_of in_node.the_type f < length every_finding
 in_table findings.UnreadBlock = lit< tt
 in_table f = lit< tt
 
-pub counting_found : (old : Counts) (found : Found) (left : List Finding) (d : Finding) (times : List ℕ)
-    → 1 ≤ length left → IsCounting old found left times → has_found found (get_or left 0 d) ≡ true
-    → IsCounting old found (take (length left - 1) (drop 1 left)) (slice_set times (tag_of in_node.the_type (get_or left 0 d))
-    (slice_index_or times (tag_of in_node.the_type (get_or left 0 d)) 0 + 1))
-counting_found old found [] d times some so_far has = absurd (omega arith)
-counting_found old found (g ∷ left) d times some so_far has = record {
-  once = ap is_each_once (rest_of g left) ∙ once_left old found g left times so_far.once so_far.counted;
+counted_next : (old : Counts) (found : Found) (g : Finding) (left : List Finding) (times : List ℕ)
+    → IsCounting old found (g ∷ left) times → has_found found g ≡ true
+    → IsCounting old found left (slice_set times (tag_of in_node.the_type g)
+    (slice_index_or times (tag_of in_node.the_type g) 0 + 1))
+counted_next old found g left times so_far has = record {
+  once = once_left old found g left times so_far.once so_far.counted;
   size = length-set times (tag_of in_node.the_type g) _ ∙ so_far.size;
   counted =
-      subst (λ l. AreCounted old found l (slice_set times (tag_of in_node.the_type g)
-      (slice_index_or times (tag_of in_node.the_type g) 0 + 1))) (sym (rest_of g left))
-      (subst (λ i. AreCounted old found left (slice_set times i (slice_index_or times i 0 + 1))) (sym (place_of_tag g))
+      subst (λ i. AreCounted old found left (slice_set times i (slice_index_or times i 0 + 1))) (sym (place_of_tag g))
       (counted_first old found g left times so_far.once so_far.counted has
       (subst (λ i. i < length times) (place_of_tag g)
-      (subst (λ n. tag_of in_node.the_type g < n) (sym so_far.size) (in_table g)))));
+      (subst (λ n. tag_of in_node.the_type g < n) (sym so_far.size) (in_table g))));
 }
 
-pub counting_passed : (old : Counts) (found : Found) (left : List Finding) (d : Finding) (times : List ℕ)
-    → 1 ≤ length left → IsCounting old found left times → has_found found (get_or left 0 d) ≡ false
-    → IsCounting old found (take (length left - 1) (drop 1 left)) times
-counting_passed old found [] d times some so_far has = absurd (omega arith)
-counting_passed old found (g ∷ left) d times some so_far has = record {
-  once = ap is_each_once (rest_of g left) ∙ once_left old found g left times so_far.once so_far.counted;
+passed_next : (old : Counts) (found : Found) (g : Finding) (left : List Finding) (times : List ℕ)
+    → IsCounting old found (g ∷ left) times → has_found found g ≡ false → IsCounting old found left times
+passed_next old found g left times so_far has = record {
+  once = once_left old found g left times so_far.once so_far.counted;
   size = so_far.size;
-  counted =
-      subst (λ l. AreCounted old found l times) (sym (rest_of g left))
-      (passed_first old found g left times so_far.once so_far.counted has);
+  counted = passed_first old found g left times so_far.once so_far.counted has;
 }
 
--- before the first one
-pub counting_begins : (old : Counts) (found : Found) (left : List Finding) → left ≡ every_finding
-    → length old.times ≡ length every_finding → IsCounting old found left old.times
-counting_begins old found left is size = record {
-  once = ap is_each_once is;
-  size = size;
-  counted = subst (λ l. AreCounted old found l old.times) (sym is) (none_counted_yet old found);
-}
+-- the finding at this place, of a list of all findings
+module _ (old : Counts) (found : Found) (place : ℕ) (d : Finding) (times : List ℕ) (all : List Finding)
+    (are : all ≡ every_finding) (low : place < length all)
+    (so_far : IsCounting old found (drop place every_finding) times) where
+  first_left : IsCounting old found (slice_index_or all place d ∷ drop (place + 1) every_finding) times
+  first_left =
+      subst (λ left. IsCounting old found left times)
+      (ap (drop place) (sym are) ∙ (drop_more all place d low
+      ∙ ap (λ left. slice_index_or all place d ∷ drop (place + 1) left) are)) so_far
+
+  pub counting_found : has_found found (slice_index_or all place d) ≡ true
+      → IsCounting old found (drop (place + 1) every_finding)
+      (slice_set times (tag_of in_node.the_type (slice_index_or all place d))
+      (slice_index_or times (tag_of in_node.the_type (slice_index_or all place d)) 0 + 1))
+  counting_found has = counted_next old found (slice_index_or all place d) (drop (place + 1) every_finding) times first_left has
+
+  pub counting_passed : has_found found (slice_index_or all place d) ≡ false
+      → IsCounting old found (drop (place + 1) every_finding) times
+  counting_passed has = passed_next old found (slice_index_or all place d) (drop (place + 1) every_finding) times first_left has
 
 -- after the last one
-pub counting_ends : (old new : Counts) (found : Found) (left : List Finding) → length left < 1
-    → IsCounting old found left new.times → AreWithNode old found new
-counting_ends old new found [] short all = λ f. all.counted f ∙ by f (has_found found f)
+pub counting_ends : (old new : Counts) (found : Found) (place : ℕ) → length every_finding ≤ place
+    → IsCounting old found (drop place every_finding) new.times → AreWithNode old found new
+counting_ends old new found place high all =
+    λ f. (subst (λ left. IsCounting old found left new.times) (drop_all place every_finding high) all).counted f
+    ∙ by f (has_found found f)
   where
     by : (f : Finding) (b : Bool)
         → cond (b && true) (count_in old f + 1) (count_in old f) ≡ cond b (count_in old f + 1) (count_in old f)
     by f true = refl
     by f false = refl
-counting_ends old new found (g ∷ left) short all = absurd (omega arith)

@@ -1,7 +1,7 @@
 -- Prefixes to which the wanted paths of copies are added.
-use Rattle.dump_survey.proofs.Prelude.{◌≡◌, ℕ, ◌<◌, ◌≤◌, Bool, true, false, not, ◌&&◌, ◌||◌, List, [], ◌∷◌, ◌++◌, length, filter, map, take, drop, get_or, ◌-◌, bytes_eq, nat_eq, Bor, IsTrue, cond, refl, sym, ap, ap₂, ◌∙◌, subst, inl, inr, arith, append-nil, append_assoc, list_any, or_cases, or_left, or_right, or_parts, or_from, and_parts, and_from, not-true, both_ways, false_from_ne_true, list_any-append, bytes_eq-Decides, bare_prefix, bare_path, begins_path, matches_path, BeginSame, any_mapped, reaches_more, CopyNeed, matches_itself, covers, uncovered, are_apart, PathNeed, Grown, need_view, grown_prefixes, is_matched, is_unmet, AreNeeded, unmatched, each_matches_itself, IsPass}
+use Rattle.dump_survey.proofs.Prelude.{◌≡◌, ℕ, ◌+◌, ◌<◌, ◌≤◌, Bool, true, false, not, ◌&&◌, ◌||◌, List, [], ◌∷◌, ◌++◌, length, filter, map, drop, get_or, bytes_eq, nat_eq, Bor, IsTrue, cond, refl, sym, ap, ap₂, ◌∙◌, subst, inl, inr, arith, append-nil, append_assoc, list_any, or_cases, or_left, or_right, or_parts, or_from, and_parts, and_from, not-true, both_ways, false_from_ne_true, list_any-append, bytes_eq-Decides, bare_prefix, bare_path, begins_path, matches_path, BeginSame, any_mapped, reaches_more, CopyNeed, matches_itself, covers, uncovered, are_apart, PathNeed, Grown, need_view, grown_prefixes, is_matched, is_unmet, AreNeeded, unmatched, each_matches_itself, IsPass}
 use Rattle.dump_trees.proofs.paths.KeptPaths.{reaches}
-use Rattle.std.proofs.lemmas.List.{take_rest}
+use Rattle.std.proofs.lemmas.List.{drop_more}
 use Rattle.dump_trees.proofs.paths.SiblingLemmas.{any_more}
 
 -- one prefix and another one
@@ -276,25 +276,50 @@ module _ (needs left : List PathNeed) (n : PathNeed) (old new : Grown) (grew : B
             (λ none. ap (λ g. unmatched needs (grown_prefixes g)) (so_far.closed none).0) so_far.fewer;
       }
 
--- the pass adds the wanted path of the next need
-pub pass_adds : (needs : List PathNeed) (left : List CopyNeed) (d : CopyNeed) (old new next : Grown) (grew : Bool)
-    → 1 ≤ length left → PassSoFar needs (map need_view left) old new grew → IsTrue (each_matches_itself needs)
-    → is_unmet (grown_prefixes new) (need_view (get_or left 0 d)) ≡ true
-    → next ≡ record new { added = new.added ++ (get_or left 0 d).wanted.now ∷ [] }
-    → PassSoFar needs (map need_view (take (length left - 1) (drop 1 left))) old next true
-pass_adds needs [] d old new next grew some so_far itself open_now is = absurd (omega arith)
-pass_adds needs (n ∷ left) d old new next grew some so_far itself open_now is =
-    subst (λ l. PassSoFar needs (map need_view l) old next true) (sym (take_rest (n ∷ left) 1))
-    (pass_grows needs (map need_view left) (need_view n) old new grew so_far next open_now self_matched is)
-  where
-    self_matched : matches_itself n.wanted.now ≡ true
-    self_matched = by (matches_itself n.wanted.now) refl
-      where
-        by : (b : Bool) → matches_itself n.wanted.now ≡ b → b ≡ true
-        by true same = refl
-        by false same = absurd (both_ways _ (not-true _ itself)
-            (so_far.among (λ (m : PathNeed). not (matches_itself m.wanted))
-            (or_left (not (matches_itself n.wanted.now)) _ (ap not same))))
+-- the pass comes to the next need
+module _ (needs : List PathNeed) (all : List CopyNeed) (place : ℕ) (d : CopyNeed) (old new : Grown) (grew : Bool)
+    (low : place < length all) (so_far : PassSoFar needs (map need_view (drop place all)) old new grew) where
+  abbrev next_need : CopyNeed
+  next_need = get_or all place d
+
+  abbrev others : List PathNeed
+  others = map need_view (drop (place + 1) all)
+
+  here : PassSoFar needs (need_view next_need ∷ others) old new grew
+  here = subst (λ left. PassSoFar needs (map need_view left) old new grew) (drop_more all place d low) so_far
+
+  -- it adds the wanted path
+  pub pass_adds : (next : Grown) → IsTrue (each_matches_itself needs)
+      → is_unmet (grown_prefixes new) (need_view (get_or all place d)) ≡ true
+      → next ≡ record new { added = new.added ++ (get_or all place d).wanted.now ∷ [] }
+      → PassSoFar needs (map need_view (drop (place + 1) all)) old next true
+  pass_adds next itself open_now is =
+      pass_grows needs others (need_view next_need) old new grew here next open_now self_matched is
+    where
+      self_matched : matches_itself next_need.wanted.now ≡ true
+      self_matched = by (matches_itself next_need.wanted.now) refl
+        where
+          by : (b : Bool) → matches_itself next_need.wanted.now ≡ b → b ≡ true
+          by true same = refl
+          by false same = absurd (both_ways _ (not-true _ itself)
+              (here.among (λ (m : PathNeed). not (matches_itself m.wanted))
+              (or_left (not (matches_itself next_need.wanted.now)) _ (ap not same))))
+
+  -- it adds nothing
+  pub pass_leaves : is_unmet (grown_prefixes new) (need_view (get_or all place d)) ≡ false
+      → PassSoFar needs (map need_view (drop (place + 1) all)) old new grew
+  pass_leaves met = record {
+    given = here.given;
+    more = here.more;
+    added = here.added;
+    needed = here.needed;
+    among = λ test some. here.among test (or_right (test (need_view next_need)) _ some);
+    closed = λ none. (
+      (here.closed none).0,
+      (here.closed none).1 ∙ ap (λ b. b || list_any (is_unmet (grown_prefixes new)) others) met,
+    );
+    fewer = here.fewer;
+  }
 
 -- the state after some passes
 pub record PassesSoFar (needs : List PathNeed) (given : List (List ℕ)) (now : Grown) : Type 0 where

@@ -1,5 +1,5 @@
 -- Whether a kept node names a revision after a dropped one, record by record.
-use Rattle.dump_survey.proofs.Prelude.{◌≡◌, ◌↔◌, Bool, true, false, IsTrue, not, ◌&&◌, ◌||◌, ◌==◌, List, [], ◌∷◌, ◌++◌, length, Option, Some, None, is_some, if◌then◌else◌, refl, sym, ap, ap₂, ◌∙◌, and-true, or-false, or_assoc, list_all, list_any, and_parts, DumpRecord, Settings, keeps_path, is_revision_record, is_node, is_kept_node, node_path, Group, group_of, groups, keeps_group, keeps_empty, every_dump_finding, copies_from_before, is_found_in_dump, HasUnreadRevision, AreDumpFindingsOf, NamesRevision, TellsNaming, nodes_name, groups_name, groups_name_behind, same_truth, names_test, test_tells, behind_told, Present, Tally, is_behind_dropped, leaves_number, leave_number, LeaveNumber, no_tally, keeps_present, revision_tally, node_tally, other_tally, next_tally, tally_behind, is_tallied, tally_findings}
+use Rattle.dump_survey.proofs.Prelude.{◌≡◌, ◌↔◌, Bool, true, false, IsTrue, not, ◌&&◌, ◌||◌, ◌==◌, List, [], ◌∷◌, ◌++◌, length, Option, Some, None, is_some, if◌then◌else◌, refl, sym, ap, ap₂, ◌∙◌, and-true, or-false, or_assoc, list_all, list_any, and_parts, DumpRecord, Settings, keeps_path, is_revision_record, revision_number, is_node, is_kept_node, node_path, Group, group_of, groups, keeps_group, keeps_empty, every_dump_finding, copies_from_before, is_found_in_dump, HasUnreadRevision, AreDumpFindingsOf, NamesRevision, TellsNaming, nodes_name, groups_name, groups_name_behind, same_truth, names_test, test_tells, behind_told, Present, Tally, is_behind_dropped, leaves_number, leave_number, LeaveNumber, no_tally, keeps_present, revision_tally, node_tally, other_tally, next_tally, tally_behind, is_tallied, tally_findings}
 use Rattle.dump_survey.proofs.TallyLemmas.{is_single, filter_same, closes, closes_none, some_left, nodes, nodes_more, nodes_none, each_tallied}
 use Rattle.std.proofs.Math.Bool.{and-false}
 
@@ -64,11 +64,11 @@ module _ (settings : Settings) (names : DumpRecord → Bool) where
         (none_of (is_some t.present) (not t.all_kept)) (closes_none settings t.present)
 
     left_revision : is_node r ≡ false
-        → (leaves_number settings names t r || leave_number settings names (revision_tally settings t r) records)
+        → (leaves_number settings names t r || leave_number settings names (revision_tally settings t (revision_number r)) records)
         ≡ (not settings.renumber
         && names_later t t.present (nodes (r ∷ records)) (group_of r records ∷ groups records))
     left_revision other =
-        ap₂ (λ b c. b || c) (leaves_none other) (more (revision_tally settings t r))
+        ap₂ (λ b c. b || c) (leaves_none other) (more (revision_tally settings t (revision_number r)))
         ∙ ap (λ b. not settings.renumber && b)
         (first_group (keeps_present settings t) (keeps_group settings (group_of r records))
         (nodes_name settings names (nodes records)) (groups_name_behind settings names (groups records))
@@ -115,7 +115,7 @@ module _ (settings : Settings) (names : DumpRecord → Bool) where
         (sym (nodes_more r records node)))
 
     left_step : (v n : Bool) → is_node r ≡ n → not (n && v) ≡ true
-        → (leaves_number settings names t r || leave_number settings names (if v then revision_tally settings t r
+        → (leaves_number settings names t r || leave_number settings names (if v then revision_tally settings t (revision_number r)
         else if n then node_tally t (is_kept_node settings r) (copies_from_before t.first r) t.present
         else other_tally settings t) records)
         ≡ (not settings.renumber && names_later t t.present (nodes (r ∷ records))

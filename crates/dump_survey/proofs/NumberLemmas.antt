@@ -78,10 +78,10 @@ module _ (settings : Settings) (n : ℕ) (t : Tally) (r : DumpRecord) (records :
       ∙ or_assoc (is_up_to n t.least) (own_up_to settings n t.present (nodes (r ∷ records))) rest
 
   up_to_revision : is_node r ≡ false
-      → tallied_up_to settings n (tally_behind settings (revision_tally settings t r) records)
+      → tallied_up_to settings n (tally_behind settings (revision_tally settings t (revision_number r)) records)
       ≡ (is_up_to n t.least || (own_up_to settings n t.present (nodes (r ∷ records))
       || groups_up_to settings n (group_of r records ∷ groups records)))
-  up_to_revision other = more (revision_tally settings t r)
+  up_to_revision other = more (revision_tally settings t (revision_number r))
       ∙ (ap (λ b. tallied_up_to settings n t || b) (sym (group_more settings n (group_of r records) (groups records)))
       ∙ ends_up_to (groups_up_to settings n (group_of r records ∷ groups records)) other)
 
@@ -113,7 +113,7 @@ module _ (settings : Settings) (n : ℕ) (t : Tally) (r : DumpRecord) (records :
       (node_own t.present node refl)
 
   up_to_step : (v m : Bool) → is_revision_record r ≡ v → is_node r ≡ m → not (m && v) ≡ true
-      → tallied_up_to settings n (tally_behind settings (if v then revision_tally settings t r
+      → tallied_up_to settings n (tally_behind settings (if v then revision_tally settings t (revision_number r)
       else if m then node_tally t (is_kept_node settings r) (copies_from_before t.first r) t.present
       else other_tally settings t) records)
       ≡ (is_up_to n t.least || (own_up_to settings n t.present (nodes (r ∷ records))
@@ -151,11 +151,11 @@ last_is settings t (r ∷ records) last so n is =
     by : ((u : Tally) (other : Option ℕ) → ((m : ℕ) → open_number u.present ≡ Some m → other ≡ Some m) → (m : ℕ)
         → open_number (tally_behind settings u records).present ≡ Some m
         → last_or other (revision_numbers records) ≡ Some m) → (v m : Bool)
-        → open_number (tally_behind settings (if v then revision_tally settings t r
+        → open_number (tally_behind settings (if v then revision_tally settings t (revision_number r)
         else if m then node_tally t (is_kept_node settings r) (copies_from_before t.first r) t.present
         else other_tally settings t) records).present ≡ Some n
         → last_or last (map group_number (if v then group_of r records ∷ groups records else groups records)) ≡ Some n
-    by more true m at = more (revision_tally settings t r) (Some (revision_number r)) (λ k same. same) n at
+    by more true m at = more (revision_tally settings t (revision_number r)) (Some (revision_number r)) (λ k same. same) n at
     by more false true at =
         more (node_tally t (is_kept_node settings r) (copies_from_before t.first r) t.present) last
         (λ k same. so k (sym (of_node t.present refl) ∙ same)) n at

@@ -1,7 +1,6 @@
 -- The parent directories to create before loading.
-use Rattle.dump_survey.proofs.Prelude.{◌≡◌, ◌≢◌, ℕ, ◌+◌, ◌-◌, ◌<◌, ◌≤◌, Bool, true, false, not, ◌&&◌, ◌||◌, ◌==◌, List, [], ◌∷◌, ◌++◌, take, drop, length, get_or, map, flat_map, filter, bytes_eq, if◌then◌else◌, Bor, refl, sym, ap, ap₂, ◌∙◌, arith, append_assoc, append-nil, list_any, slice_cmp, is_eq, match_ordering, nat_cmp, Ordering, Less, Equal, Greater, insert_key, nat_tests, take_more, drop_more, drop_all, map-append, is_eq-slice_cmp, bytes_eq-Decides, is_at, or_from, begins_path, AreWithin, within_wider, Settings, keeps_path, each_once, fronts, with_new, BeginSame, HaveSame}
+use Rattle.dump_survey.proofs.Prelude.{◌≡◌, ◌≢◌, ℕ, ◌+◌, ◌<◌, ◌≤◌, Bool, true, false, not, ◌&&◌, ◌||◌, ◌==◌, List, [], ◌∷◌, ◌++◌, take, drop, length, get_or, map, flat_map, filter, bytes_eq, if◌then◌else◌, Bor, refl, sym, ap, ap₂, ◌∙◌, arith, append_assoc, append-nil, list_any, slice_cmp, is_eq, match_ordering, nat_cmp, Ordering, Less, Equal, Greater, insert_key, nat_tests, take_more, drop_more, drop_all, map-append, is_eq-slice_cmp, bytes_eq-Decides, is_at, or_from, begins_path, AreWithin, within_wider, Settings, keeps_path, each_once, fronts, with_new, BeginSame, HaveSame}
 use Rattle.std.proofs.Common.{nat_lt}
-use Rattle.std.proofs.lemmas.List.{take_rest}
 
 -- a directory that is looked up
 
@@ -203,12 +202,11 @@ prefix_adds settings reported new bare others added =
     ∙ (once_append reported (left_of settings (fronts bare)) (left_of settings (flat_map fronts others))
     ∙ ap (λ t. each_once t (left_of settings (flat_map fronts others))) (sym added))
 
-pub next_adds : (settings : Settings) (left : List (Bor (List ℕ))) (d : Bor (List ℕ)) (reported new : List (List ℕ))
-    → 1 ≤ length left → new ≡ each_once reported (left_of settings (fronts (get_or left 0 d).now))
-    → each_once reported (left_of settings (flat_map fronts (map (λ prefix. prefix.now) left)))
-    ≡ each_once new (left_of settings (flat_map fronts (map (λ prefix. prefix.now) (take (length left - 1) (drop 1 left)))))
-next_adds settings [] d reported new some added = absurd (omega arith)
-next_adds settings (prefix ∷ left) d reported new some added =
-    prefix_adds settings reported new prefix.now (map (λ (p : Bor (List ℕ)). p.now) left) added
-    ∙ ap (λ (l : List (Bor (List ℕ))). each_once new (left_of settings (flat_map fronts (map (λ p. p.now) l))))
-    (sym (take_rest (prefix ∷ left) 1))
+pub next_adds : (settings : Settings) (all : List (Bor (List ℕ))) (place : ℕ) (d : Bor (List ℕ)) (reported new : List (List ℕ))
+    → place < length all → new ≡ each_once reported (left_of settings (fronts (get_or all place d).now))
+    → each_once reported (left_of settings (flat_map fronts (map (λ prefix. prefix.now) (drop place all))))
+    ≡ each_once new (left_of settings (flat_map fronts (map (λ prefix. prefix.now) (drop (place + 1) all))))
+next_adds settings all place d reported new low added =
+    ap (λ (l : List (Bor (List ℕ))). each_once reported (left_of settings (flat_map fronts (map (λ p. p.now) l))))
+    (drop_more all place d low)
+    ∙ prefix_adds settings reported new (get_or all place d).now (map (λ (p : Bor (List ℕ)). p.now) (drop (place + 1) all)) added

@@ -32,11 +32,11 @@ module _ (settings : Settings) (t : Tally) (r : DumpRecord) (records : List Dump
   one_group false = refl
 
   numbers_revision : is_node r ≡ false
-      → ended_numbers settings t.present ++ kept_by settings (revision_tally settings t r) records
+      → ended_numbers settings t.present ++ kept_by settings (revision_tally settings t (revision_number r)) records
       ≡ closing settings t.present (nodes (r ∷ records)) ++ kept_of settings (group_of r records ∷ groups records)
   numbers_revision other =
       ap₂ (λ xs ys. xs ++ ys) (ends_before other)
-      (more (revision_tally settings t r) ∙ one_group (keeps_group settings (group_of r records)))
+      (more (revision_tally settings t (revision_number r)) ∙ one_group (keeps_group settings (group_of r records)))
 
   numbers_other : is_node r ≡ false
       → ended_numbers settings t.present ++ kept_by settings (other_tally settings t) records
@@ -60,7 +60,7 @@ module _ (settings : Settings) (t : Tally) (r : DumpRecord) (records : List Dump
       ∙ ap (λ xs. xs ++ kept_of settings (groups records)) (node_closing t.present node refl)
 
   numbers_step : (v n : Bool) → is_node r ≡ n → not (n && v) ≡ true
-      → (if n then [] else ended_numbers settings t.present) ++ kept_by settings (if v then revision_tally settings t r
+      → (if n then [] else ended_numbers settings t.present) ++ kept_by settings (if v then revision_tally settings t (revision_number r)
       else if n then node_tally t (is_kept_node settings r) (copies_from_before t.first r) t.present else other_tally settings t) records
       ≡ closing settings t.present (nodes (r ∷ records))
       ++ kept_of settings (if v then group_of r records ∷ groups records else groups records)

@@ -1,5 +1,5 @@
 -- What a surveyor knows after one more record, and what it finds when the records end.
-use Rattle.dump_survey.proofs.Prelude.{◌≡◌, ◌⊎◌, ◌↔◌, ℕ, ◌+◌, ◌^◌, ◌<◌, ◌≤◌, Bool, true, false, not, ◌&&◌, ◌||◌, List, [], ◌∷◌, ◌++◌, length, length-append, map, filter, cond, Option, Some, None, refl, sym, ap, ap₂, ◌∙◌, subst, arith, inl, inr, Result, Ok, Err, IsTrue, MatchBool, list_all, and_from, Record, DumpRecord, record_text, is_lawful, IsCutInto, BeginsWithRecords, HasRecords, CutterState, EndsAfter, IsRecordOf, record_item, record_number, CutStep, one_more, whole_list, Settings, bare_prefix, is_revision_record, is_node, alone, Place, DumpFindings, Tally, leaves_number, LeaveNumber, no_tally, next_tally, numbers_of, tally_behind, tally_findings, no_places, AreNextPlaces, ArePlaces, Finding, every_finding, is_found, AreFindingsOf, IsUnreadRevision, HasUnreadRevision, AreDumpFindingsOf, TellsNaming, findings_once, Found, End, Known, SurveyEnd, Step, Node, Finished, Memory, Numbers, has_found, node_faults, IsFoundIn, AreNumbersBehind, SurveyedNode, NodeReport, IsReportedOfNode, IsReportedOf, reported_in, report_with_prefix, listed, reported_of_finding, reported_of_node, listed_findings, survey_ending, HaveSame, PrefixReport, AreWithout, is_touched_by, prefixes_by, Surveying, Surveys, IsStepOf, ReportsEnd, ComesNext, open_behind, SurveyStep, ArePrefixesReported}
+use Rattle.dump_survey.proofs.Prelude.{◌≡◌, ◌⊎◌, ◌↔◌, ℕ, ◌+◌, ◌^◌, ◌<◌, Bool, true, false, not, ◌&&◌, ◌||◌, List, [], ◌∷◌, ◌++◌, length, length-append, map, filter, cond, Option, Some, None, refl, sym, ap, ap₂, ◌∙◌, subst, arith, inl, inr, Result, Ok, Err, IsTrue, MatchBool, list_all, and_from, Record, DumpRecord, record_text, is_lawful, IsCutInto, BeginsWithRecords, HasRecords, CutterState, EndsAfter, IsRecordOf, record_item, record_number, CutStep, one_more, whole_list, Settings, bare_prefix, is_revision_record, is_node, alone, Place, DumpFindings, Tally, leaves_number, LeaveNumber, no_tally, next_tally, numbers_of, tally_behind, tally_findings, no_places, AreNextPlaces, ArePlaces, Finding, every_finding, is_found, AreFindingsOf, IsUnreadRevision, HasUnreadRevision, AreDumpFindingsOf, TellsNaming, findings_once, Found, End, Known, SurveyEnd, Step, Node, Finished, Memory, Numbers, has_found, node_faults, IsFoundIn, AreNumbersBehind, SurveyedNode, NodeReport, IsReportedOfNode, IsReportedOf, reported_in, report_with_prefix, listed, reported_of_finding, reported_of_node, listed_findings, survey_ending, HaveSame, PrefixReport, AreWithout, is_touched_by, prefixes_by, Surveying, Surveys, IsStepOf, ReportsEnd, ComesNext, open_behind, SurveyStep, ArePrefixesReported}
 use Rattle.std.specs.Result.{IfOk}
 use Rattle.dump_records.specs.declared.cutter.Cut.TheVariants as cuts
 use Rattle.dump_records.proofs.CutterLemmas.{begins_with_none}

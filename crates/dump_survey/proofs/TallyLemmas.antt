@@ -20,10 +20,10 @@ count_is settings t [] = omega arith
 count_is settings t (r ∷ records) = by (λ u. count_is settings u records) (is_revision_record r) (is_node r)
   where
     by : ((u : Tally) → (tally_behind settings u records).count ≡ u.count + length (groups records)) → (v n : Bool)
-        → (tally_behind settings (if v then revision_tally settings t r
+        → (tally_behind settings (if v then revision_tally settings t (revision_number r)
         else if n then node_tally t (is_kept_node settings r) (copies_from_before t.first r) t.present else other_tally settings t) records).count
         ≡ t.count + length (if v then group_of r records ∷ groups records else groups records)
-    by more true n = more (revision_tally settings t r) ∙ omega arith
+    by more true n = more (revision_tally settings t (revision_number r)) ∙ omega arith
     by more false true = more (node_tally t (is_kept_node settings r) (copies_from_before t.first r) t.present)
         ∙ ap (λ c. c + length (groups records)) (node_count t (is_kept_node settings r) (copies_from_before t.first r) t.present)
     by more false false = more (other_tally settings t)
@@ -35,10 +35,10 @@ count_within settings t [] = omega arith
 count_within settings t (r ∷ records) = by (λ u. count_within settings u records) (is_revision_record r) (is_node r)
   where
     by : ((u : Tally) → (tally_behind settings u records).count ≤ u.count + length records) → (v n : Bool)
-        → (tally_behind settings (if v then revision_tally settings t r
+        → (tally_behind settings (if v then revision_tally settings t (revision_number r)
         else if n then node_tally t (is_kept_node settings r) (copies_from_before t.first r) t.present else other_tally settings t) records).count
         ≤ t.count + length (r ∷ records)
-    by more true n = let h = more (revision_tally settings t r) in omega arith
+    by more true n = let h = more (revision_tally settings t (revision_number r)) in omega arith
     by more false true =
         let h = more (node_tally t (is_kept_node settings r) (copies_from_before t.first r) t.present) in
         let same = node_count t (is_kept_node settings r) (copies_from_before t.first r) t.present in omega arith
@@ -61,7 +61,7 @@ present_is settings t (r ∷ records) =
     of_node None is = ap present_number is
     of_node (Some p) is = refl
 
-    by : (v n : Bool) → present_number (if v then revision_tally settings t r
+    by : (v n : Bool) → present_number (if v then revision_tally settings t (revision_number r)
         else if n then node_tally t (is_kept_node settings r) (copies_from_before t.first r) t.present else other_tally settings t).present
         ≡ (if v then Some (revision_number r) else if n then present_number t.present else None)
     by true n = refl
@@ -104,12 +104,12 @@ begins_is settings t (r ∷ records) none =
   where
     by : ((u : Tally) → (u.count ≡ 0 → u.first ≡ 0)
         → (tally_behind settings u records).first ≡ first_of u.count u.first (revision_numbers records)) → (v n : Bool)
-        → (tally_behind settings (if v then revision_tally settings t r
+        → (tally_behind settings (if v then revision_tally settings t (revision_number r)
         else if n then node_tally t (is_kept_node settings r) (copies_from_before t.first r) t.present
         else other_tally settings t) records).first
         ≡ first_of t.count t.first (map group_number
         (if v then group_of r records ∷ groups records else groups records))
-    by more true n = more (revision_tally settings t r)
+    by more true n = more (revision_tally settings t (revision_number r))
         (λ bad. absurd (let worse : t.count + 1 ≡ 0 = bad in omega (arith, worse)))
         ∙ first_known t (revision_number r) (revision_numbers records)
     by more false true =
@@ -137,7 +137,7 @@ numbered_is settings t (r ∷ records) = by (λ u. numbered_is settings u record
         ≡ (u.numbered
         && counts_from (first_of u.count u.first (revision_numbers records) + u.count) (revision_numbers records)))
         → (v n : Bool)
-        → (tally_behind settings (if v then revision_tally settings t r
+        → (tally_behind settings (if v then revision_tally settings t (revision_number r)
         else if n then node_tally t (is_kept_node settings r) (copies_from_before t.first r) t.present
         else other_tally settings t) records).numbered
         ≡ (t.numbered && counts_from (first_of t.count t.first (map group_number
@@ -149,7 +149,7 @@ numbered_is settings t (r ∷ records) = by (λ u. numbered_is settings u record
         ≡ suc (first + t.count)
         = ap (λ f. f + (t.count + 1)) (first_known t (revision_number r) (revision_numbers records))
         ∙ omega arith in
-        more (revision_tally settings t r)
+        more (revision_tally settings t (revision_number r))
         ∙ (and_assoc t.numbered (revision_number r == first + t.count)
         (counts_from (first_of (t.count + 1) first (revision_numbers records) + (t.count + 1))
         (revision_numbers records))
@@ -191,12 +191,12 @@ rising_is settings t (r ∷ records) = by (λ u. rising_is settings u records) (
   where
     by : ((u : Tally) → (tally_behind settings u records).rising
         ≡ (u.rising && rise_behind u.last (revision_numbers records))) → (v n : Bool)
-        → (tally_behind settings (if v then revision_tally settings t r
+        → (tally_behind settings (if v then revision_tally settings t (revision_number r)
         else if n then node_tally t (is_kept_node settings r) (copies_from_before t.first r) t.present
         else other_tally settings t) records).rising
         ≡ (t.rising && rise_behind t.last (map group_number
         (if v then group_of r records ∷ groups records else groups records)))
-    by more true n = more (revision_tally settings t r)
+    by more true n = more (revision_tally settings t (revision_number r))
         ∙ (and_assoc t.rising (is_above_last t.last (revision_number r))
         (go_up (revision_number r) (revision_numbers records))
         ∙ ap (λ b. t.rising && b) (number_behind t.last (revision_number r) (revision_numbers records)))
@@ -259,12 +259,12 @@ module _ (settings : Settings) (t : Tally) (r : DumpRecord) (records : List Dump
   none_first (suc n) p other = refl
 
   first_revision : (n : ℕ) → t.count ≡ n → is_node r ≡ false → is_revision_record r ≡ true
-      → (tally_behind settings (revision_tally settings t r) records).node_in_first
+      → (tally_behind settings (revision_tally settings t (revision_number r)) records).node_in_first
       ≡ (t.node_in_first || first_has n t.present (r ∷ records))
-  first_revision zero count other rev = more (revision_tally settings t r) 1 (omega arith)
+  first_revision zero count other rev = more (revision_tally settings t (revision_number r)) 1 (omega arith)
       ∙ ap (λ b. t.node_in_first || first_has_node (if b then group_of r records ∷ groups records else groups records))
       (sym rev)
-  first_revision (suc n) count other rev = more (revision_tally settings t r) (suc (suc n)) (omega arith)
+  first_revision (suc n) count other rev = more (revision_tally settings t (revision_number r)) (suc (suc n)) (omega arith)
       ∙ ap (λ b. t.node_in_first || b) (sym (none_first n t.present other))
 
   first_other : (n : ℕ) → t.count ≡ n → is_node r ≡ false → is_revision_record r ≡ false
@@ -314,7 +314,7 @@ module _ (settings : Settings) (t : Tally) (r : DumpRecord) (records : List Dump
       ∙ node_first n t.present count refl node rev
 
   first_step : (n : ℕ) → t.count ≡ n → (v m : Bool) → is_revision_record r ≡ v → is_node r ≡ m → not (m && v) ≡ true
-      → (tally_behind settings (if v then revision_tally settings t r
+      → (tally_behind settings (if v then revision_tally settings t (revision_number r)
       else if m then node_tally t (is_kept_node settings r) (copies_from_before t.first r) t.present else other_tally settings t) records).node_in_first
       ≡ (t.node_in_first || first_has n t.present (r ∷ records))
   first_step n count true true rev node single = cc
@@ -358,11 +358,11 @@ outside_is settings t (r ∷ records) single =
     of_node more (Some p) = more (node_tally t (is_kept_node settings r) (copies_from_before t.first r) (Some p))
 
     by : More → (v n : Bool) → not (n && v) ≡ true
-        → (tally_behind settings (if v then revision_tally settings t r
+        → (tally_behind settings (if v then revision_tally settings t (revision_number r)
         else if n then node_tally t (is_kept_node settings r) (copies_from_before t.first r) t.present else other_tally settings t) records).node_outside
         ≡ (t.node_outside || not ((not n || is_some t.present) && has_ordered_nodes (v || n) records))
     by more true true single = cc
-    by more true false single = more (revision_tally settings t r)
+    by more true false single = more (revision_tally settings t (revision_number r))
     by more false true single = of_node more t.present
     by more false false single = more (other_tally settings t)
 
@@ -385,11 +385,11 @@ module _ (settings : Settings) (t : Tally) (r : DumpRecord) (records : List Dump
   none_before first (Some p) other = ap (list_any (copies_from_before first)) (nodes_none r records other)
 
   before_revision : is_node r ≡ false
-      → (tally_behind settings (revision_tally settings t r) records).source_before
+      → (tally_behind settings (revision_tally settings t (revision_number r)) records).source_before
       ≡ (t.source_before || (own_before t.first t.present (nodes (r ∷ records))
       || has_source_before (first_of t.count t.first (revision_number r ∷ revision_numbers records))
       (group_of r records ∷ groups records)))
-  before_revision other = more (revision_tally settings t r)
+  before_revision other = more (revision_tally settings t (revision_number r))
       ∙ ap (λ f. t.source_before || (list_any (copies_from_before (first_with t (revision_number r))) (nodes records)
       || has_source_before f (groups records))) (first_known t (revision_number r) (revision_numbers records))
       ∙ ap (λ b. t.source_before || (b
@@ -423,7 +423,7 @@ module _ (settings : Settings) (t : Tally) (r : DumpRecord) (records : List Dump
       (sym (nodes_more r records node))
 
   before_step : (v n : Bool) → is_node r ≡ n → not (n && v) ≡ true
-      → (tally_behind settings (if v then revision_tally settings t r
+      → (tally_behind settings (if v then revision_tally settings t (revision_number r)
       else if n then node_tally t (is_kept_node settings r) (copies_from_before t.first r) t.present
       else other_tally settings t) records).source_before
       ≡ (t.source_before || (own_before t.first t.present (nodes (r ∷ records))

@@ -60,20 +60,20 @@ abbrev pub is_above_last : Option ℕ → ℕ → Bool
 is_above_last None number = true
 is_above_last (Some last) number = nat_lt last number
 
--- the tally after a revision
-abbrev pub revision_tally : Settings → Tally → DumpRecord → Tally
-revision_tally settings t r = record {
+-- the tally after a revision with this number
+abbrev pub revision_tally : Settings → Tally → ℕ → Tally
+revision_tally settings t number = record {
   count = t.count + 1;
-  first = first_with t (revision_number r);
-  numbered = t.numbered && revision_number r == first_with t (revision_number r) + t.count;
-  last = Some (revision_number r);
-  rising = t.rising && is_above_last t.last (revision_number r);
+  first = first_with t number;
+  numbered = t.numbered && number == first_with t number + t.count;
+  last = Some number;
+  rising = t.rising && is_above_last t.last number;
   node_in_first = t.node_in_first;
   source_before = t.source_before;
   node_outside = t.node_outside;
   all_kept = keeps_present settings t;
   least = least_behind settings t.least t.present;
-  present = Some (record { number = revision_number r; bare = true; kept = false });
+  present = Some (record { number = number; bare = true; kept = false });
 }
 
 -- the tally after a node. The first flag says whether the node is kept, and the second one whether it is a copy from
@@ -97,7 +97,7 @@ other_tally settings t = record t {
 -- the tally after one more record
 abbrev pub next_tally : Settings → Tally → DumpRecord → Tally
 next_tally settings t r =
-    if is_revision_record r then revision_tally settings t r
+    if is_revision_record r then revision_tally settings t (revision_number r)
     else if is_node r then node_tally t (is_kept_node settings r) (copies_from_before t.first r) t.present
     else other_tally settings t
 

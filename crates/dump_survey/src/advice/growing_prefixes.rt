@@ -84,13 +84,11 @@ impl<'o, 'a> GrowingPrefixes<'o, 'a> {
         ensures { IfOk result (λ grew. IsPass (map need_view needs.now) self.old self.new grew) }
     {
         let mut grew = false;
-        let mut left = needs;
-        while let [need, others @ ..] = left {
+        for need in needs {
             if self.is_unmet(need) {
                 self.add(alloc, need.wanted)?;
                 grew = true;
             }
-            left = others;
         }
         Ok(grew)
     }

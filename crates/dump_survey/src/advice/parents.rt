@@ -80,10 +80,8 @@ fn left_above<'o>(
         (filter (λ path. not (keeps_path options.now path)) (flat_map fronts (map (λ prefix. prefix.now) bare.now)))) }
 {
     let mut directories = Directories::new(alloc);
-    let mut left = bare;
-    while let [prefix, others @ ..] = left {
+    for prefix in bare {
         directories.add_above(alloc, options, prefix)?;
-        left = others;
     }
     Ok(directories.paths)
 }

@@ -14,7 +14,7 @@ use crate::findings::prefixes::Prefixes;
 use crate::findings::refused::{Refused, refused_of};
 use crate::findings::revision_numbers::Numbers;
 use dump_digest::properties_of;
-use dump_history::{Finding, every_finding};
+use dump_history::Finding;
 use dump_nodes::{
     Action, action_of, copy_path_of, has_undefined_delta, is_copy, is_whole_file, loads_as_written,
     path_of,
@@ -92,11 +92,26 @@ impl<'o> Found<'o> {
         }
     }
 
-    /// Whether there is any finding.
+    /// Whether there is any finding. Most nodes have none, so it doesn't ask for each kind in turn.
     pub(crate) fn is_any(&self) -> bool
         ensures { result ≡ list_any (has_found self.now) every_finding }
     {
-        every_finding().iter().any(|finding| self.has(*finding))
+        let (obstacles, refused, losses) = (self.obstacles, self.refused, self.losses);
+        obstacles.unread_block
+            | obstacles.delta
+            | obstacles.unknown_action
+            | obstacles.text_read_differently
+            | refused.copy_revision
+            | refused.unread
+            | refused.missing
+            | refused.outside
+            | losses.no_whole_file
+            | losses.properties_lost
+            | losses.copy_loses.is_some()
+            | losses.copy_lets_in.is_some()
+            | losses.included_stays
+            | losses.included_missing
+            | losses.text_comes_in
     }
 
     /// The prefix that is reported with this finding, if there is one.

@@ -87,12 +87,10 @@ pub(crate) fn reported_prefixes<'o>(
         ≡ prefixes_by idle.now (map (λ prefix. prefix.now) prefixes.now)) }
 {
     let mut reported = Vec::new(alloc);
-    let mut left = prefixes;
-    while let [prefix, others @ ..] = left {
+    for prefix in prefixes {
         if let Some(finding) = finding_in(idle, prefix) {
             reported.push(ReportedPrefix { prefix, finding })?;
         }
-        left = others;
     }
     Ok(reported)
 }

@@ -45,10 +45,8 @@ impl PrefixSet {
         ensures { IfOk result (λ set. HaveSame set (map bare_prefix (map (λ prefix. prefix.now) prefixes.now))) }
     {
         let mut set = PrefixSet::new(alloc);
-        let mut left = prefixes;
-        while let [prefix, others @ ..] = left {
+        for prefix in prefixes {
             set.add(alloc, prefix)?;
-            left = others;
         }
         Ok(set)
     }

@@ -120,14 +120,7 @@ fn cuts_below(
 fn has_some_below(bare: &[&[u8]], path: &[u8]) -> bool
     ensures { result ≡ list_any (λ prefix. is_below path.now prefix.now) bare.now }
 {
-    let mut left = bare;
-    while let [prefix, others @ ..] = left {
-        if rest_below(prefix, path).is_some() {
-            return true;
-        }
-        left = others;
-    }
-    false
+    bare.iter().any(|prefix| rest_below(prefix, path).is_some())
 }
 
 /// The first of the options' prefixes that cuts below one path what is kept below the other path, as the caller gave

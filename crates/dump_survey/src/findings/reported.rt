@@ -65,12 +65,10 @@ impl<'o, 'a> SurveyedNode<'o, 'a> {
         ensures { OnOk result (map reported_view reported.new.items
             ≡ map reported_view reported.old.items ++ reported_of_node self.now) }
     {
-        let mut left = every_finding();
-        while let [finding, others @ ..] = left {
+        for finding in every_finding() {
             if self.found.has(*finding) {
                 reported.push(self.reported(*finding))?;
             }
-            left = others;
         }
         Ok(())
     }

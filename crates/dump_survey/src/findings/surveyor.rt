@@ -168,6 +168,8 @@ impl<'o, 'a> Surveyor<'o, 'a> {
 
     /// Returns the findings in the next record. After the last record it returns the findings in the dump as a whole,
     /// and so do all later calls. If memory runs out, the next call continues after the record.
+    // inlined into a loop, it moves the fields of each record one by one, and several times
+    #[inline(never)]
     pub fn next(&mut self, alloc: Global) -> Result<Step<'o, 'a>, Memory>
         ensures { IfOk result (λ step. SurveyStep self.old step self.new) }
     {
@@ -188,7 +190,7 @@ impl<'o, 'a> Surveyor<'o, 'a> {
         self.known.numbers_left = self.known.numbers_left
             || leaves_number(&item, kept, self.options, &before);
         self.known.unread_revision = self.known.unread_revision || is_unread_revision(&item);
-        self.known.tally = before.with(&item, kept, self.options);
+        self.known.tally.add(&item, kept, self.options);
         let found = self
             .known
             .tally

@@ -4,7 +4,7 @@ ghost use Rattle.std.specs.List.{list_any};
 ghost use Rattle.dump_records.specs.steps.RecordViews.{record_item};
 ghost use Rattle.dump_digest.specs.RecordParts.{is_kept_node, is_node};
 ghost use Rattle.dump_history.specs.Findings.{copies_from_before, every_dump_finding};
-ghost use Rattle.dump_survey.specs.steps.Tally.{first_with, is_above_last, least_behind, lesser, no_tally, keeps_open, keeps_present, node_tally, next_tally, numbers_of, tally_findings};
+ghost use Rattle.dump_survey.specs.steps.Tally.{first_with, is_above_last, least_behind, lesser, no_tally, keeps_open, keeps_present, node_tally, next_tally, numbers_of, other_tally, revision_tally, tally_findings};
 ghost use Rattle.dump_survey.specs.steps.NamedRevisions.{is_behind_dropped};
 ghost use Rattle.dump_survey.specs.DumpFindings.{has_dump_finding, listed_findings};
 
@@ -206,64 +206,65 @@ impl Tally {
         if self.count == 0 { number } else { self.first }
     }
 
-    /// The tally after one more record; `kept` says whether the record is a kept node.
-    pub(crate) fn with(&self, item: &Record<'_>, kept: bool, options: &Options) -> Tally
-        requires room { self.now.count + 1 < 2 ^ 64 }
+    /// Adds a record to the tally; `kept` says whether the record is a kept node.
+    pub(crate) fn add(&mut self, item: &Record<'_>, kept: bool, options: &Options)
+        requires room { self.old.count + 1 < 2 ^ 64 }
         requires kept { kept ≡ is_kept_node options.now (record_item item.now) }
-        ensures { result ≡ next_tally options.now self.now (record_item item.now) }
+        ensures { self.new ≡ next_tally options.now self.old (record_item item.now) }
     {
         if let Some(number) = item.revision() {
-            let first = self.first_with(number);
-            Tally {
-                count: self.count + 1,
-                first,
-                numbered: self.numbered && is_above(first, self.count, number),
-                last: Some(number),
-                rising: self.rising && is_above_last(self.last, number),
-                all_kept: self.keeps_all(options),
-                least: self.least_kept(options),
-                present: Some(Present {
-                    number,
-                    bare: true,
-                    kept: false,
-                }),
-                ..*self
-            }
+            self.add_revision(number, options);
         } else if item.is_node() {
-            self.with_node(item, kept)
+            self.add_node(item, kept);
         } else {
-            Tally {
-                all_kept: self.keeps_all(options),
-                least: self.least_kept(options),
-                present: None,
-                ..*self
-            }
+            self.end_revision(options);
         }
     }
 
-    /// The tally after one more node; `kept` says whether the node is kept.
-    fn with_node(&self, item: &Record<'_>, kept: bool) -> Tally
-        requires { IsTrue (is_node (record_item item.now)) }
-        ensures { result ≡ node_tally self.now kept (copies_from_before self.now.first (record_item item.now))
-            self.now.present }
+    /// Ends the present revision, if there is one.
+    fn end_revision(&mut self, options: &Options)
+        ensures { self.new ≡ other_tally options.now self.old }
     {
-        let early = copies_from_before(item, self.first);
+        self.all_kept = self.keeps_all(options);
+        self.least = self.least_kept(options);
+        self.present = None;
+    }
+
+    /// Adds a revision with this number.
+    fn add_revision(&mut self, number: u64, options: &Options)
+        requires room { self.old.count + 1 < 2 ^ 64 }
+        ensures { self.new ≡ revision_tally options.now self.old number }
+    {
+        self.end_revision(options);
+        self.first = self.first_with(number);
+        self.numbered = self.numbered && is_above(self.first, self.count, number);
+        self.rising = self.rising && is_above_last(self.last, number);
+        self.count += 1;
+        self.last = Some(number);
+        self.present = Some(Present {
+            number,
+            bare: true,
+            kept: false,
+        });
+    }
+
+    /// Adds a node; `kept` says whether the node is kept.
+    fn add_node(&mut self, item: &Record<'_>, kept: bool)
+        requires { IsTrue (is_node (record_item item.now)) }
+        ensures { self.new ≡ node_tally self.old kept (copies_from_before self.old.first (record_item item.now))
+            self.old.present }
+    {
         let Some(present) = self.present else {
-            return Tally {
-                node_outside: true,
-                ..*self
-            };
+            self.node_outside = true;
+            return;
         };
-        Tally {
-            node_in_first: self.node_in_first || self.count == 1,
-            source_before: self.source_before || early,
-            present: Some(Present {
-                number: present.number,
-                bare: false,
-                kept: present.kept || kept,
-            }),
-            ..*self
-        }
+        self.node_in_first = self.node_in_first || self.count == 1;
+        self.source_before = self.source_before || copies_from_before(item, self.first);
+        self.present = Some(Present {
+            number: present.number,
+            bare: false,
+            kept: present.kept || kept,
+        });
     }
 
     /// Whether there is a present revision, and a revision before it is dropped.

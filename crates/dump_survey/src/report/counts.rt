@@ -35,12 +35,10 @@ impl Counts {
         ensures { AreWithNode self.now found.now result }
     {
         let mut times = self.times;
-        let mut left = every_finding();
-        while let [finding, others @ ..] = left {
+        for finding in every_finding() {
             if found.has(*finding) {
                 times[*finding as usize] += 1;
             }
-            left = others;
         }
         Counts { times }
     }

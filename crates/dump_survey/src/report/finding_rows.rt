@@ -29,7 +29,7 @@ pub(crate) struct Row {
 }
 
 /// The rows of the findings in a node, in the order of `Finding`.
-const NODE_ROWS: [Row; 15] = [
+static NODE_ROWS: [Row; 15] = [
     Row {
         words: b"its properties cannot be read",
         states_source: false,
@@ -168,7 +168,7 @@ const NODE_ROWS: [Row; 15] = [
 ];
 
 /// The rows of the findings in a dump as a whole, in the order of `DumpFinding`.
-const DUMP_ROWS: [Row; 8] = [
+static DUMP_ROWS: [Row; 8] = [
     Row {
         words: b"the dump has no revision",
         states_source: false,
@@ -245,33 +245,33 @@ const DUMP_ROWS: [Row; 8] = [
 
 /// The rows of the findings in a node.
 #[tactic(auto, unfolding(crate::specs::FindingRows::finding_row, crate::specs::steps::LineViews::row_view, crate::specs::steps::LineViews::kind_view))]
-fn node_rows() -> [Row; 15]
-    ensures { map row_view result ≡ map finding_row every_finding }
+fn node_rows() -> &'static [Row; 15]
+    ensures { map row_view result.now ≡ map finding_row every_finding }
 {
-    NODE_ROWS
+    &NODE_ROWS
 }
 
 /// The rows of the findings in a dump as a whole.
 #[tactic(auto, unfolding(crate::specs::FindingRows::dump_row, crate::specs::steps::LineViews::row_view, crate::specs::steps::LineViews::kind_view))]
-fn dump_rows() -> [Row; 8]
-    ensures { map row_view result ≡ map dump_row every_dump_finding }
+fn dump_rows() -> &'static [Row; 8]
+    ensures { map row_view result.now ≡ map dump_row every_dump_finding }
 {
-    DUMP_ROWS
+    &DUMP_ROWS
 }
 
 /// The row of a finding in a node.
-pub(crate) fn node_row(finding: Finding) -> Row
-    ensures words { result.words.now ≡ (finding_row finding).words }
-    ensures source { result.states_source ≡ (finding_row finding).states_source }
-    ensures kind { kind_view result.kind ≡ (finding_row finding).kind }
+pub(crate) fn node_row(finding: Finding) -> &'static Row
+    ensures words { result.now.words.now ≡ (finding_row finding).words }
+    ensures source { result.now.states_source ≡ (finding_row finding).states_source }
+    ensures kind { kind_view result.now.kind ≡ (finding_row finding).kind }
 {
-    node_rows()[finding as usize]
+    &node_rows()[finding as usize]
 }
 
 /// The row of a finding in a dump as a whole.
-pub(crate) fn dump_row(finding: DumpFinding) -> Row
-    ensures words { result.words.now ≡ (dump_row finding).words }
-    ensures kind { kind_view result.kind ≡ (dump_row finding).kind }
+pub(crate) fn dump_row(finding: DumpFinding) -> &'static Row
+    ensures words { result.now.words.now ≡ (dump_row finding).words }
+    ensures kind { kind_view result.now.kind ≡ (dump_row finding).kind }
 {
-    dump_rows()[finding as usize]
+    &dump_rows()[finding as usize]
 }

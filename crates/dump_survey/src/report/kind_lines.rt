@@ -71,10 +71,8 @@ fn push_node_kinds(lines: &mut Vec<u8>, counts: &Counts, findings: &[Finding]) -
     ensures { OnOk result (lines.new.items ≡ lines.old.items
         ++ flat_map (λ f. kind_line (count_in counts.now f) (finding_row f).kind) findings.now) }
 {
-    let mut left = findings;
-    while let [finding, others @ ..] = left {
+    for finding in findings {
         push_kind_line(lines, counts.of(*finding), &node_row(*finding).kind)?;
-        left = others;
     }
     Ok(())
 }
@@ -99,10 +97,8 @@ fn push_dump_kinds(lines: &mut Vec<u8>, found: &DumpFindings) -> Result<(), Memo
     ensures { OnOk result (lines.new.items ≡ lines.old.items
         ++ flat_map dump_kind_line (listed_findings found.now)) }
 {
-    let mut left = every_dump_finding();
-    while let [finding, others @ ..] = left {
+    for finding in every_dump_finding() {
         push_dump_kind(lines, found, *finding)?;
-        left = others;
     }
     Ok(())
 }
@@ -112,12 +108,10 @@ fn times_in(reported: &[ReportedPrefix<'_>], finding: PrefixFinding) -> u64
     ensures { result ≡ times_in_prefixes (map prefix_view reported.now) finding }
 {
     let mut times = 0u64;
-    let mut left = reported;
-    while let [first, others @ ..] = left {
-        if first.finding == finding {
+    for prefix in reported {
+        if prefix.finding == finding {
             times += 1;
         }
-        left = others;
     }
     times
 }

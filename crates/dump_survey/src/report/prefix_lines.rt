@@ -38,10 +38,8 @@ pub(crate) fn push_prefix_lines(
 ) -> Result<(), Memory>
     ensures { OnOk result (lines.new.items ≡ lines.old.items ++ prefix_lines (map prefix_view reported.now)) }
 {
-    let mut left = reported;
-    while let [first, others @ ..] = left {
-        push_prefix_line(lines, first)?;
-        left = others;
+    for prefix in reported {
+        push_prefix_line(lines, prefix)?;
     }
     Ok(())
 }

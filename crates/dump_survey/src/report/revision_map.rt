@@ -70,9 +70,8 @@ impl<'o, 'a> RecordVisitor<'a> for NumberCollector<'o> {
 
     fn visit(&mut self, item: &Record<'a>) -> Result<(), Memory> {
         push_before(&mut self.numbers, &self.tally, item, self.options)?;
-        self.tally = self
-            .tally
-            .with(item, is_kept(item, self.options), self.options);
+        self.tally
+            .add(item, is_kept(item, self.options), self.options);
         Ok(())
     }
 }
@@ -161,10 +160,8 @@ fn map_lines(alloc: Global, options: &Options, kept: &KeptNumbers) -> Result<Vec
 {
     let sorted = in_order(alloc, &kept.numbers)?;
     let mut lines = Vec::new(alloc);
-    let mut left = kept.numbers.as_slice();
-    while let [number, others @ ..] = left {
+    for number in &kept.numbers {
         push_map_line(&mut lines, options, kept, &sorted, *number)?;
-        left = others;
     }
     Ok(lines)
 }

@@ -1,5 +1,6 @@
 //! The lines of a survey.
 ghost use Rattle.std.specs.Prelude.{◌≡◌, ◌++◌, ◌<◌, [], if◌then◌else◌, IfOk, OnOk, IsTrue, flat_map, decimal, map, option_copied};
+ghost use Rattle.std.specs.List.{list_all};
 ghost use Rattle.dump_records.specs.steps.RecordViews.{record_item};
 ghost use Rattle.dump_digest.specs.RecordParts.{is_node};
 ghost use Rattle.dump_survey.specs.AddedPrefixLines.{added_prefix_line, added_prefix_lines, added_prefix_words};
@@ -15,6 +16,7 @@ ghost use Rattle.dump_survey.specs.PrefixLines.{prefix_lines};
 ghost use Rattle.dump_survey.specs.SurveyEnds.{survey_ending};
 ghost use Rattle.dump_survey.specs.Reported.{reported_view};
 ghost use Rattle.dump_survey.specs.steps.Counts.{count_in};
+ghost use Rattle.dump_survey.specs.steps.LineViews.{is_printable};
 ghost use Rattle.dump_survey.specs.steps.Surveyed.{reported_of_node};
 
 use crate::findings::places::Place;
@@ -29,6 +31,9 @@ use dump_history::{DumpFinding, every_dump_finding, every_finding};
 use dump_rules::{Memory, Side, bare_path};
 use dump_text::{FaultKind, spell};
 use std::alloc::Global;
+
+/// The bytes for which the lines of a node have room before they grow: enough for most nodes.
+const ROOM: usize = 256;
 
 /// A hexadecimal digit.
 fn small_digit(value: u8) -> u8
@@ -75,10 +80,20 @@ fn is_control_pair(first: u8, second: u8) -> bool
     first == 0xc2 && 128 <= second && second < 160
 }
 
-/// Adds a text in the form in which it is shown.
+/// Whether the text has only printable ASCII characters.
+fn is_printable(text: &[u8]) -> bool
+    ensures { result ≡ list_all is_printable text.now }
+{
+    text.iter().all(|byte| *byte >= b' ' && *byte < 127)
+}
+
+/// Adds a text in the form in which it is shown. Most texts are shown as they are, and are added at once.
 pub(crate) fn push_shown(line: &mut Vec<u8>, text: &[u8]) -> Result<(), Memory>
     ensures { OnOk result (line.new.items ≡ line.old.items ++ shown_text text.now) }
 {
+    if is_printable(text) {
+        return Ok(line.extend_from_slice(text)?);
+    }
     let mut rest = text;
     loop {
         rest = match rest {
@@ -236,10 +251,8 @@ fn push_dump_line(lines: &mut Vec<u8>, end: &SurveyEnd, finding: DumpFinding) ->
 fn push_dump_lines(lines: &mut Vec<u8>, end: &SurveyEnd) -> Result<(), Memory>
     ensures { OnOk result (lines.new.items ≡ lines.old.items ++ flat_map dump_line (reported_at_end end.now)) }
 {
-    let mut left = every_dump_finding();
-    while let [finding, others @ ..] = left {
+    for finding in every_dump_finding() {
         push_dump_line(lines, end, *finding)?;
-        left = others;
     }
     Ok(())
 }
@@ -298,13 +311,11 @@ pub(crate) fn node_lines(alloc: Global, node: &SurveyedNode<'_, '_>) -> Result<V
     requires { IsTrue (is_node (record_item node.now.item)) }
     ensures { IfOk result (λ lines. lines.items ≡ flat_map node_line (reported_of_node node.now)) }
 {
-    let mut lines = Vec::new(alloc);
-    let mut left = every_finding();
-    while let [finding, others @ ..] = left {
+    let mut lines = Vec::with_capacity(alloc, ROOM)?;
+    for finding in every_finding() {
         if node.found.has(*finding) {
             push_node_line(&mut lines, &node.reported(*finding))?;
         }
-        left = others;
     }
     Ok(lines)
 }
@@ -338,10 +349,8 @@ pub(crate) fn added_prefix_lines(
     ensures { IfOk result (λ lines. lines.items ≡ added_prefix_lines side (map (λ path. path.now) paths.now)) }
 {
     let mut lines = Vec::new(alloc);
-    let mut left = paths;
-    while let [path, others @ ..] = left {
+    for path in paths {
         push_added_prefix_line(&mut lines, side, path)?;
-        left = others;
     }
     Ok(lines)
 }
@@ -361,10 +370,8 @@ pub(crate) fn parent_lines(alloc: Global, directories: &[&[u8]]) -> Result<Vec<u
     ensures { IfOk result (λ lines. lines.items ≡ parent_lines (map (λ path. path.now) directories.now)) }
 {
     let mut lines = Vec::new(alloc);
-    let mut left = directories;
-    while let [path, others @ ..] = left {
+    for path in directories {
         push_parent_line(&mut lines, path)?;
-        left = others;
     }
     Ok(lines)
 }

@@ -17,8 +17,8 @@ returns-in-Fault c =
     rw (← c.self.view_is) (ended c.self.inside.options.now c.self.inside.prefixes c.self.inside.known c.self.inside.cutter c.next.new.self c.self.invariant (ends.Broken c.in-Fault.kind c.in-Fault.place)
     c.finished-end-in-Fault.result step.0 step.1 c.finished-end-in-Fault.ensures)
 
-pub with-self-inside-requires-clause-room : goal.with-self-inside-requires-clause-room
-with-self-inside-requires-clause-room c =
+pub add-requires-clause-room : goal.add-requires-clause-room
+add-requires-clause-room c =
     let step = subst (λ (x : Cut). CutStep c.self.inside.cutter x c.next.new.self) c.in-Item.is c.next.ensures in
     room c.self.inside.options.now c.self.inside.prefixes c.self.inside.known c.self.inside.cutter c.next.new.self c.self.invariant c.in-Item.item step
 
@@ -45,11 +45,11 @@ invariant_of-self-2 c =
     goes_on c.self.inside.options.now c.self.inside.prefixes c.self.inside.known c.self.inside.cutter c.next.new.self c.self.invariant c.in-Item.item step
     (record {
       idle = c.leave_touched.new.idle;
-      tally = c.with-self-inside.result;
+      tally = c.add.new.self;
       numbers_left = c.if-self.self;
       unread_revision = c.if-self-2.self;
       places = c.note.new.self;
-    }) c.leave_touched.ensures c.with-self-inside.ensures still unread_still c.findings-found.result
+    }) c.leave_touched.ensures c.add.ensures still unread_still c.findings-found.result
     c.findings-found.ensures c.place_of.result c.place_of.ensures c.note.ensures
 
 pub returns : goal.returns

@@ -1,21 +1,21 @@
-use Rattle.dump_survey.proofs.Prelude.{rules, sym, ◌∙◌}
-use Rattle.dump_survey.proofs.CountLemmas.{counting_begins, counting_ends, counting_found, counting_passed}
+use Rattle.dump_survey.proofs.Prelude.{◌≤◌, length, sym, subst, ◌∙◌}
+use Rattle.dump_survey.proofs.CountLemmas.{counting_ends, counting_found, counting_passed}
 use Rattle.dump_survey.proofs.report.counts.Counts.with.Goals as goal
+use Rattle.dump_survey.proofs.report.counts.Counts.with.Goals.{then-has, else-has}
 
-pub loop-left-init : goal.loop-left-init
-loop-left-init c =
-    counting_begins c.args.self.now c.args.found.now c.every_finding-left.result.now c.every_finding-left.ensures (search rules)
-
-pub loop-left-preserved-then-has : goal.loop-left-preserved-then-has
-loop-left-preserved-then-has c =
-    counting_found c.args.self.now c.args.found.now c.loop-left.left.now _ c.loop-left.times c.in-len1-up.len_at_least
-    c.loop-left.invariant (sym c.has.ensures ∙ c.if-has.true)
-
-pub loop-left-preserved : goal.loop-left-preserved
-loop-left-preserved c =
-    counting_passed c.args.self.now c.args.found.now c.loop-left.left.now _ c.loop-left.times c.in-len1-up.len_at_least
-    c.loop-left.invariant (sym c.has.ensures ∙ c.if-has.false)
+pub loop-finding-preserved : goal.loop-finding-preserved
+loop-finding-preserved c =
+    elim c.if-has.branch [
+      | then-has w ↦ rw w.times-is (counting_found c.args.self.now c.args.found.now c.loop-finding.finding-index _ c.loop-finding.times
+          c.every_finding-finding-items.result.now c.every_finding-finding-items.ensures c.loop-finding-test.true
+          c.loop-finding.invariant (sym c.has.ensures ∙ w.if-has.true))
+      | else-has w ↦ rw w.times-is (counting_passed c.args.self.now c.args.found.now c.loop-finding.finding-index _ c.loop-finding.times
+          c.every_finding-finding-items.result.now c.every_finding-finding-items.ensures c.loop-finding-test.true
+          c.loop-finding.invariant (sym c.has.ensures ∙ w.if-has.false))
+    ]
 
 pub returns : goal.returns
 returns c =
-    counting_ends c.args.self.now _ c.args.found.now c.loop-left.left.now c.in_default.len_below c.loop-left.invariant
+    counting_ends c.args.self.now _ c.args.found.now c.loop-finding.finding-index
+    (subst (λ l. length l ≤ c.loop-finding.finding-index) c.every_finding-finding-items.ensures c.loop-finding-test.false)
+    c.loop-finding.invariant
