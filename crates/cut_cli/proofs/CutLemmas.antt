@@ -54,11 +54,11 @@ use Rattle.dump_changes.proofs.PropertyLemmas.{has_revision, nodes_are}
 use Rattle.dump_changes.proofs.ReadLemmas.{numbered_makes}
 use Rattle.dump_cut.specs.NamedLines.{CoverMergeinfo, is_left_by}
 use Rattle.dump_cut.proofs.FoundSiblings.{found_siblings_are_all}
-use Rattle.dump_cut.specs.LoadChecks.{IsFirstRefused}
+use Rattle.dump_cut.specs.LoadChecks.{IsFirstRejected}
 use Rattle.dump_cut.specs.NamedPaths.{has_named_paths}
 use Rattle.dump_cut.specs.TakenCopies.{IsFirstNotTaken, emptied_by}
 use Rattle.dump_cut.specs.TrimmedCopies.{IsTrimmedBy, TrimsDump}
-use Rattle.dump_cut.proofs.LoadLaws.{unrefused_loads}
+use Rattle.dump_cut.proofs.LoadLaws.{unrejected_loads}
 use Rattle.dump_cut.proofs.NamedLemmas.{listed_in_named}
 use Rattle.dump_cut.proofs.OwnFormLemmas.{own_expansion}
 use Rattle.dump_cut.proofs.TakenLaw.{placed_named, revisions_named, taken_dump_loads}
@@ -444,9 +444,9 @@ module _ (m : CutMeaning) (dump : List ℕ) (settings : Settings) (deletes : Opt
       → all_apply root_alone (placed_from 1 revisions) (length (placed_from 1 revisions)) ≡ true
       → CutLoads patched m settings deletes excluded (text_read expansion dump) records again revisions text
   loaded patched revisions makes listed apply =
-      let unrefused = subst (λ l. IsFirstRefused l None) (sym its_listed) are.is_taken.1 in
+      let unrejected = subst (λ l. IsFirstRejected l None) (sym its_listed) are.is_taken.1 in
       let (trees, leads) = some_value (loaded_over root_alone revisions)
-      (unrefused_loads its.changes revisions listed unrefused apply) in
+      (unrejected_loads its.changes revisions listed unrejected apply) in
       let loads : LoadsAs patched root_alone records revisions trees = record { makes = makes; loads = leads } in
       cut_of patched revisions trees loads listed
       (loads_read patched revisions trees loads listed expansion are.is_read clean.whole

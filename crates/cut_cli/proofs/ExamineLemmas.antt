@@ -9,9 +9,9 @@ use Rattle.dump_index.specs.Listed.{Listed}
 use Rattle.dump_changes.specs.FileTexts.{ToldText, record_texts}
 use Rattle.dump_changes.specs.NodeProperties.{property_blocks}
 use Rattle.dump_cut.specs.LaterParts.{IsWhyNoPart}
-use Rattle.dump_cut.specs.LoadChecks.{IsFirstRefused}
+use Rattle.dump_cut.specs.LoadChecks.{IsFirstRejected}
 use Rattle.dump_cut.specs.declared.later.NoPart.{NoPart}
-use Rattle.dump_cut.specs.declared.load_check.Refused.{Refused}
+use Rattle.dump_cut.specs.declared.load_check.Rejected.{Rejected}
 use Rattle.dump_expansion.specs.GivenSteads.{GivenStead, IsExpandedBy}
 use Rattle.dump_additions.specs.declared.not_added.NotAdded.{NotAdded}
 use Rattle.dump_additions.specs.steps.Nodes.{AreAdditions}
@@ -79,10 +79,10 @@ odd_expansion m dump text read excluded asked obstacle (place, is, odd) =
 -- the changes of a text, up to where its reading stops
 module _ (drops : Bool) (text : List ℕ) (listed : List Listed) (excluded : List NodePath) (stop : Option Unread)
     (begins : BeginsWithChanges text listed) (up_to : MatchOption stop (AreChangesOf text listed) (IsUnreadFor drops text)) where
-  pub rejected : (found : Option Refused) → IsFirstRefused listed found → is_some found ≡ true
+  pub rejected : (found : Option Rejected) → IsFirstRejected listed found → is_some found ≡ true
       → IsNotRead drops text excluded
   rejected None first some = absurd (let bad : false ≡ true = some in cc)
-  rejected (Some refused) first some = inr (inl (listed, refused, begins, first))
+  rejected (Some found) first some = inr (inl (listed, found, begins, first))
 
 -- what is found of additions
 module _ (dump : List ℕ) (listed : List Listed) (excluded : List NodePath) (blocks : List (List ℕ)) (texts : List ToldText)

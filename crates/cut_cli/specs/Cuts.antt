@@ -44,14 +44,14 @@ use Rattle.dump_cut.specs.FollowedCopies.{ComeByFollowing}
 use Rattle.dump_cut.specs.FoundSiblings.{AreFoundSiblings}
 use Rattle.dump_cut.specs.NamedLines.{CoverMergeinfo}
 use Rattle.dump_cut.specs.LaterParts.{IsFirstPart, IsWhyNoPart}
-use Rattle.dump_cut.specs.LoadChecks.{IsFirstRefused}
+use Rattle.dump_cut.specs.LoadChecks.{IsFirstRejected}
 use Rattle.dump_cut.specs.TakenCopies.{IsFirstNotTaken, emptied_by}
 use Rattle.dump_cut.specs.TrimmedCopies.{AreDeletes, HasOddDelete, IsTrimmedBy}
-use Rattle.dump_cut.specs.declared.load_check.Refused.{Refused as RefusedChange}
+use Rattle.dump_cut.specs.declared.load_check.Rejected.{Rejected as RejectedChange}
 use Rattle.dump_expansion.specs.GivenSteads.{GivenStead, IsExpandedBy}
 use Rattle.cut_cli.specs.Words.{CutMeaning}
 use Rattle.cut_cli.specs.declared.examine.Obstacle.{Obstacle}
-use Rattle.cut_cli.specs.declared.examine.Obstacle.TheVariants.{ComesBack, OddDelete, Refused, Unread}
+use Rattle.cut_cli.specs.declared.examine.Obstacle.TheVariants.{ComesBack, OddDelete, Rejected, Unread}
 use Rattle.cut_cli.specs.declared.examine.Obstacle.TheVariants as obstacles
 use Rattle.cut_cli.specs.declared.read.Unread.{Unread as UnreadDump}
 use Rattle.cut_cli.specs.declared.read.Unread.TheVariants as unread
@@ -188,7 +188,7 @@ CutsOtherwise m dump listed excluded = (number : ℕ) × (path : NodePath) × (d
 
 -- a load takes all changes of the dump, as far as paths and kinds go
 abbrev pub IsTakenDump : List ℕ → List Listed → Type 0
-IsTakenDump dump listed = AreChangesOf dump listed × IsFirstRefused listed None
+IsTakenDump dump listed = AreChangesOf dump listed × IsFirstRejected listed None
 
 -- what the filter reads
 
@@ -235,8 +235,8 @@ IsNotAdded dump listed excluded not_added = (records : List DumpRecord) × HasRe
 -- why a dump with additions isn't read: it can't be read, a load would reject it, or something comes back there too
 abbrev pub IsNotRead : Bool → List ℕ → List NodePath → Type 0
 IsNotRead drops text excluded = ((reason : UnreadDump) × IsUnreadFor drops text reason)
-    ⊎ (((listed : List Listed) × (refused : RefusedChange) × BeginsWithChanges text listed
-    × IsFirstRefused listed (Some refused))
+    ⊎ (((listed : List Listed) × (rejected : RejectedChange) × BeginsWithChanges text listed
+    × IsFirstRejected listed (Some rejected))
     ⊎ ((listed : List Listed) × IsTakenDump text listed × BringsSomeBack listed excluded))
 
 -- there is a dump with additions, and it isn't read
@@ -268,8 +268,8 @@ HasPartIf (Some number) dump = (records : List DumpRecord) × HasRecords dump re
 -- why nothing is written
 abbrev pub IsObstacleTo : CutMeaning → List ℕ → Obstacle → Type 0
 IsObstacleTo m dump (Unread reason) = IsUnreadFor m.drop dump reason
-IsObstacleTo m dump (Refused refused) = (listed : List Listed) × BeginsWithChanges dump listed
-    × IsFirstRefused listed (Some refused)
+IsObstacleTo m dump (Rejected rejected) = (listed : List Listed) × BeginsWithChanges dump listed
+    × IsFirstRejected listed (Some rejected)
 IsObstacleTo m dump (obstacles.NoPart why) = (number : ℕ) × (records : List DumpRecord) × (m.after ≡ Some number)
     × HasRecords dump records Ending.Whole × IsWhyNoPart number records (Some why)
 IsObstacleTo m dump obstacles.CutsOtherwise = (listed : List Listed) × (excluded : List NodePath)

@@ -38,7 +38,7 @@ cut_status (Failed _ _) = 1
 
 abbrev pub obstacle_status : Obstacle → ℕ
 obstacle_status (obstacles.Unread _) = 1
-obstacle_status (obstacles.Refused _) = 1
+obstacle_status (obstacles.Rejected _) = 1
 obstacle_status obstacles.ComesBack = 3
 obstacle_status obstacles.CutsOtherwise = 3
 obstacle_status (obstacles.OddDelete _) = 1

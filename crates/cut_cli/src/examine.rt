@@ -16,7 +16,7 @@ ghost use Rattle.cut_cli.specs.steps.Examined.{AreDeletesIfAny, IsExamined, IsEx
 use crate::copy_lines::{write_advice, write_deletes, write_odd_delete, write_places};
 use crate::earlier::cuts_otherwise;
 use crate::expansion::{Expansion, front_to_cut, returns_of, with_additions};
-use crate::faults::{write_no_part, write_not_added, write_refused, write_unread};
+use crate::faults::{write_no_part, write_not_added, write_rejected, write_unread};
 use crate::lines::write_siblings;
 use crate::own_lives::report_additions;
 use crate::parents::report_parents;
@@ -28,8 +28,8 @@ use crate::written::{count_earlier, list_returns, report_replaced, report_writte
 use dump_additions::NotAdded;
 use dump_changes::Memory;
 use dump_cut::{
-    Deletes, Excluded, NoPart, PlacedRest, Refused, Way, add_named_siblings, find_siblings,
-    first_not_taken, first_refused, follow, no_part_after,
+    Deletes, Excluded, NoPart, PlacedRest, Rejected, Way, add_named_siblings, find_siblings,
+    first_not_taken, first_rejected, follow, no_part_after,
 };
 use dump_index::{ChangeIndex, NodeChange};
 use dump_rules::{Options, Side};
@@ -42,7 +42,7 @@ pub enum Obstacle {
     /// The changes of the dump can't be read.
     Unread(Unread),
     /// `svnadmin load` would reject a change of the dump.
-    Refused(Refused),
+    Rejected(Rejected),
     /// The dump has no part after the revision that the call names.
     NoPart(NoPart),
     /// The call follows copies, and a call for the revisions before its part alone would cut them in another way.
@@ -434,9 +434,9 @@ fn examine_front<E: Write>(
     ensures part { IfOk result (λ found. IfOk found (λ ready. HasPartIf call.now.after dump.now)) }
 {
     let index = &front.index;
-    if let Some(refused) = first_refused(alloc, index)? {
-        let _ = write_refused(errors, dump, index.changes(), refused);
-        return Ok(Err(Obstacle::Refused(refused)));
+    if let Some(rejected) = first_rejected(alloc, index)? {
+        let _ = write_rejected(errors, dump, index.changes(), rejected);
+        return Ok(Err(Obstacle::Rejected(rejected)));
     }
     if let Some(unread) = front.stop {
         let _ = write_unread(errors, dump, unread);

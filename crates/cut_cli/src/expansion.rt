@@ -11,7 +11,7 @@ ghost use Rattle.cut_cli.specs.steps.Examined.{IsFrontToCut};
 use crate::read::{Front, read_front};
 use dump_additions::{NotAdded, additions};
 use dump_changes::{Memory, PropertyTable, TextTable};
-use dump_cut::{Excluded, PlacedRest, Way, all_followed, first_refused};
+use dump_cut::{Excluded, PlacedRest, Way, all_followed, first_rejected};
 use dump_expansion::{Stead, expanded};
 use dump_index::ChangeIndex;
 use std::alloc::Global;
@@ -118,7 +118,7 @@ pub fn front_to_cut<'a>(
     if front.stop.is_some() {
         return Ok(None);
     }
-    if first_refused(alloc, &front.index)?.is_some() {
+    if first_rejected(alloc, &front.index)?.is_some() {
         return Ok(None);
     }
     if !returns_of(alloc, &front.index, excluded)?.is_empty() {

@@ -4,7 +4,7 @@ use crate::lines::write_path;
 use crate::read::Unread;
 use crate::spot::{Spot, first_revision, spot_of};
 use dump_additions::{NotAdded, Reason};
-use dump_cut::{NoPart, Refusal, Refused};
+use dump_cut::{NoPart, Rejected, Rejection};
 use dump_digest::properties_of;
 use dump_index::NodeChange;
 use dump_nodes::{action_of, has_undefined_delta};
@@ -34,14 +34,14 @@ fn fault_text(kind: FaultKind) -> &'static str {
 }
 
 /// Why `svnadmin load` would reject a node.
-fn refusal_text(refusal: Refusal) -> &'static str {
-    match refusal {
-        Refusal::Root => "it adds or deletes the root",
-        Refusal::NoPath => "the path does not exist",
-        Refusal::NoParent => "its parent is not a directory",
-        Refusal::Exists => "the path already exists",
-        Refusal::NoSource => "the copy source does not exist",
-        Refusal::TextOnDirectory => "a text on a directory",
+fn rejection_text(rejection: Rejection) -> &'static str {
+    match rejection {
+        Rejection::Root => "it adds or deletes the root",
+        Rejection::NoPath => "the path does not exist",
+        Rejection::NoParent => "its parent is not a directory",
+        Rejection::Exists => "the path already exists",
+        Rejection::NoSource => "the copy source does not exist",
+        Rejection::TextOnDirectory => "a text on a directory",
     }
 }
 
@@ -84,7 +84,7 @@ fn write_copied<E: Write>(errors: &mut E, spot: Spot<'_>) -> io::Result<()> {
 fn write_rejection<E: Write>(
     errors: &mut E,
     dump: &[u8],
-    refusal: Refusal,
+    rejection: Rejection,
     spot: Spot<'_>,
 ) -> io::Result<()> {
     match first_revision(dump) {
@@ -97,11 +97,11 @@ fn write_rejection<E: Write>(
             write_place(errors, 31, spot)
         }
         _ => {
-            match refusal {
-                Refusal::NoSource => write_copied(errors, spot)?,
+            match rejection {
+                Rejection::NoSource => write_copied(errors, spot)?,
                 _ => write_about(errors, spot)?,
             }
-            let text = refusal_text(refusal);
+            let text = rejection_text(rejection);
             write!(errors, "svnadmin load would reject this node: {text}")?;
             write_place(errors, 34, spot)
         }
@@ -176,7 +176,7 @@ pub fn write_not_added<E: Write>(
             spot,
         ),
         // the load check comes first, so no such copy gets here
-        Reason::NoLoad => write_rejection(errors, dump, Refusal::NoSource, spot),
+        Reason::NoLoad => write_rejection(errors, dump, Rejection::NoSource, spot),
         Reason::NotWritable => {
             write_copied(errors, spot)?;
             writeln!(
@@ -228,22 +228,22 @@ pub fn write_unread<E: Write>(errors: &mut E, dump: &[u8], unread: Unread) -> io
         Unread::NoChange(number) => write_no_change(errors, spot_of(dump, number)),
         Unread::OutOfOrder(number) => write_out_of_order(errors, spot_of(dump, number)),
         Unread::LaterCopy(number) | Unread::NoSource(number) => {
-            write_rejection(errors, dump, Refusal::NoSource, spot_of(dump, number))
+            write_rejection(errors, dump, Rejection::NoSource, spot_of(dump, number))
         }
         Unread::Gap(number) => write_gap(errors, spot_of(dump, number)),
     }
 }
 
 /// Says why `svnadmin load` would reject a node of the dump.
-pub fn write_refused<E: Write>(
+pub fn write_rejected<E: Write>(
     errors: &mut E,
     dump: &[u8],
     changes: &[NodeChange<'_>],
-    refused: Refused,
+    rejected: Rejected,
 ) -> io::Result<()> {
-    let Some(change) = changes.get(refused.place) else {
+    let Some(change) = changes.get(rejected.place) else {
         return Ok(());
     };
     let spot = spot_of(dump, change.record_number);
-    write_rejection(errors, dump, refused.refusal, spot)
+    write_rejection(errors, dump, rejected.rejection, spot)
 }

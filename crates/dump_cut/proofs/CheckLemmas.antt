@@ -11,10 +11,10 @@ use Rattle.dump_index.proofs.KeyLemmas.{listed_at}
 use Rattle.dump_index.proofs.LawLemmas.{Both, both_at}
 use Rattle.dump_cut.specs.LoadChecks.{reason_there}
 use Rattle.dump_cut.specs.NamedPaths.{has_named_paths}
-use Rattle.dump_cut.specs.Refusals.{refused_for}
+use Rattle.dump_cut.specs.Rejections.{rejected_for}
 use Rattle.dump_cut.specs.steps.KindViews.{kinds_meant}
 use Rattle.dump_cut.specs.declared.kinds.Kinds.{Kinds}
-use Rattle.dump_cut.specs.declared.refusal.Refusal.{Refusal}
+use Rattle.dump_cut.specs.declared.rejection.Rejection.{Rejection}
 
 pub named_at : (changes : List NodeChange) (place : ℕ) (d : NodeChange) → list_all has_named_paths (map listed_of changes) ≡ true
     → place < length changes → has_named_paths (listed_of (get_or changes place d)) ≡ true
@@ -53,8 +53,8 @@ same_length [] (p ∷ placed) all = absurd all
 same_length (l ∷ listed) [] all = absurd all
 same_length (l ∷ listed) (p ∷ placed) all = ap suc (same_length listed placed all.1)
 
-pub reason_is : (told : ToldKinds) (placed : List Placed) (place : ℕ) (p : Placed) (kinds : Kinds) (result : Option Refusal)
+pub reason_is : (told : ToldKinds) (placed : List Placed) (place : ℕ) (p : Placed) (kinds : Kinds) (result : Option Rejection)
     → slice_get placed place ≡ Some p → kinds_meant kinds ≡ kinds_told told placed place p
-    → result ≡ refused_for p.change (kinds_meant kinds) → reason_there told placed place (slice_get placed place) ≡ result
+    → result ≡ rejected_for p.change (kinds_meant kinds) → reason_there told placed place (slice_get placed place) ≡ result
 reason_is told placed place p kinds result there are is =
-    ap (reason_there told placed place) there ∙ sym (ap (refused_for p.change) are) ∙ sym is
+    ap (reason_there told placed place) there ∙ sym (ap (rejected_for p.change) are) ∙ sym is

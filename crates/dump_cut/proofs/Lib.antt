@@ -26,7 +26,7 @@ pub mod NodeNames
 pub mod OwnFormLemmas
 pub mod ParentLemmas
 pub mod RangeLemmas
-pub mod RefusalLemmas
+pub mod RejectionLemmas
 pub mod ReturnedLemmas
 pub mod SeenLemmas
 pub mod SourceLemmas

@@ -7,7 +7,7 @@ pub mod LaterParts
 pub mod LoadChecks
 pub mod NamedLines
 pub mod NamedPaths
-pub mod Refusals
+pub mod Rejections
 pub mod RevisionFates
 pub mod TakenCopies
 pub mod TrimmedCopies

@@ -4,17 +4,17 @@ ghost use Rattle.dump_cut.specs.FirstParts.{FirstPartsAreFiltered, FirstPartsAre
 ghost use Rattle.dump_cut.specs.FollowedCopies.{FollowedIsLeast};
 ghost use Rattle.dump_cut.specs.FoundSiblings.{FoundSiblingsAreAll};
 ghost use Rattle.dump_cut.specs.LaterParts.{DumpsLoadInParts};
-ghost use Rattle.dump_cut.specs.LoadChecks.{RefusedIsFirst, UnrefusedLoads};
-ghost use Rattle.dump_cut.specs.Refusals.{RefusedIsNotAllowed};
+ghost use Rattle.dump_cut.specs.LoadChecks.{RejectedIsFirst, UnrejectedLoads};
+ghost use Rattle.dump_cut.specs.Rejections.{RejectedIsNotAllowed};
 ghost use Rattle.dump_cut.specs.TakenCopies.{SeparatedDumpIsItsExpansion, TakenDumpLoads, TakenRevisionsSeparate};
 ghost use Rattle.dump_cut.specs.TrimmedCopies.{TrimmedCopiesLoad};
 
 /// If the load check rejects no change, a dump whose text deltas apply loads into an empty repository. If it rejects
 /// one, a load accepts the changes before this one, and stops there.
 pub fn loads_are_decided()
-    ensures kinds { RefusedIsNotAllowed }
-    ensures loads { UnrefusedLoads }
-    ensures stops { RefusedIsFirst }
+    ensures kinds { RejectedIsNotAllowed }
+    ensures loads { UnrejectedLoads }
+    ensures stops { RejectedIsFirst }
 {}
 
 /// If the filter takes each change of a dump as it is, what it writes loads into an empty repository. Each revision

@@ -1,6 +1,6 @@
 //! Examines a dump before the cut is written.
 //!
-//! [`canonical_prefix`] reads a prefix as `svnadmin load` reads paths. [`first_refused`] finds the first
+//! [`canonical_prefix`] reads a prefix as `svnadmin load` reads paths. [`first_rejected`] finds the first
 //! change of a dump that a load would reject, and why, as far as paths and kinds of nodes go.
 //!
 //! ```
@@ -89,7 +89,7 @@ mod load_check;
 mod mergeinfo_paths;
 mod named_siblings;
 mod parent_path;
-mod refusal;
+mod rejection;
 mod returns;
 mod seen_parent;
 mod siblings;
@@ -106,10 +106,10 @@ pub use fates::{RevisionFate, revision_fates};
 pub use followed::{Addition, follow};
 pub use kinds::Kinds;
 pub use later::{LaterPart, NoPart, first_part, later_part, no_part_after};
-pub use load_check::{Refused, first_refused};
+pub use load_check::{Rejected, first_rejected};
 pub use mergeinfo_paths::merge_paths;
 pub use named_siblings::add_named_siblings;
-pub use refusal::{Refusal, refusal_of};
+pub use rejection::{Rejection, rejection_of};
 pub use returns::{PlacedRest, Way, all_followed, followed_rests};
 pub use siblings::find_siblings;
 pub use taken::first_not_taken;

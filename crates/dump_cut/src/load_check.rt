@@ -6,14 +6,14 @@ ghost use Rattle.dump_trees.specs.Siblings.{has_node_names};
 ghost use Rattle.dump_index.specs.Kinds.{kind_look};
 ghost use Rattle.dump_index.specs.Listed.{listed_made, listed_of};
 ghost use Rattle.dump_index.specs.steps.KnownKinds.{AreKindsBehind, source_look};
-ghost use Rattle.dump_cut.specs.LoadChecks.{IsFirstRefused};
+ghost use Rattle.dump_cut.specs.LoadChecks.{IsFirstRejected};
 ghost use Rattle.dump_cut.specs.NamedPaths.{has_named_paths};
 ghost use Rattle.dump_cut.specs.steps.KindsBefore.{AreKindsBefore, AreSeen};
 
 use crate::copies::source_of;
 use crate::kinds::Kinds;
 use crate::parent_path::{is_root, parent_text};
-use crate::refusal::{Refusal, refusal_of};
+use crate::rejection::{Rejection, rejection_of};
 use crate::seen_parent::{Seen, kind_seen, seen_behind};
 use dump_index::{ChangeIndex, NodeChange, NodeKind};
 use dump_rules::Memory;
@@ -21,10 +21,10 @@ use std::alloc::Global;
 
 /// A change that a load would reject.
 #[derive(Clone, Copy, Debug, PartialEq, Eq)]
-pub struct Refused {
+pub struct Rejected {
     /// The index of the change in the dump, from 0.
     pub place: usize,
-    pub refusal: Refusal,
+    pub rejection: Rejection,
 }
 
 /// What exists at the directory that contains the path, after the changes in `known`.
@@ -98,9 +98,9 @@ fn kinds_before(
 
 /// The first change of the index that `svnadmin load` would reject, and why; `None` if it would accept them all. Only
 /// what exists at paths is checked, not whether a text delta applies to the old text.
-pub fn first_refused(alloc: Global, index: &ChangeIndex<'_>) -> Result<Option<Refused>, Memory>
+pub fn first_rejected(alloc: Global, index: &ChangeIndex<'_>) -> Result<Option<Rejected>, Memory>
     requires { IsTrue (list_all has_named_paths index.now) }
-    ensures { IfOk result (λ found. IsFirstRefused index.now found) }
+    ensures { IfOk result (λ found. IsFirstRejected index.now found) }
 {
     let changes = index.changes();
     let mut known = Vec::new(alloc);
@@ -110,8 +110,8 @@ pub fn first_refused(alloc: Global, index: &ChangeIndex<'_>) -> Result<Option<Re
     };
     for (place, change) in changes.iter().enumerate() {
         let kinds = kinds_before(alloc, index, &known, &seen, change)?;
-        if let Some(refusal) = refusal_of(change, &kinds) {
-            return Ok(Some(Refused { place, refusal }));
+        if let Some(rejection) = rejection_of(change, &kinds) {
+            return Ok(Some(Rejected { place, rejection }));
         }
         seen = seen_behind(&seen, change, kinds.parent);
         known.push(index.kind_behind(place, kinds.here, kinds.source))?;

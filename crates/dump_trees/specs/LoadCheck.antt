@@ -227,7 +227,7 @@ PlainLooksTellKinds = (first : Tree) (placed plain : List Placed) →
 
 -- this change is rejected at this place: the changes before it load, and with it they don't; nor does the dump. Its
 -- revision can have changes before it and after it
-pub record IsRefusedAt (first : Tree) (revisions : List (List Change)) (place : ℕ) (c : Change) : Type 0 where
+pub record IsRejectedAt (first : Tree) (revisions : List (List Change)) (place : ℕ) (c : Change) : Type 0 where
   pub front : List (List Change)
   pub changes : List Change
   pub more : List Change
@@ -235,15 +235,15 @@ pub record IsRefusedAt (first : Tree) (revisions : List (List Change)) (place : 
   pub parted : revisions ≡ front ++ (changes ++ c ∷ more) ∷ rest
   pub at : place ≡ length (placed_from 1 (front ++ changes ∷ []))
   pub loads : IsTrue (is_some (loaded_over first (front ++ changes ∷ [])))
-  pub refused : loaded_over first (front ++ (changes ++ c ∷ []) ∷ []) ≡ None
+  pub rejected : loaded_over first (front ++ (changes ++ c ∷ []) ∷ []) ≡ None
   pub none : loaded_over first revisions ≡ None
 
 -- this is true of the first change that isn't allowed, if the deltas before it apply
-abbrev pub FirstRefusalIsThere : Type 0
-FirstRefusalIsThere = (told : ToldKinds) (first : Tree) (revisions : List (List Change)) (placed : List Placed)
+abbrev pub FirstRejectionIsThere : Type 0
+FirstRejectionIsThere = (told : ToldKinds) (first : Tree) (revisions : List (List Change)) (placed : List Placed)
     (place : ℕ) (p : Placed) →
     placed ≡ placed_from 1 revisions → slice_get placed place ≡ Some p
     → TellsKinds told first placed
     → IsTrue (all_allowed told placed place) → IsTrue (all_apply first placed place)
     → IsFalse (allowed_there told placed place (Some p))
-    → IsRefusedAt first revisions place p.change
+    → IsRejectedAt first revisions place p.change

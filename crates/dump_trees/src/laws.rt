@@ -12,7 +12,7 @@ ghost use Rattle.dump_trees.specs.Following.{CopiesArePlaced, EachCopyIsOver, Fo
 ghost use Rattle.dump_trees.specs.FrontLaws.{BegunTreesStay, EachFrontRestricts};
 ghost use Rattle.dump_trees.specs.HistoryLaws.{EachHistoryRestricts, EachRevisionRestricts};
 ghost use Rattle.dump_trees.specs.Listing.{NamesAreLooked};
-ghost use Rattle.dump_trees.specs.LoadCheck.{DumpIsAllowed, FirstRefusalIsThere, PlainLooksTellKinds, StepIsAllowed, TellsEachTree};
+ghost use Rattle.dump_trees.specs.LoadCheck.{DumpIsAllowed, FirstRejectionIsThere, PlainLooksTellKinds, StepIsAllowed, TellsEachTree};
 ghost use Rattle.dump_trees.specs.Looking.{LookFinds, LookFindsEach};
 ghost use Rattle.dump_trees.specs.MovedLaws.{EachLoadsAlike, LoadsBehindOthers};
 ghost use Rattle.dump_trees.specs.PathLaws.{KeepsAsTextDoes, TextsAreRead};
@@ -117,7 +117,7 @@ pub fn loads_are_checked()
     ensures dump { DumpIsAllowed }
     ensures plain { PlainLooksTellKinds }
     ensures trees { TellsEachTree }
-    ensures place { FirstRefusalIsThere }
+    ensures place { FirstRejectionIsThere }
 {}
 
 /// The excluded paths, and what exists at the source of a copy, determine what returns by the copy. If nothing returns,

@@ -1,4 +1,4 @@
-//! What no contract says: each refusal with an example, prefixes in canonical form, copies of excluded paths, and
+//! What no contract says: each rejection with an example, prefixes in canonical form, copies of excluded paths, and
 //! allocations that fail.
 ghost use Rattle.std.specs.Prelude.{IfOk, IfSome, IsTrue};
 ghost use Rattle.std.specs.List.{list_all};
@@ -6,9 +6,9 @@ ghost use Rattle.dump_cut.specs.NamedPaths.{has_named_paths};
 
 use dump_changes::{End, read_changes};
 use dump_cut::{
-    Addition, Deletes, Excluded, Memory, NoPart, PlacedRest, Refusal, Refused, Way, all_followed,
-    canonical_prefix, cut_differences, find_siblings, first_not_taken, first_part, first_refused,
-    follow, later_part, merge_paths, no_part_after, revision_fates,
+    Addition, Deletes, Excluded, Memory, NoPart, PlacedRest, Rejected, Rejection, Way,
+    all_followed, canonical_prefix, cut_differences, find_siblings, first_not_taken, first_part,
+    first_rejected, follow, later_part, merge_paths, no_part_after, revision_fates,
 };
 use dump_index::{ChangeIndex, first_out_of_order};
 use dump_rules::{Empty, keeps};
@@ -32,9 +32,9 @@ pub(crate) fn index_of<'a>(alloc: Global, dump: &'a [u8]) -> Result<Option<Chang
 }
 
 /// Why a load would reject a dump; `None` if it can't be read.
-fn refused(alloc: Global, dump: &[u8]) -> Result<Option<Option<Refused>>, Memory> {
+fn rejected(alloc: Global, dump: &[u8]) -> Result<Option<Option<Rejected>>, Memory> {
     match index_of(alloc, dump)? {
-        Some(index) => Ok(Some(first_refused(alloc, &index)?)),
+        Some(index) => Ok(Some(first_rejected(alloc, &index)?)),
         None => Ok(None),
     }
 }
@@ -48,51 +48,57 @@ fn dump_with(alloc: Global, node: &str) -> Result<Vec<u8>, Memory> {
 }
 
 /// Whether the node is the first that a load would reject, for this reason; or it would reject none.
-fn is_refused(alloc: Global, node: &str, refusal: Option<Refusal>) -> Result<bool, Memory> {
+fn is_rejected(alloc: Global, node: &str, rejection: Option<Rejection>) -> Result<bool, Memory> {
     let dump = dump_with(alloc, node)?;
-    let found = refused(alloc, &dump)?;
-    Ok(found == Some(refusal.map(|refusal| Refused { place: 2, refusal })))
+    let found = rejected(alloc, &dump)?;
+    Ok(
+        found
+            == Some(rejection.map(|rejection| Rejected {
+                place: 2,
+                rejection,
+            })),
+    )
 }
 
 #[test]
 fn nodes_that_a_load_takes(rt: HostRuntime) -> Result<(), Fail> {
     let alloc = rt.alloc();
-    assert!(rt; is_refused(alloc, "Node-path: d/f\nNode-action: delete\n", None)?);
-    assert!(rt; is_refused(alloc, "Node-path: e\nNode-action: change\n", None)?);
+    assert!(rt; is_rejected(alloc, "Node-path: d/f\nNode-action: delete\n", None)?);
+    assert!(rt; is_rejected(alloc, "Node-path: e\nNode-action: change\n", None)?);
     let delta = "Node-path: e\nNode-action: change\nProp-delta: true\nProp-content-length: 10\n\
 Content-length: 10\n\nPROPS-END\n";
-    assert!(rt; is_refused(alloc, delta, None)?);
+    assert!(rt; is_rejected(alloc, delta, None)?);
     Ok(())
 }
 
 #[test]
-fn nodes_that_are_refused(rt: HostRuntime) -> Result<(), Fail> {
+fn nodes_that_are_rejected(rt: HostRuntime) -> Result<(), Fail> {
     let alloc = rt.alloc();
     let root = "Node-path: \nNode-action: delete\n";
     let gone = "Node-path: e\nNode-action: delete\n";
     let inside = "Node-path: d/f/e\nNode-kind: dir\nNode-action: add\n";
     let over = "Node-path: d/f\nNode-kind: file\nNode-action: add\n";
-    assert!(rt; is_refused(alloc, root, Some(Refusal::Root))?);
-    assert!(rt; is_refused(alloc, gone, Some(Refusal::NoPath))?);
-    assert!(rt; is_refused(alloc, inside, Some(Refusal::NoParent))?);
-    assert!(rt; is_refused(alloc, over, Some(Refusal::Exists))?);
+    assert!(rt; is_rejected(alloc, root, Some(Rejection::Root))?);
+    assert!(rt; is_rejected(alloc, gone, Some(Rejection::NoPath))?);
+    assert!(rt; is_rejected(alloc, inside, Some(Rejection::NoParent))?);
+    assert!(rt; is_rejected(alloc, over, Some(Rejection::Exists))?);
     Ok(())
 }
 
 #[test]
-fn copies_and_texts_that_are_refused(rt: HostRuntime) -> Result<(), Fail> {
+fn copies_and_texts_that_are_rejected(rt: HostRuntime) -> Result<(), Fail> {
     let alloc = rt.alloc();
     let source = "Node-path: e\nNode-action: add\nNode-copyfrom-rev: 1\nNode-copyfrom-path: d/g\n";
     let text = "Node-path: d\nNode-action: change\nText-content-length: 1\nContent-length: 1\n\nx";
-    assert!(rt; is_refused(alloc, source, Some(Refusal::NoSource))?);
-    assert!(rt; is_refused(alloc, text, Some(Refusal::TextOnDirectory))?);
+    assert!(rt; is_rejected(alloc, source, Some(Rejection::NoSource))?);
+    assert!(rt; is_rejected(alloc, text, Some(Rejection::TextOnDirectory))?);
     Ok(())
 }
 
 #[test]
 fn a_check_or_no_memory(rt: HostRuntime) {
     let node = "Node-path: e\nNode-action: add\nNode-copyfrom-rev: 1\nNode-copyfrom-path: d\n";
-    let answer = is_refused(rt.alloc(), node, None);
+    let answer = is_rejected(rt.alloc(), node, None);
     assert!(rt; matches!(answer, Ok(true) | Err(Memory)));
 }
 

@@ -4,7 +4,7 @@ use Rattle.std.proofs.Common.{ℕ, Bool, true, false, ◌&&◌, List, [], ◌∷
 use Rattle.std.proofs.lemmas.List.Sums.{sum_by-append}
 use Rattle.std.proofs.lemmas.Option.{slice_get_within, same_Some}
 use Rattle.dump_trees.specs.Looking.{Placed, placed_from, end_of, Origin, origin_of, looked_up, look}
-use Rattle.dump_trees.specs.LoadCheck.{Kind, kind_of_node, kind_at, is_directory, is_file, Kinds, deletion_allowed, kind_left, making_allowed, kind_made, sets_props, kinds_allow, source_kind, kinds_before, node_from, delta_applies, ToldKinds, TellsKinds, source_told, kinds_told, allowed_there, all_allowed, applies_there, all_apply, DumpIsAllowed, TellsEachTree, IsRefusedAt, FirstRefusalIsThere}
+use Rattle.dump_trees.specs.LoadCheck.{Kind, kind_of_node, kind_at, is_directory, is_file, Kinds, deletion_allowed, kind_left, making_allowed, kind_made, sets_props, kinds_allow, source_kind, kinds_before, node_from, delta_applies, ToldKinds, TellsKinds, source_told, kinds_told, allowed_there, all_allowed, applies_there, all_apply, DumpIsAllowed, TellsEachTree, IsRejectedAt, FirstRejectionIsThere}
 use Rattle.dump_trees.proofs.histories.KeptNumbers.{length_push, get_last}
 use Rattle.dump_trees.proofs.histories.FrontLemmas.{begun_trees, loaded_length}
 use Rattle.dump_trees.proofs.expansions.LookLemmas.{count_none, count_whole, look_finds, origin_source}
@@ -470,9 +470,9 @@ module _ (told : ToldKinds) (first : Tree) (placed : List Placed) where
                   ≡ (kinds_allow c kinds && delta_applies c.text (option_and_then (λ old. old source) o))
               cases None at =
                   let (start, made) = origin_source c.deletes c.made [] number source from in
-                  let refused = no_source number start made at in
-                  ap (λ b. b && delta_applies c.text (look first placed (end_of placed number) source)) refused
-                  ∙ sym (ap (λ b. b && delta_applies c.text None) refused)
+                  let rejected = no_source number start made at in
+                  ap (λ b. b && delta_applies c.text (look first placed (end_of placed number) source)) rejected
+                  ∙ sym (ap (λ b. b && delta_applies c.text None) rejected)
               cases (Some old) at =
                   ap (λ o. kinds_allow c kinds && delta_applies c.text o)
                   (tells_before (λ o. o) (look first placed) first placed finds front rest_here trees number old source
@@ -653,7 +653,7 @@ tells_each_tree told first revisions trees number tree path tells is there =
 
 -- the first rejection
 
-pub first_refusal_is_found : (told : ToldKinds) (first : Tree) (front : List (List Change)) (changes : List Change) (c : Change)
+pub first_rejection_is_found : (told : ToldKinds) (first : Tree) (front : List (List Change)) (changes : List Change) (c : Change)
     (more : List Change) (rest : List (List Change)) (placed : List Placed) (place : ℕ) →
     placed ≡ placed_from 1 (front ++ (changes ++ c ∷ more) ∷ rest)
     → place ≡ length (placed_from 1 (front ++ changes ∷ []))
@@ -662,7 +662,7 @@ pub first_refusal_is_found : (told : ToldKinds) (first : Tree) (front : List (Li
     → IsFalse (allowed_there told placed place (slice_get placed place))
     → IsTrue (is_some (loaded_over first (front ++ changes ∷ [])))
     × (loaded_over first (front ++ (changes ++ c ∷ []) ∷ []) ≡ None)
-first_refusal_is_found told first front changes c more rest placed place same here tells allowed apply refused = (
+first_rejection_is_found told first front changes c more rest placed place same here tells allowed apply rejected = (
   load_is_allowed told first (front ++ changes ∷ []) (this ∷ later) tells_one late_one
       ∙ (ap₂ (λ ps n. pass told first ps n) (sym one) (sym here)
       ∙ and_from (all_allowed told placed place) (all_apply first placed place) allowed apply),
@@ -670,7 +670,7 @@ first_refusal_is_found told first front changes c more rest placed place same he
       (load_is_allowed told first (front ++ (changes ++ c ∷ []) ∷ []) later tells_two late_two
       ∙ (ap₂ (λ ps n. pass told first ps n) (sym two) next
       ∙ (pass_next told first placed place
-      ∙ (ap (λ b. pass told first placed place && (b && applies_there first placed place (slice_get placed place))) refused
+      ∙ (ap (λ b. pass told first placed place && (b && applies_there first placed place (slice_get placed place))) rejected
       ∙ and-false (pass told first placed place))))),
 )
   where
@@ -784,18 +784,18 @@ place_split number (now ∷ revisions) place p at =
           )
     ]
 
-pub first_refusal_is_there : FirstRefusalIsThere
-first_refusal_is_there told first revisions placed place p same there tells allowed apply refused =
+pub first_rejection_is_there : FirstRejectionIsThere
+first_rejection_is_there told first revisions placed place p same there tells allowed apply rejected =
     by_parts (place_split 1 revisions place p (ap (λ ps. slice_get ps place) (sym same) ∙ there))
   where
-    refused_there : allowed_there told placed place (slice_get placed place) ≡ false
-    refused_there = ap (allowed_there told placed place) there ∙ refused
+    rejected_there : allowed_there told placed place (slice_get placed place) ≡ false
+    rejected_there = ap (allowed_there told placed place) there ∙ rejected
 
     next_fails : pass told first placed (suc place) ≡ false
     next_fails =
         pass_next told first placed place
         ∙ (ap (λ b. pass told first placed place && (b && applies_there first placed place (slice_get placed place)))
-        refused_there
+        rejected_there
         ∙ and-false (pass told first placed place))
 
     within : suc place ≤ length placed
@@ -811,10 +811,10 @@ first_refusal_is_there told first revisions placed place p same there tells allo
     by_parts : (front : List (List Change)) × (changes : List Change) × (more : List Change) × (rest : List (List Change))
         × (revisions ≡ front ++ (changes ++ p.change ∷ more) ∷ rest)
         × (place ≡ length (placed_from 1 (front ++ changes ∷ [])))
-        → IsRefusedAt first revisions place p.change
+        → IsRejectedAt first revisions place p.change
     by_parts (front, changes, more, rest, parts, at) =
-        let both = first_refusal_is_found told first front changes p.change more rest placed place
-        (same ∙ ap (placed_from 1) parts) at tells allowed apply refused_there in
+        let both = first_rejection_is_found told first front changes p.change more rest placed place
+        (same ∙ ap (placed_from 1) parts) at tells allowed apply rejected_there in
         record {
           front = front;
           changes = changes;
@@ -823,6 +823,6 @@ first_refusal_is_there told first revisions placed place p same there tells allo
           parted = parts;
           at = at;
           loads = both.0;
-          refused = both.1;
+          rejected = both.1;
           none = none;
         }

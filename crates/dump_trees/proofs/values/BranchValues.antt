@@ -117,14 +117,14 @@ made_root : made_there made_alone (codes "a") ≡ Some (Node.Directory (one ∷ 
 made_root = refl
 
 -- a branch with two files of one name isn't made: the second file is rejected
-refused_twice : is_none (steps nowhere root_alone
+rejected_twice : is_none (steps nowhere root_alone
     (directory_of (path_of (codes "a")) [] ∷ file_of (path_of (codes "a/f")) [] (codes "1")
     ∷ file_of (path_of (codes "a/f")) [] (codes "2") ∷ [])) ≡ true
-refused_twice = refl
+rejected_twice = refl
 
 -- a branch isn't made over something either
-refused_over : is_none (steps nowhere root_alone (directory_of (path_of (codes "a")) [] ∷ made_alone)) ≡ true
-refused_over = refl
+rejected_over : is_none (steps nowhere root_alone (directory_of (path_of (codes "a")) [] ∷ made_alone)) ≡ true
+rejected_over = refl
 
 -- copies of branches
 

@@ -2,8 +2,8 @@
 use Rattle.dump_trees.proofs.Prelude.{◌≡◌, not, AllZip, codes, refl, ap, option_map, slice_get, path_of, Tree, root_alone, Change, History, step, loaded_over}
 use Rattle.std.proofs.Common.{ℕ, true, false, List, [], ◌∷◌, length, Option, Some, None, is_some}
 use Rattle.dump_trees.specs.Looking.{Placed, placed_from, look}
-use Rattle.dump_trees.specs.LoadCheck.{patches_text, HasSameKinds, IsRefusedAt, Kind, kind_of_node, Kinds, kinds_allow, kinds_before, node_set, delta_applies, ToldKinds, TellsKinds, allowed_there, all_allowed, all_apply}
-use Rattle.dump_trees.proofs.cuts.CheckedLoads.{first_refusal_is_there}
+use Rattle.dump_trees.specs.LoadCheck.{patches_text, HasSameKinds, IsRejectedAt, Kind, kind_of_node, Kinds, kinds_allow, kinds_before, node_set, delta_applies, ToldKinds, TellsKinds, allowed_there, all_allowed, all_apply}
+use Rattle.dump_trees.proofs.cuts.CheckedLoads.{first_rejection_is_there}
 use Rattle.dump_trees.proofs.cuts.PlainLooks.{plain_looks_tell_kinds}
 use Rattle.dump_trees.proofs.values.ValueParts.{change, directory, file, copy, deletion, replacing, setting, editing, writing, patching, property}
 
@@ -91,21 +91,21 @@ no_history number = None
 abbrev with_file : Tree
 with_file path = look root_alone (placed_from 1 ((file (codes "f") (codes "1") ∷ []) ∷ [])) 1 path
 
-abbrev refused_delta : Change
-refused_delta = patching (λ old. None) (change (codes "f"))
+abbrev rejected_delta : Change
+rejected_delta = patching (λ old. None) (change (codes "f"))
 
-kinds_allow_it : kinds_allow refused_delta (kinds_before no_history with_file refused_delta) ≡ true
+kinds_allow_it : kinds_allow rejected_delta (kinds_before no_history with_file rejected_delta) ≡ true
 kinds_allow_it = refl
 
-does_not_apply : delta_applies refused_delta.text (node_set no_history with_file refused_delta) ≡ false
+does_not_apply : delta_applies rejected_delta.text (node_set no_history with_file rejected_delta) ≡ false
 does_not_apply = refl
 
-so_it_is_refused : is_some (step no_history with_file refused_delta) ≡ false
-so_it_is_refused = refl
+so_it_is_rejected : is_some (step no_history with_file rejected_delta) ≡ false
+so_it_is_rejected = refl
 
 -- a dump of it: its kinds are allowed, and its delta doesn't apply
 abbrev with_delta : List Placed
-with_delta = placed_from 1 ((file (codes "f") (codes "1") ∷ []) ∷ (refused_delta ∷ []) ∷ [])
+with_delta = placed_from 1 ((file (codes "f") (codes "1") ∷ []) ∷ (rejected_delta ∷ []) ∷ [])
 
 all_kinds_allow : all_allowed (λ count path. option_map kind_of_node (look root_alone with_delta count path)) with_delta 2 ≡ true
 all_kinds_allow = refl
@@ -219,15 +219,15 @@ another_kind : HasSameKinds record { revision = 1; change = directory (codes "a"
 another_kind s = absurd (let bad : true ≡ false = s.text in cc)
 
 -- and a delta may be rejected
-a_delta : HasSameKinds record { revision = 1; change = refused_delta } record { revision = 1; change = refused_delta } → ⊥
+a_delta : HasSameKinds record { revision = 1; change = rejected_delta } record { revision = 1; change = rejected_delta } → ⊥
 a_delta s = absurd (let bad : false ≡ true = s.whole in cc)
 
 -- the sixth change of the dump is rejected, and so is the dump
-sixth_refused : IsRefusedAt root_alone whole 5 (copy 2 (codes "a") (codes "c"))
-sixth_refused =
-    first_refusal_is_there (λ count path. option_map kind_of_node (look root_alone plain count path)) root_alone whole placed
+sixth_rejected : IsRejectedAt root_alone whole 5 (copy 2 (codes "a") (codes "c"))
+sixth_rejected =
+    first_rejection_is_there (λ count path. option_map kind_of_node (look root_alone plain count path)) root_alone whole placed
     5 (record { revision = 3; change = copy 2 (codes "a") (codes "c") }) refl refl plain_tells refl refl refl
 
 -- no change of a dump that loads is rejected
-none_is_refused : IsRefusedAt root_alone ((directory (codes "a") ∷ []) ∷ []) 0 (directory (codes "a")) → ⊥
-none_is_refused r = absurd (let bad : true ≡ false = ap (λ o. is_some o) r.none in cc)
+none_is_rejected : IsRejectedAt root_alone ((directory (codes "a") ∷ []) ∷ []) 0 (directory (codes "a")) → ⊥
+none_is_rejected r = absurd (let bad : true ≡ false = ap (λ o. is_some o) r.none in cc)

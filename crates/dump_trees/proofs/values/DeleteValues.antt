@@ -88,5 +88,5 @@ the_source_stays : behind (codes "a/d/s") ≡ Some (Node.File [] (codes "2"))
 the_source_stays = refl
 
 -- a load rejects them before the copy
-refused_before : is_some (step (slice_get trees) old (deletion_of (path_of (codes "b/s")))) ≡ false
-refused_before = refl
+rejected_before : is_some (step (slice_get trees) old (deletion_of (path_of (codes "b/s")))) ≡ false
+rejected_before = refl

@@ -1,7 +1,7 @@
 -- Examples of property deltas and text deltas, as svnadmin load takes them.
 use Rattle.dump_trees.proofs.Prelude.{◌≡◌, codes, refl, Property, Node, Change}
 use Rattle.std.proofs.Common.{ℕ, true, List, [], ◌∷◌, ◌++◌, Option, Some, None}
-use Rattle.dump_trees.proofs.values.ValueParts.{change, directory, file, copy, deletion, replacing, setting, editing, writing, patching, property, removal, stands, is_refused}
+use Rattle.dump_trees.proofs.values.ValueParts.{change, directory, file, copy, deletion, replacing, setting, editing, writing, patching, property, removal, stands, is_rejected}
 
 abbrev p : Property
 p = property (codes "p") (codes "1")
@@ -67,10 +67,10 @@ edits_replaced = refl
 
 -- edits are rejected if nothing exists at the path, but an empty list of edits is taken
 
-edits_nothing : is_refused begun (editing (p ∷ []) (change (codes "n"))) ≡ true
+edits_nothing : is_rejected begun (editing (p ∷ []) (change (codes "n"))) ≡ true
 edits_nothing = refl
 
-takes_from_nothing : is_refused begun (editing (removal (codes "p") ∷ []) (change (codes "n"))) ≡ true
+takes_from_nothing : is_rejected begun (editing (removal (codes "p") ∷ []) (change (codes "n"))) ≡ true
 takes_from_nothing = refl
 
 none_of_nothing : then (editing [] (change (codes "n"))) (codes "f") ≡ with (p ∷ q ∷ [])
@@ -100,8 +100,8 @@ whole_later = refl
 abbrev behind : List ℕ → Option (List ℕ)
 behind old = Some (old ++ codes "new")
 
-abbrev refused : List ℕ → Option (List ℕ)
-refused old = None
+abbrev rejected : List ℕ → Option (List ℕ)
+rejected old = None
 
 patched : then (patching behind (change (codes "f"))) (codes "f")
     ≡ Some (Node.File (p ∷ q ∷ []) (codes "oldnew"))
@@ -115,11 +115,11 @@ patched_copy : then (patching behind (copy 1 (codes "f") (codes "g"))) (codes "g
     ≡ Some (Node.File (p ∷ q ∷ []) (codes "oldnew"))
 patched_copy = refl
 
-patch_refused : is_refused begun (patching refused (change (codes "f"))) ≡ true
-patch_refused = refl
+patch_rejected : is_rejected begun (patching rejected (change (codes "f"))) ≡ true
+patch_rejected = refl
 
-patched_directory : is_refused begun (patching behind (change (codes "a"))) ≡ true
+patched_directory : is_rejected begun (patching behind (change (codes "a"))) ≡ true
 patched_directory = refl
 
-patched_nothing : is_refused begun (patching behind (change (codes "n"))) ≡ true
+patched_nothing : is_rejected begun (patching behind (change (codes "n"))) ≡ true
 patched_nothing = refl

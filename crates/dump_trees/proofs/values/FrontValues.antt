@@ -212,19 +212,19 @@ both_load = refl
 
 -- a third revision that is rejected, since the file exists there already
 
-abbrev refused : List (List Change)
-refused = (file (codes "trunk/f") (codes "3") ∷ []) ∷ []
+abbrev rejected : List (List Change)
+rejected = (file (codes "trunk/f") (codes "3") ∷ []) ∷ []
 
-whole_is_refused : is_none (loaded_over root_alone (front ++ refused)) ≡ true
-whole_is_refused = refl
+whole_is_rejected : is_none (loaded_over root_alone (front ++ rejected)) ≡ true
+whole_is_rejected = refl
 
 its_law : (trees : List Tree) → loaded_over root_alone front ≡ Some trees
-    → FrontLoads settings as_it_was none_more (kept_of settings none_more (front ++ refused)) front
-    (first ++ refused) trees
+    → FrontLoads settings as_it_was none_more (kept_of settings none_more (front ++ rejected)) front
+    (first ++ rejected) trees
 its_law trees at =
-    front_history settings as_it_was entries_stay none_more front refused (first ++ refused) trees refl at
+    front_history settings as_it_was entries_stay none_more front rejected (first ++ rejected) trees refl at
     (all_quiet settings (root_alone ∷ []) root_alone front refl refl)
-    (first_is_written _ refused refused (
+    (first_is_written _ rejected rejected (
       file (codes "trunk/f") (codes "3") ∷ [],
       [],
       refl,

@@ -82,8 +82,8 @@ misses_is_part = (
 only_misses_fails : premises (including (codes "a")) misses ≡ true ∷ false ∷ true ∷ true ∷ []
 only_misses_fails = refl
 
-misses_is_refused : is_some (loaded_over (given (including (codes "a"))) misses) ≡ false
-misses_is_refused = refl
+misses_is_rejected : is_some (loaded_over (given (including (codes "a"))) misses) ≡ false
+misses_is_rejected = refl
 
 -- a revision is dropped, and the others aren't renumbered: the copy names a number that the filtered dump doesn't have
 
@@ -348,8 +348,8 @@ copy_over_is_part = (
 only_copy_over_fails : premises (including (codes "trunk")) copy_over ≡ true ∷ true ∷ true ∷ false ∷ []
 only_copy_over_fails = refl
 
-new_file_is_refused : ¬ HasLaw (including (codes "trunk")) copy_over copy_over_part
-new_file_is_refused law =
+new_file_is_rejected : ¬ HasLaw (including (codes "trunk")) copy_over copy_over_part
+new_file_is_rejected law =
     let bad : false ≡ true = both_load (including (codes "trunk")) copy_over copy_over_part refl law in cc
 
 -- an excluded directory above a prefix is deleted: what is kept below it stays

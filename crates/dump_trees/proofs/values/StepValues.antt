@@ -1,7 +1,7 @@
 -- Examples of loading. Each shows that a definition of a change differs from one that svnadmin load doesn't have.
 use Rattle.dump_trees.proofs.Prelude.{◌≡◌, option_map, codes, refl, Property, Node, root_alone, Made, Change, loaded_over}
 use Rattle.std.proofs.Common.{true, List, [], ◌∷◌, ◌++◌, length, Some, None}
-use Rattle.dump_trees.proofs.values.ValueParts.{change, directory, file, copy, deletion, replacing, setting, writing, property, node_at, stands, is_refused}
+use Rattle.dump_trees.proofs.values.ValueParts.{change, directory, file, copy, deletion, replacing, setting, writing, property, node_at, stands, is_rejected}
 
 -- two directories with a file in each
 abbrev begun : List (List Change)
@@ -61,7 +61,7 @@ properties_taken : stands (then_both (setting (one ∷ []) (change (codes "a")))
     ≡ Some (Node.Directory [])
 properties_taken = refl
 
-properties_of_nothing : is_refused begun (setting (one ∷ []) (change (codes "n"))) ≡ true
+properties_of_nothing : is_rejected begun (setting (one ∷ []) (change (codes "n"))) ≡ true
 properties_of_nothing = refl
 
 -- texts
@@ -75,13 +75,13 @@ properties_kept : stands
     (codes "a/f") ≡ Some (Node.File (one ∷ []) (codes "2"))
 properties_kept = refl
 
-text_of_nothing : is_refused begun (writing (codes "2") (change (codes "n"))) ≡ true
+text_of_nothing : is_rejected begun (writing (codes "2") (change (codes "n"))) ≡ true
 text_of_nothing = refl
 
-text_of_directory : is_refused begun (writing (codes "2") (change (codes "a"))) ≡ true
+text_of_directory : is_rejected begun (writing (codes "2") (change (codes "a"))) ≡ true
 text_of_directory = refl
 
-empty_text_of_directory : is_refused begun (writing [] (change (codes "a"))) ≡ true
+empty_text_of_directory : is_rejected begun (writing [] (change (codes "a"))) ≡ true
 empty_text_of_directory = refl
 
 both_set : stands (then (setting (one ∷ []) (writing (codes "2") (change (codes "a/f"))))) (codes "a/f")
@@ -102,13 +102,13 @@ deleted_below = refl
 deleted_there : stands (then (deletion (codes "a"))) (codes "c/x") ≡ Some (Node.File [] (codes "x"))
 deleted_there = refl
 
-deletion_of_nothing : is_refused begun (deletion (codes "n")) ≡ true
+deletion_of_nothing : is_rejected begun (deletion (codes "n")) ≡ true
 deletion_of_nothing = refl
 
-deletion_of_root : is_refused begun (deletion []) ≡ true
+deletion_of_root : is_rejected begun (deletion []) ≡ true
 deletion_of_root = refl
 
-properties_of_deleted : is_refused begun (setting (one ∷ []) (deletion (codes "a/f"))) ≡ true
+properties_of_deleted : is_rejected begun (setting (one ∷ []) (deletion (codes "a/f"))) ≡ true
 properties_of_deleted = refl
 
 replaced : stands (then (replacing (file (codes "a") (codes "2")))) (codes "a") ≡ Some (Node.File [] (codes "2"))
@@ -117,7 +117,7 @@ replaced = refl
 replaced_below : stands (then (replacing (directory (codes "a")))) (codes "a/f") ≡ None
 replaced_below = refl
 
-replaced_nothing : is_refused begun (replacing (directory (codes "n"))) ≡ true
+replaced_nothing : is_rejected begun (replacing (directory (codes "n"))) ≡ true
 replaced_nothing = refl
 
 -- new nodes
@@ -128,19 +128,19 @@ no_text = refl
 new_properties : stands (then (setting (one ∷ []) (directory (codes "n")))) (codes "n") ≡ Some (Node.Directory (one ∷ []))
 new_properties = refl
 
-directory_over_directory : is_refused begun (directory (codes "a")) ≡ true
+directory_over_directory : is_rejected begun (directory (codes "a")) ≡ true
 directory_over_directory = refl
 
-file_over_file : is_refused begun (file (codes "a/f") (codes "2")) ≡ true
+file_over_file : is_rejected begun (file (codes "a/f") (codes "2")) ≡ true
 file_over_file = refl
 
-no_parent : is_refused begun (directory (codes "n/m")) ≡ true
+no_parent : is_rejected begun (directory (codes "n/m")) ≡ true
 no_parent = refl
 
-file_as_parent : is_refused begun (file (codes "a/f/m") (codes "2")) ≡ true
+file_as_parent : is_rejected begun (file (codes "a/f/m") (codes "2")) ≡ true
 file_as_parent = refl
 
-text_of_new_directory : is_refused begun (writing (codes "2") (directory (codes "n"))) ≡ true
+text_of_new_directory : is_rejected begun (writing (codes "2") (directory (codes "n"))) ≡ true
 text_of_new_directory = refl
 
 -- copies
@@ -171,13 +171,13 @@ copy_of_deleted : stands (then_both (deletion (codes "a")) (copy 1 (codes "a") (
     ≡ Some (Node.File [] (codes "1"))
 copy_of_deleted = refl
 
-copy_of_present : is_refused begun (copy 2 (codes "a") (codes "b")) ≡ true
+copy_of_present : is_rejected begun (copy 2 (codes "a") (codes "b")) ≡ true
 copy_of_present = refl
 
-copy_of_nothing : is_refused begun (copy 1 (codes "n") (codes "b")) ≡ true
+copy_of_nothing : is_rejected begun (copy 1 (codes "n") (codes "b")) ≡ true
 copy_of_nothing = refl
 
-copy_of_what_came_later : is_refused (then (directory (codes "n"))) (copy 1 (codes "n") (codes "b")) ≡ true
+copy_of_what_came_later : is_rejected (then (directory (codes "n"))) (copy 1 (codes "n") (codes "b")) ≡ true
 copy_of_what_came_later = refl
 
 copy_over : stands (then (copy 1 (codes "a") (codes "c"))) (codes "c/f") ≡ Some (Node.File [] (codes "1"))
@@ -192,13 +192,13 @@ copy_into_itself = refl
 copy_once : stands (then (copy 1 (codes "a") (codes "a/b"))) (codes "a/b/b") ≡ None
 copy_once = refl
 
-copy_without_parent : is_refused begun (copy 1 (codes "a") (codes "n/m")) ≡ true
+copy_without_parent : is_rejected begun (copy 1 (codes "a") (codes "n/m")) ≡ true
 copy_without_parent = refl
 
-copy_below_file : is_refused begun (copy 1 (codes "a") (codes "c/x/m")) ≡ true
+copy_below_file : is_rejected begun (copy 1 (codes "a") (codes "c/x/m")) ≡ true
 copy_below_file = refl
 
-copy_onto_root : is_refused begun (copy 1 (codes "a") []) ≡ true
+copy_onto_root : is_rejected begun (copy 1 (codes "a") []) ≡ true
 copy_onto_root = refl
 
 copy_edited : stands (then (setting (one ∷ []) (writing (codes "2") (copy 1 (codes "a/f") (codes "b"))))) (codes "b")

@@ -129,6 +129,6 @@ abbrev pub stands : List (List Change) → List ℕ → Option Node
 stands revisions path = node_at (loaded_over root_alone revisions) (length revisions) path
 
 -- whether these revisions load, and one more that has only this change is rejected
-abbrev pub is_refused : List (List Change) → Change → Bool
-is_refused revisions c =
+abbrev pub is_rejected : List (List Change) → Change → Bool
+is_rejected revisions c =
     is_some (loaded_over root_alone revisions) && is_none (loaded_over root_alone (revisions ++ (c ∷ []) ∷ []))

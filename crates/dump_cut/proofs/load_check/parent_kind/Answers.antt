@@ -3,7 +3,7 @@ use Rattle.dump_trees.specs.Paths.{names_of}
 use Rattle.dump_trees.specs.Siblings.{has_node_names}
 use Rattle.dump_index.specs.Kinds.{kind_look}
 use Rattle.dump_cut.proofs.ParentLemmas.{ends_named, parent_named}
-use Rattle.dump_cut.proofs.RefusalLemmas.{in_ok}
+use Rattle.dump_cut.proofs.RejectionLemmas.{in_ok}
 use Rattle.dump_cut.proofs.load_check.parent_kind.Goals as goal
 
 pub kind_known-requires-clause-bare : goal.kind_known-requires-clause-bare

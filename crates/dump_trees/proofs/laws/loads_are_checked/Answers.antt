@@ -1,5 +1,5 @@
 use Rattle.dump_trees.proofs.cuts.CheckedSteps.{step_is_allowed}
-use Rattle.dump_trees.proofs.cuts.CheckedLoads.{dump_is_allowed, tells_each_tree, first_refusal_is_there}
+use Rattle.dump_trees.proofs.cuts.CheckedLoads.{dump_is_allowed, tells_each_tree, first_rejection_is_there}
 use Rattle.dump_trees.proofs.cuts.PlainLooks.{plain_looks_tell_kinds}
 use Rattle.dump_trees.proofs.laws.loads_are_checked.Goals as goal
 
@@ -16,4 +16,4 @@ pub returns-clause-trees : goal.returns-clause-trees
 returns-clause-trees c = tells_each_tree
 
 pub returns-clause-place : goal.returns-clause-place
-returns-clause-place c = first_refusal_is_there
+returns-clause-place c = first_rejection_is_there

@@ -7,7 +7,7 @@ use Rattle.dump_index.specs.ToldKinds.{kinds_told_by}
 use Rattle.dump_cut.specs.NamedPaths.{has_named_paths}
 use Rattle.dump_cut.proofs.CheckLemmas.{named_at, reason_is, same_length, stands_at}
 use Rattle.dump_cut.proofs.SeenLemmas.{are_for, known_length, known_next, same_listed, both_next, told_before}
-use Rattle.dump_cut.proofs.load_check.first_refused.Goals as goal
+use Rattle.dump_cut.proofs.load_check.first_rejected.Goals as goal
 
 pub kinds_before-requires-clause-named : goal.kinds_before-requires-clause-named
 kinds_before-requires-clause-named c =
@@ -22,9 +22,9 @@ returns-in-Some c placed all =
     let many = ap length c.deref.ensures.value ∙ c.loop-place.invariant.many in
     record {
       before = c.loop-place.invariant.taken placed all;
-      there = reason_is (kinds_told_by c.args.index.now) placed c.loop-place.place its.p c.in_ok-kinds.kinds c.refusal_of.result
+      there = reason_is (kinds_told_by c.args.index.now) placed c.loop-place.place its.p c.in_ok-kinds.kinds c.rejection_of.result
           its.there (told_before c.args.index.now placed all c.loop-place.place _ its.p c.in_ok-kinds.kinds its.listed
-          (are_for c.args.index.now _ _ _ _ c.in_ok-kinds.kinds c.in_ok-kinds.ensures many refl)) (c.refusal_of.ensures its.p its.listed)
+          (are_for c.args.index.now _ _ _ _ c.in_ok-kinds.kinds c.in_ok-kinds.ensures many refl)) (c.rejection_of.ensures its.p its.listed)
           ∙ c.in-Some.is;
     }
 
@@ -51,9 +51,9 @@ loop-place-preserved c =
           (subst (λ listed. AllZip IsListed listed placed) (sym c.changes-changes.ensures) all)
           c.loop-place.place _ c.loop-place-test.true in
           below_more _ _ (c.loop-place.invariant.taken placed all)
-          (reason_is (kinds_told_by c.args.index.now) placed c.loop-place.place its.p c.in_ok-kinds.kinds c.refusal_of.result
+          (reason_is (kinds_told_by c.args.index.now) placed c.loop-place.place its.p c.in_ok-kinds.kinds c.rejection_of.result
           its.there (told_before c.args.index.now placed all c.loop-place.place _ its.p c.in_ok-kinds.kinds its.listed are)
-          (c.refusal_of.ensures its.p its.listed)
+          (c.rejection_of.ensures its.p its.listed)
           ∙ c.in_default.is);
       known = known_next c.args.index.now c.loop-place.known.items _ c.loop-place.place c.kind_behind.result
           c.loop-place.invariant.known c.loop-place.invariant.many c.in_ok-push.ensures.items c.kind_behind.ensures.own;

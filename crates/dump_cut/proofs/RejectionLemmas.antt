@@ -9,9 +9,9 @@ use Rattle.dump_index.specs.IndexLaws.{HasProps, HasText, IsListed}
 use Rattle.dump_index.specs.Listed.{Listed}
 use Rattle.dump_index.specs.declared.change.Setting.{Setting}
 use Rattle.dump_index.specs.declared.change.Setting.TheVariants.{Keeps, Replaces, Edits, EditsNothing}
-use Rattle.dump_cut.specs.Refusals.{first_reason, deletion_refused, making_refused, setting_refused, refused_for}
+use Rattle.dump_cut.specs.Rejections.{first_reason, deletion_rejected, making_rejected, setting_rejected, rejected_for}
 use Rattle.dump_cut.specs.steps.KindViews.{sets_some}
-use Rattle.dump_cut.specs.declared.refusal.Refusal.{Refusal}
+use Rattle.dump_cut.specs.declared.rejection.Rejection.{Rejection}
 
 -- what is true of a value, if there is one, is true in other words
 pub in_ok : {A E : Type 0} (r : Result A E) (P Q : A → Type 0) → IfOk r P → ((a : A) → P a → Q a) → IfOk r Q
@@ -43,15 +43,15 @@ text_set Edits (Some change) has = refl
 text_set EditsNothing o has = absurd has
 
 -- why a load rejects the change that an index says this of
-abbrev pub refused_listed : Listed → Kinds → Option Refusal
-refused_listed l kinds =
-    first_reason (deletion_refused l.deletes (is_root (names_of l.path)) kinds.here)
-    (first_reason (making_refused l.made (is_root (names_of l.path)) (kind_left l.deletes kinds.here) kinds)
-    (setting_refused (sets_some l.props) (sets_some l.text)
+abbrev pub rejected_listed : Listed → Kinds → Option Rejection
+rejected_listed l kinds =
+    first_reason (deletion_rejected l.deletes (is_root (names_of l.path)) kinds.here)
+    (first_reason (making_rejected l.made (is_root (names_of l.path)) (kind_left l.deletes kinds.here) kinds)
+    (setting_rejected (sets_some l.props) (sets_some l.text)
     (kind_made l.made (kind_left l.deletes kinds.here) kinds.source)))
 
-pub listed_refused : (l : Listed) (p : Placed) → IsListed l p → (kinds : Kinds)
-    → refused_for p.change kinds ≡ refused_listed l kinds
-listed_refused l p its kinds =
+pub listed_rejected : (l : Listed) (p : Placed) → IsListed l p → (kinds : Kinds)
+    → rejected_for p.change kinds ≡ rejected_listed l kinds
+listed_rejected l p its kinds =
     rw (its.path, its.deletes, its.made, props_set l.props p.change.props its.props, text_set l.text p.change.text its.text)
     refl

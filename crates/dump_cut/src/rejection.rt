@@ -7,7 +7,7 @@ ghost use Rattle.dump_trees.specs.Restriction.{is_root};
 ghost use Rattle.dump_index.specs.IndexLaws.{IsListed};
 ghost use Rattle.dump_index.specs.Listed.{listed_made, listed_of};
 ghost use Rattle.dump_index.specs.ToldKinds.{kind_meant};
-ghost use Rattle.dump_cut.specs.Refusals.{copying_refused, deletion_refused, making_refused, new_refused, parent_refused, props_refused, refused_for, setting_refused, text_refused};
+ghost use Rattle.dump_cut.specs.Rejections.{copying_rejected, deletion_rejected, making_rejected, new_rejected, parent_rejected, props_rejected, rejected_for, setting_rejected, text_rejected};
 ghost use Rattle.dump_cut.specs.steps.KindViews.{kinds_meant, sets_some};
 
 use crate::kinds::Kinds;
@@ -16,7 +16,7 @@ use dump_index::{NodeChange, NodeKind, NodeMade, Setting};
 
 /// Why `svnadmin load` would reject a node.
 #[derive(Clone, Copy, Debug, PartialEq, Eq)]
-pub enum Refusal {
+pub enum Rejection {
     /// It adds or deletes the root.
     Root,
     /// The path does not exist.
@@ -32,18 +32,18 @@ pub enum Refusal {
 }
 
 /// Why a load would reject the deletion that the change makes.
-fn deletion_refused(change: &NodeChange<'_>, here: Option<NodeKind>) -> Option<Refusal>
-    ensures { result ≡ deletion_refused change.now.deletes (is_root (names_of change.now.path.now)) (option_map kind_meant here) }
+fn deletion_rejected(change: &NodeChange<'_>, here: Option<NodeKind>) -> Option<Rejection>
+    ensures { result ≡ deletion_rejected change.now.deletes (is_root (names_of change.now.path.now)) (option_map kind_meant here) }
 {
     if !change.deletes {
         return None;
     }
     if is_root(change.path) {
-        return Some(Refusal::Root);
+        return Some(Rejection::Root);
     }
     match here {
         Some(_) => None,
-        None => Some(Refusal::NoPath),
+        None => Some(Rejection::NoPath),
     }
 }
 
@@ -55,55 +55,63 @@ fn left_by(change: &NodeChange<'_>, here: Option<NodeKind>) -> Option<NodeKind>
 }
 
 /// Why a load would reject a new node if its parent is of this kind.
-fn parent_refused(parent: Option<NodeKind>) -> Option<Refusal>
-    ensures { result ≡ parent_refused (option_map kind_meant parent) }
+fn parent_rejected(parent: Option<NodeKind>) -> Option<Rejection>
+    ensures { result ≡ parent_rejected (option_map kind_meant parent) }
 {
     match parent {
         Some(NodeKind::Directory) => None,
-        _ => Some(Refusal::NoParent),
+        _ => Some(Rejection::NoParent),
     }
 }
 
 /// Why a load would reject a new node if `left` exists at its path.
-fn new_refused(at_root: bool, left: Option<NodeKind>, parent: Option<NodeKind>) -> Option<Refusal>
-    ensures { result ≡ new_refused at_root (option_map kind_meant left) (option_map kind_meant parent) }
+fn new_rejected(
+    at_root: bool,
+    left: Option<NodeKind>,
+    parent: Option<NodeKind>,
+) -> Option<Rejection>
+    ensures { result ≡ new_rejected at_root (option_map kind_meant left) (option_map kind_meant parent) }
 {
     if at_root {
-        return Some(Refusal::Root);
+        return Some(Rejection::Root);
     }
     match left {
-        Some(_) => Some(Refusal::Exists),
-        None => parent_refused(parent),
+        Some(_) => Some(Rejection::Exists),
+        None => parent_rejected(parent),
     }
 }
 
 /// Why a load would reject a copy.
-fn copying_refused(
+fn copying_rejected(
     at_root: bool,
     source: Option<NodeKind>,
     parent: Option<NodeKind>,
-) -> Option<Refusal>
-    ensures { result ≡ copying_refused at_root (option_map kind_meant source) (option_map kind_meant parent) }
+) -> Option<Rejection>
+    ensures { result ≡ copying_rejected at_root (option_map kind_meant source) (option_map kind_meant parent) }
 {
     if at_root {
-        return Some(Refusal::Root);
+        return Some(Rejection::Root);
     }
     match source {
-        Some(_) => parent_refused(parent),
-        None => Some(Refusal::NoSource),
+        Some(_) => parent_rejected(parent),
+        None => Some(Rejection::NoSource),
     }
 }
 
 /// Why a load would reject what the change makes, if `left` exists at its path.
-fn making_refused(change: &NodeChange<'_>, left: Option<NodeKind>, kinds: &Kinds) -> Option<Refusal>
-    ensures { result ≡ making_refused (option_map listed_made change.now.made) (is_root (names_of change.now.path.now))
+fn making_rejected(
+    change: &NodeChange<'_>,
+    left: Option<NodeKind>,
+    kinds: &Kinds,
+) -> Option<Rejection>
+    ensures { result ≡ making_rejected (option_map listed_made change.now.made) (is_root (names_of change.now.path.now))
         (option_map kind_meant left) (kinds_meant kinds.now) }
 {
     match change.made {
         None => None,
-        Some(NodeMade::Directory) => new_refused(is_root(change.path), left, kinds.parent),
-        Some(NodeMade::File) => new_refused(is_root(change.path), left, kinds.parent),
-        Some(NodeMade::CopyOf(_)) => copying_refused(
+        Some(NodeMade::Directory) => new_rejected(is_root(change.path), left, kinds.parent),
+        Some(NodeMade::File) => new_rejected(is_root(change.path), left, kinds.parent),
+        Some(NodeMade::CopyOf(_)) => copying_rejected(
             is_root(change.path),
             kinds.source,
             kinds.parent,
@@ -137,53 +145,53 @@ fn sets_some(setting: Setting) -> bool
 }
 
 /// Why a load would reject the properties that are set on a node of this kind.
-fn props_refused(sets: bool, made: Option<NodeKind>) -> Option<Refusal>
-    ensures { result ≡ props_refused sets (option_map kind_meant made) }
+fn props_rejected(sets: bool, made: Option<NodeKind>) -> Option<Rejection>
+    ensures { result ≡ props_rejected sets (option_map kind_meant made) }
 {
     if !sets {
         return None;
     }
     match made {
         Some(_) => None,
-        None => Some(Refusal::NoPath),
+        None => Some(Rejection::NoPath),
     }
 }
 
 /// Why a load would reject the text that is set on a node of this kind.
-fn text_refused(sets: bool, made: Option<NodeKind>) -> Option<Refusal>
-    ensures { result ≡ text_refused sets (option_map kind_meant made) }
+fn text_rejected(sets: bool, made: Option<NodeKind>) -> Option<Rejection>
+    ensures { result ≡ text_rejected sets (option_map kind_meant made) }
 {
     if !sets {
         return None;
     }
     match made {
-        None => Some(Refusal::NoPath),
-        Some(NodeKind::Directory) => Some(Refusal::TextOnDirectory),
+        None => Some(Rejection::NoPath),
+        Some(NodeKind::Directory) => Some(Rejection::TextOnDirectory),
         Some(NodeKind::File) => None,
     }
 }
 
 /// Why a load would reject the properties and the text that the change sets on a node of this kind.
-fn setting_refused(change: &NodeChange<'_>, made: Option<NodeKind>) -> Option<Refusal>
-    ensures { result ≡ setting_refused (sets_some change.now.props) (sets_some change.now.text) (option_map kind_meant made) }
+fn setting_rejected(change: &NodeChange<'_>, made: Option<NodeKind>) -> Option<Rejection>
+    ensures { result ≡ setting_rejected (sets_some change.now.props) (sets_some change.now.text) (option_map kind_meant made) }
 {
-    match props_refused(sets_some(change.props), made) {
+    match props_rejected(sets_some(change.props), made) {
         Some(reason) => Some(reason),
-        None => text_refused(sets_some(change.text), made),
+        None => text_rejected(sets_some(change.text), made),
     }
 }
 
 /// Why `svnadmin load` would reject the change, if these kinds of nodes exist; `None` if it accepts the change. This
 /// doesn't check whether a text delta applies to the old text.
-pub fn refusal_of(change: &NodeChange<'_>, kinds: &Kinds) -> Option<Refusal>
-    ensures { (p : Placed) → IsListed (listed_of change.now) p → result ≡ refused_for p.change (kinds_meant kinds.now) }
+pub fn rejection_of(change: &NodeChange<'_>, kinds: &Kinds) -> Option<Rejection>
+    ensures { (p : Placed) → IsListed (listed_of change.now) p → result ≡ rejected_for p.change (kinds_meant kinds.now) }
 {
-    if let Some(reason) = deletion_refused(change, kinds.here) {
+    if let Some(reason) = deletion_rejected(change, kinds.here) {
         return Some(reason);
     }
     let left = left_by(change, kinds.here);
-    if let Some(reason) = making_refused(change, left, kinds) {
+    if let Some(reason) = making_rejected(change, left, kinds) {
         return Some(reason);
     }
-    setting_refused(change, made_by(change, left, kinds.source))
+    setting_rejected(change, made_by(change, left, kinds.source))
 }
