@@ -185,9 +185,11 @@ class Trial:
             except Bad as why:
                 self.wrong[name] = str(why)
 
-    def is_ready(self):
-        """Whether a round can begin: the first one runs alone, since the others begin with the work that it kept."""
-        return bool(self.rounds) and (self.count > 0 or not self.running)
+    def ready(self):
+        """How many rounds can begin: the first one runs alone, since the others begin with the work that it kept."""
+        if self.count:
+            return len(self.rounds)
+        return min(1 - self.running, len(self.rounds))
 
     def take(self, mutants, said):
         """Takes what the check said of a round."""
@@ -233,14 +235,15 @@ class Trials:
     def next(self):
         """A round to come, its trial, a copy if one is free, and its jobs; None if there will be no round."""
         with self.turn:
-            self.turn.wait_for(lambda: any(it.is_ready() for it in self.trials) or not any(it.running for it in self.trials))
-            trial = next((it for it in self.trials if it.is_ready()), None)
+            self.turn.wait_for(lambda: any(it.ready() for it in self.trials) or not any(it.running for it in self.trials))
+            trial = next((it for it in self.trials if it.ready()), None)
             if not trial:
                 return None
             trial.running += 1
-            # a check gets the processors that no other round wants
-            jobs = max(1, lanes() // sum(it.running + len(it.rounds) for it in self.trials))
-            return trial, trial.rounds.pop(0), trial.copies.pop() if trial.copies else None, jobs
+            mutants = trial.rounds.pop(0)
+            # a check gets the processors that no other round can use
+            jobs = max(1, lanes() // sum(it.running + it.ready() for it in self.trials))
+            return trial, mutants, trial.copies.pop() if trial.copies else None, jobs
 
     def work(self):
         """Tries rounds until none is left."""
