@@ -47,7 +47,7 @@ else
 BUILD := tools/build.py
 endif
 
-.PHONY: all help toolchain $(WORDS) test suites mutants $(SUITES) $(MUTANTS) check case bench soak install uninstall deb clean
+.PHONY: all help toolchain $(WORDS) programs test suites mutants $(SUITES) $(MUTANTS) check case bench soak install uninstall deb clean
 .DELETE_ON_ERROR:
 
 all: $(firstword $(BUILT))
@@ -62,9 +62,13 @@ $(WORDS): %: build/svndump%
 
 # a build waits for another one, and takes what that one proved
 $(BUILT): build/%: $(SOURCES) | toolchain
-	@echo "make: proving and building $@; from scratch this takes about 20 minutes on four cores"
+	@echo "make: proving and building $@"
 	@$(BUILD) $*
 	@echo "make: $@ is built"
+
+# all that are not current in one go, since a build from scratch keeps little for the next one
+programs: | toolchain
+	@tools/build.py --old $(PROGRAMS)
 
 ifeq ($(PROVED),ci)
 test: | toolchain
@@ -79,7 +83,7 @@ test: | toolchain
 	@$(MAKE) --no-print-directory suites
 endif
 
-suites: $(BUILT)
+suites: programs
 	@echo "make: running the suites of tests/"
 	+@$(PARALLEL) $(SUITES)
 
@@ -96,30 +100,30 @@ $(filter-out suite-fit,$(SUITES)) $(MUTANTS): suite-%:
 
 check: | toolchain
 	$(if $(wildcard crates/$(CRATE)/src),,$(error make check wants CRATE=NAME, a directory of crates/))
-	cd crates/$(CRATE) && rt check
+	@tools/build.py --check $(CRATE)
 
 case: $(OF_CASE)
 	$(if $(OF_CASE),,$(error make case wants CASE=NAME, a directory tests/cases/TOPIC/NAME))
 	tests/run_cases.py $(CASE)
 
 # the same filter on one thread, over the same crates
-$(PLAIN): build/svndumpfilter bench/build_plain.sh bench/run_plain.rt.in
+$(PLAIN): build/svndumpfilter bench/build_plain.py bench/run_plain.rt.in
 	@echo "make: building $@"
-	@bench/build_plain.sh
+	@bench/build_plain.py
 
-bench: $(BUILT) $(PLAIN)
+bench: programs $(PLAIN)
 	bench/bench.py
 
 soak: build/svndumpfilter $(PLAIN)
 	bench/soak.py
 
-install: $(BUILT)
+install: programs
 	@$(INSTALL) install
 
 uninstall:
 	@$(INSTALL) uninstall
 
-deb: $(BUILT)
+deb: programs
 	tools/make_deb.sh
 
 clean:

@@ -29,7 +29,7 @@ import threading
 from concurrent.futures import ThreadPoolExecutor
 
 sys.path.insert(0, os.path.join(os.path.dirname(__file__), "..", "tools"))
-from repository import PARTS, below, copied, ended, lanes, libraries, path, read, room
+from repository import PARTS, Room, below, copied, ended, lanes, libraries, path, read
 
 FUNCTION = re.compile(r"^fn (\S+): (.*)")
 GOAL = re.compile(r"^note: \S+: (.*)")
@@ -114,7 +114,7 @@ class Copy:
     """A copy of a crate and of those that it depends on, with the work that checks kept."""
 
     def __init__(self, crate, known, folder):
-        self.crate, self.folder, self.home = crate, folder, room(crate, known, folder)
+        self.crate, self.folder, self.home = crate, folder, Room(crate, known, folder).home
         copied(crate, folder, ["out/incremental"])
 
     def check(self, mutants, jobs):

@@ -136,10 +136,11 @@ def libraries():
 
 def below(crate, known):
     """The repository's crates that a crate uses."""
-    found = set()
-    for name in known[crate]:
-        if name in known:
-            found |= {name} | below(name, known)
+    found, left = set(), [crate]
+    while left:
+        new = {it for it in known[left.pop()] if it in known} - found
+        found |= new
+        left += new
     return found
 
 
@@ -165,64 +166,140 @@ def copied(name, folder, parts, copy=shutil.copy2):
             shutil.copytree(path("crates", name, part), os.path.join(folder, "crates", name, part), copy_function=copy)
 
 
-def room(crate, known, folder):
-    """Copies a crate and what it uses into a directory, a repository of its own with the libraries as they were built,
-    and returns the crate's directory there. The toolchain works in a crate and those below it in one run at a time; so
-    it can work in the copy while others run."""
-    for name in ("crates.txt", "HANDLES"):
-        shutil.copy(path(name), folder)
-    os.mkdir(os.path.join(folder, ".git"))
-    for name in known:
-        copied(name, folder, PARTS)
-    libraries_below = below(crate, known)
-    for name in libraries_below:
-        copied(name, folder, ["out/rlib"], linked)
-    if libraries_below and all(map(is_left_by_the_gate, libraries_below)):
-        mark(libraries_below, folder)
-    return os.path.join(folder, "crates", crate)
+def sources(crate):
+    """The files that a crate is built from."""
+    return (os.path.join(at, name) for part in PARTS for at, _, names in os.walk(path("crates", crate, part)) for name in names)
 
 
-def is_left_by_the_gate(crate):
-    """Whether rt ci built the library that is in a crate, from its sources as they are. It leaves no stamp: a library
-    fits only those that it was built over, and in the crates' directories these may be built again, one by one."""
-    built = path("crates", crate, "out", "rlib")
-    if not os.path.isdir(os.path.join(built, crate + ".rlib")) or os.path.exists(os.path.join(built, "stamp")):
-        return False
-    files = (os.path.join(at, name) for part in PARTS for at, _, names in os.walk(path("crates", crate, part)) for name in names)
-    return all(os.path.getmtime(it) <= os.path.getmtime(built) for it in files)
+def library(crate, *names):
+    """Where the library is that was built of a crate, or a file beside it. Its mark, the file stamp, has the sum of what it
+    was built from. rt ci leaves no mark."""
+    return path("crates", crate, "out", "rlib", *names)
+
+
+def current(crates, known, sums):
+    """Those of some crates whose libraries are built from their sources as they are, and over the current ones below. A
+    library fits only those that it was built over, and rt ci builds all of them anew and then puts the marked ones back. So
+    it has to be newer than those below it; and one without a mark can't lie over a marked one."""
+    found = set()
+    for crate in sorted(crates, key=lambda it: len(below(it, known))):
+        if not os.path.isdir(library(crate, crate + ".rlib")):
+            continue
+        made, others = os.path.getmtime(library(crate)), below(crate, known)
+        if has_mark(crate):
+            is_own = read("crates", crate, "out", "rlib", "stamp") == sums[crate]
+        else:
+            is_own = not any(map(has_mark, others)) and all(os.path.getmtime(it) <= made for it in sources(crate))
+        if is_own and others <= found and all(os.path.getmtime(library(it)) < made for it in others):
+            found.add(crate)
+    return found
+
+
+def has_mark(crate):
+    return os.path.exists(library(crate, "stamp"))
 
 
 @functools.cache
 def toolchain():
-    """What rt itself knows of crates."""
+    """What rt itself knows of crates. It takes the sum of a crate once here, and else once for each path that leads to it."""
     file = os.path.join(os.path.dirname(os.path.realpath(shutil.which("rt"))), "rtlib.py")
     spec = importlib.util.spec_from_file_location("rtlib", file)
     module = importlib.util.module_from_spec(spec)
     spec.loader.exec_module(module)
+    module.Crate.stamp = functools.cache(module.Crate.stamp)
     return module
 
 
-def mark(crates, folder):
-    """Marks the libraries in a copy as built from the sources there, so that the toolchain proves none of them again."""
-    for it in toolchain().crates_below(os.path.realpath(folder)):
-        if it.name in crates:
-            with open(os.path.join(it.folder, "out", "rlib", "stamp"), "w", encoding="utf-8") as stamp:
-                stamp.write(it.stamp())
+def known_to_toolchain(folder):
+    """What the toolchain knows of each crate of a repository, by its crates.txt as it is now."""
+    toolchain().listed.cache_clear()
+    return {it.name: it for it in toolchain().crates_below(os.path.realpath(folder))}
 
 
-@contextlib.contextmanager
-def lent(crate, home, all_but=None):
-    """Moves what checks kept of a crate into a copy of it, and back in the end. What stays is given a second name there."""
-    kept, there = path("crates", crate, "out"), os.path.join(home, "out")
-    os.makedirs(kept, exist_ok=True)
-    os.makedirs(there, exist_ok=True)
-    if all_but and os.path.isdir(os.path.join(kept, all_but)):
-        shutil.copytree(os.path.join(kept, all_but), os.path.join(there, all_but), copy_function=linked)
-    moved(kept, there, all_but)
-    try:
-        yield
-    finally:
-        moved(there, kept, all_but)
+def sums(folder):
+    """The sum by which the toolchain knows what each crate of a repository was built from."""
+    return {name: it.stamp() for name, it in known_to_toolchain(folder).items()}
+
+
+def list_crates(crates, known, folder):
+    """Writes crates.txt of a repository that has these crates, and the directory by which the toolchain knows its top."""
+    with open(os.path.join(folder, "crates.txt"), "w", encoding="utf-8") as it:
+        it.writelines(f"{name}: {' '.join(known[name])}\n" for name in known if name in crates)
+    shutil.copy(path("HANDLES"), folder)
+    os.makedirs(os.path.join(folder, ".git"), exist_ok=True)
+
+
+def shortened(crate, known):
+    """The libraries that the lines of crates.txt would have if those below a crate named only what their others don't imply.
+    The toolchain takes the sum of a library for each path that leads to it, several times a check, and the paths double with
+    each crate. The crate itself has to name all that it uses."""
+    implied = {it: set().union(*(below(other, known) for other in known[it] if other in known)) for it in known}
+    return {it: [other for other in known[it] if it == crate or other not in implied[it]] for it in known}
+
+
+class Room:
+    """A copy of a crate and of what it uses, a repository of its own with those libraries that are current. The toolchain
+    works in a crate and those below it in one run at a time; so it can work in the copy while others run. It builds the
+    libraries that aren't current by the whole lines of crates.txt."""
+
+    def __init__(self, crate, known, folder):
+        self.crate, self.folder, self.home = crate, folder, os.path.join(folder, "crates", crate)
+        others = below(crate, known)
+        for name in {crate} | others:
+            copied(name, folder, PARTS)
+        list_crates({crate} | others, known, folder)
+        self.own = self.sums = sums(folder)
+        found = current(others, known, self.own)
+        if found == others:
+            # what a library is built from is the same by both lists, and the sums differ
+            list_crates({crate} | others, shortened(crate, known), folder)
+            self.sums = sums(folder)
+        for name in found:
+            copied(name, folder, ["out/rlib"], linked)
+            mark(os.path.join(folder, "crates", name, "out", "rlib", "stamp"), self.sums[name])
+
+    def statements(self, jobs):
+        """The command that proves the library and builds it with its statements alone, as rt ci does. What it starts ends
+        when this process does."""
+        kit, it = toolchain(), known_to_toolchain(self.folder)[self.crate]
+        os.makedirs(os.path.dirname(it.rlib))
+        return [*kit.guarded(), kit.RATTLE, "build", *it.words(["--jobs", str(jobs)], keeps=False), "--statements", "-o", it.rlib]
+
+    @contextlib.contextmanager
+    def lent(self):
+        """Moves what checks kept of the crate into the copy, and back in the end. The library stays, until another one is
+        built."""
+        kept, there = path("crates", self.crate, "out"), os.path.join(self.home, "out")
+        os.makedirs(kept, exist_ok=True)
+        os.makedirs(there, exist_ok=True)
+        moved(kept, there, "rlib")
+        try:
+            self.mark_again(self.own, self.sums)
+            yield
+        finally:
+            self.mark_again(self.sums, self.own)
+            if os.path.isdir(os.path.join(there, "rlib", self.crate + ".rlib")):
+                shutil.rmtree(library(self.crate), ignore_errors=True)
+                shutil.move(os.path.join(there, "rlib"), kept)
+            moved(there, kept, "rlib")
+
+    def mark_again(self, before, after):
+        """Marks what was built of the crate by other sums, if it has the mark of these."""
+        for name in ("rlib/stamp", self.crate + ".stamp"):
+            file = os.path.join(self.home, "out", name)
+            if os.path.exists(file):
+                with open(file, encoding="utf-8") as it:
+                    text = it.read()
+                if text.startswith(before[self.crate]):
+                    mark(file, after[self.crate] + text.removeprefix(before[self.crate]))
+
+
+def mark(file, text):
+    """Writes a mark, into a file of its own: one that is there may be a second name of another one."""
+    if os.path.exists(file):
+        os.remove(file)
+    with open(file, "w", encoding="utf-8") as it:
+        it.write(text)
 
 
 def moved(one, other, all_but):
