@@ -12,9 +12,7 @@ pub mod BackLemmas
 pub mod FiniteLemmas
 pub mod FiniteSteps
 pub mod EveryLemmas
-pub mod ComingLemmas
 pub mod FoundSiblings
-pub mod BackFound
 pub mod StayingLemmas
 pub mod TrimLemmas
 pub mod TrimmedHistories

@@ -1,15 +1,12 @@
 -- Copies by which something excluded comes back: its path at the source isn't kept, and the path that it is copied to
 -- is kept.
-use Rattle.std.specs.Prelude.{◌≡◌, ℕ, zero, suc, Bool, true, false, not, ◌&&◌, List, [], ◌∷◌, ◌++◌, map, filter, Option, Some, None, is_some, slice_get, Contains, IsTrue, IsFalse}
-use Rattle.std.specs.List.{All, AllZip}
+use Rattle.std.specs.Prelude.{◌≡◌, ℕ, zero, suc, List, [], ◌++◌, Option, Some, None, is_some, slice_get, Contains, IsTrue, IsFalse}
+use Rattle.std.specs.List.{All}
 use Rattle.dump_text.specs.PropertyList.{Property}
-use Rattle.dump_rules.specs.declared.options.Side.TheVariants.{Exclude}
 use Rattle.dump_rules.specs.Settings.{Settings}
 use Rattle.dump_trees.specs.Paths.{NodePath, keeps}
-use Rattle.dump_trees.specs.Trees.{Node, Tree, root_alone}
+use Rattle.dump_trees.specs.Trees.{Node, Tree}
 use Rattle.dump_trees.specs.Changes.{Made, PropertyChange, TextChange, Change, History, new_text}
-use Rattle.dump_trees.specs.Revisions.{loaded_over}
-use Rattle.dump_trees.specs.Branches.{Branch, Branches}
 
 -- the change is a copy by which something comes back, at this rest of its path; if prefixes are excluded, the change is
 -- kept too
@@ -32,50 +29,6 @@ NoneComesBack settings history changes = All (λ c. ¬ ComesBack settings histor
 abbrev pub NothingComesBack : Settings → List Tree → List (List Change) → Type 0
 NothingComesBack settings trees revisions =
     All (λ changes. NoneComesBack settings (slice_get trees) changes) revisions
-
--- what comes back by a copy, found in the branch that it copies
-
--- the empty rest alone, if this is true; otherwise no rest
-abbrev pub alone_if : Bool → List NodePath
-alone_if true = [] ∷ []
-alone_if false = []
-
-abbrev mutual
-  -- the rests at which something of this branch comes back if it is copied from this source to this path
-  pub coming_back : Settings → NodePath → NodePath → Branch → List NodePath
-  coming_back settings path source (Branch.Directory props inside) =
-      alone_if (keeps settings path && not (keeps settings source)) ++ inside_coming_back settings path source inside
-  coming_back settings path source (Branch.File props text) =
-      alone_if (keeps settings path && not (keeps settings source))
-
-  -- those for the branches in a directory
-  pub inside_coming_back : Settings → NodePath → NodePath → Branches → List NodePath
-  inside_coming_back settings path source Branches.NoMore = []
-  inside_coming_back settings path source (Branches.Named name branch others) =
-      map (λ rest. name ∷ rest) (coming_back settings (path ++ name ∷ []) (source ++ name ∷ []) branch)
-      ++ inside_coming_back settings path source others
-
--- what is excluded doesn't affect the result
-
--- the kept changes of two revisions are the same
-abbrev pub HaveSameKept : Settings → List Change → List Change → Type 0
-HaveSameKept settings changes others =
-    filter (λ (c : Change). keeps settings c.path) changes ≡ filter (λ (c : Change). keeps settings c.path) others
-
--- at each kept path the same exists in both trees
-abbrev pub AgreeWhereKept : Settings → Tree → Tree → Type 0
-AgreeWhereKept settings tree other = (path : NodePath) → IsTrue (keeps settings path) → tree path ≡ other path
-
--- if prefixes are excluded and nothing comes back, the kept changes alone determine what exists at kept paths: two
--- histories that have the same ones agree there, whatever else they have. So nothing of what is excluded can be found
--- in the result
-abbrev pub KeptChangesTellAll : Type 0
-KeptChangesTellAll = (settings : Settings) (revisions others : List (List Change)) (trees other_trees : List Tree) →
-    settings.side ≡ Exclude
-    → loaded_over root_alone revisions ≡ Some trees → loaded_over root_alone others ≡ Some other_trees
-    → NothingComesBack settings trees revisions → NothingComesBack settings other_trees others
-    → AllZip (HaveSameKept settings) revisions others
-    → AllZip (AgreeWhereKept settings) trees other_trees
 
 -- what kept changes set and make
 

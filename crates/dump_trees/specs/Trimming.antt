@@ -1,6 +1,6 @@
 -- Copies that are trimmed. A copy can take to excluded paths what is kept at its source. It is written as it is, and
 -- deletions follow it and remove what it takes there. So nothing has to be written as an addition.
-use Rattle.std.specs.Prelude.{◌≡◌, ◌⊎◌, ℕ, not, List, [], ◌∷◌, ◌++◌, length, Some, is_some, slice_get, if◌then◌else◌, MatchBool, IsTrue, IsFalse}
+use Rattle.std.specs.Prelude.{◌≡◌, ◌⊎◌, ℕ, not, List, [], ◌∷◌, ◌++◌, length, Some, is_some, slice_get, MatchBool, IsTrue, IsFalse}
 use Rattle.std.specs.List.{AllZip, list_all, list_any}
 use Rattle.dump_text.specs.PropertyList.{Property}
 use Rattle.dump_rules.specs.declared.options.Side.TheVariants.{Exclude}
@@ -15,8 +15,7 @@ use Rattle.dump_trees.specs.Revisions.{loaded_over, EmptyRule, keeps_revision, k
 use Rattle.dump_trees.specs.HistoryLaws.{ImagesRestrict}
 use Rattle.dump_trees.specs.StepLaws.{AllHaveDirectories, AreRestricted, IsMade, IsRenumbered}
 use Rattle.dump_trees.specs.ExpansionCases.{deletions, none_is_below}
-use Rattle.dump_trees.specs.Branches.{Branch, is_distinct, HasBranch}
-use Rattle.dump_trees.specs.ComingBack.{ComesBack, coming_back}
+use Rattle.dump_trees.specs.ComingBack.{ComesBack}
 
 -- these rests cover what a copy of the source takes from kept paths to ones that aren't kept. At each something exists,
 -- and none of them is at or below one before it. Each rest that the copy takes so is at or below one of them
@@ -28,45 +27,6 @@ pub record CoverTaken (settings : Settings) (old : Tree) (path source : NodePath
   pub apart : IsTrue (none_is_below rests)
   pub all : (rest : NodePath) → IsTrue (is_some (old (source ++ rest))) → IsTrue (keeps settings (source ++ rest))
       → IsFalse (keeps settings (path ++ rest)) → IsTrue (list_any (λ other. is_some (below other rest)) rests)
-
--- those of these paths that aren't at or below one of the seen ones, or one before them
-abbrev pub topmost_from : List NodePath → List NodePath → List NodePath
-topmost_from seen [] = []
-topmost_from seen (path ∷ paths) =
-    if list_any (λ other. is_some (below other path)) seen then topmost_from seen paths
-    else path ∷ topmost_from (path ∷ seen) paths
-
--- the topmost rests that a copy of this branch takes so: the topmost of those that would come back by a copy the other
--- way
-abbrev pub taken_tops : Settings → NodePath → NodePath → Branch → List NodePath
-taken_tops settings path source branch = topmost_from [] (coming_back settings source path branch)
-
--- they cover what the copy takes so
-abbrev pub TakenTopsCover : Type 0
-TakenTopsCover = (settings : Settings) (old : Tree) (path source : NodePath) (branch : Branch) →
-    HasBranch old source branch → IsTrue (is_distinct branch)
-    → CoverTaken settings old path source (taken_tops settings path source branch)
-
--- if prefixes are excluded, and nothing comes back by a kept copy: what the filter writes for it, and then the
--- deletions, lead from the restricted tree to the restricted one. The deletions are of what the copy takes to paths
--- that aren't kept
-abbrev pub TrimmedCopyRestricts : Settings → NewProperty → NewNumber → Type 0
-TrimmedCopyRestricts settings IsNew IsNumber =
-    (history others : History) (before after restricted old : Tree) (c new : Change) (number : ℕ) (source : NodePath)
-    (rests : List NodePath) →
-    settings.side ≡ Exclude
-    → AreRestricted settings IsNew IsNumber history others → IsRestricted settings IsNew before restricted
-    → step history before c ≡ Some after
-    → IsTrue (keeps settings c.path) → c.made ≡ Some (Made.Copied number source) → history number ≡ Some old
-    → ¬ ComesBack settings history c → CoverTaken settings old c.path source rests
-    → IsNewChange settings IsNew IsNumber c new
-    → (other : Tree) × (steps others restricted (new ∷ deletions c.path rests) ≡ Some other)
-    × IsRestricted settings IsNew after other
-
--- this holds for each way to make new properties that keeps entries, and each way to number
-abbrev pub EachTrimmedCopyRestricts : Type 0
-EachTrimmedCopyRestricts = (settings : Settings) (make : Property → Property) (renumber : ℕ → ℕ) →
-    KeepsEntries (IsMade make) → TrimmedCopyRestricts settings (IsMade make) (IsRenumbered renumber)
 
 -- revisions
 

@@ -1,6 +1,5 @@
 //! Laws of filtered dumps. Each is the contract of a function that does nothing.
 ghost use Rattle.dump_trees.specs.CanonicalPaths.{CanonicalPathsHaveNames, ShortPathsAreCanonical};
-ghost use Rattle.dump_trees.specs.ComingBack.{KeptChangesTellAll};
 ghost use Rattle.dump_trees.specs.CutLines.{NamedLineStays};
 ghost use Rattle.dump_trees.specs.DeletesBehind.{DeletesAreFound};
 ghost use Rattle.dump_trees.specs.EverSiblings.{ChangedPathsExist, CopiedPathsExist, EverKeptInCut, EverSiblingsAreFound};
@@ -21,7 +20,7 @@ ghost use Rattle.dump_trees.specs.Quiet.{AllQuietSeparate, QuietSeparates};
 ghost use Rattle.dump_trees.specs.Siblings.{LoadedTreesHaveDirectories, LoadedTreesHaveNames, NamedPathsLeaveCut, NamedTextsLeaveCut, ShortPathsHaveNames, SiblingsLeaveCut};
 ghost use Rattle.dump_trees.specs.StepLaws.{EachStepRestricts, FilteredIsNew};
 ghost use Rattle.dump_trees.specs.TreeLaws.{GivesNothingBelowKept, GivesRootAlone, KeepsNothingBelowLeft, KeepsOrGivesAbove};
-ghost use Rattle.dump_trees.specs.Trimming.{EachTrimmedCopyRestricts, EachTrimmedFilteredRestricts, EachTrimmedHistoryRestricts, EachTrimmedRevisionRestricts, TakenTopsCover};
+ghost use Rattle.dump_trees.specs.Trimming.{EachTrimmedFilteredRestricts, EachTrimmedHistoryRestricts, EachTrimmedRevisionRestricts};
 
 /// The filter keeps a path exactly if it keeps the path's text. A path of names is read back from its text.
 pub fn paths_are_their_texts()
@@ -199,22 +198,10 @@ pub fn prefixes_are_canonical()
     ensures short { ShortPathsAreCanonical }
 {}
 
-/// If prefixes are excluded and no copy brings an excluded path back, the kept changes alone determine what exists at
-/// kept paths.
-pub fn nothing_comes_back()
-    ensures { KeptChangesTellAll }
-{}
-
 /// If prefixes are excluded and a kept copy brings nothing back, the copy may stay in the filtered dump. The deletions
-/// of what it takes to paths that are not kept follow it. So the restricted tree has what the copy does. What the copy
-/// takes is found in the branch that it copies.
-pub fn copies_are_trimmed()
-    ensures trimmed { EachTrimmedCopyRestricts }
-    ensures taken { TakenTopsCover }
-{}
-
-/// Revisions may be written in this way, and so may a whole history, whether each revision keeps its number or is
-/// renumbered. The result has the restricted trees, though no node in it is written again as an addition.
+/// of what it takes to paths that are not kept follow it. Revisions may be written in this way, and so may a whole
+/// history, whether each revision keeps its number or is renumbered. The result has the restricted trees, though no node
+/// in it is written again as an addition.
 pub fn trimmed_histories_restrict()
     ensures revision { EachTrimmedRevisionRestricts }
     ensures history { EachTrimmedHistoryRestricts }

@@ -1,18 +1,17 @@
 -- The example dump of which a part is taken, filtered and trimmed without an expansion. One revision is dropped, so
 -- the one after it is renumbered, and with it the source of its copy. After the copy an excluded file is deleted.
-use Rattle.dump_history.proofs.Prelude.{◌≡◌, ◌+◌, ◌<◌, ◌^◌, ◌++◌, length, refl, ap, ◌∙◌, subst, inl, inr, None, arith, lit<, cond, bytes_eq, slice_get, Contains, Exclude, DropEmptied, DropAll, Pad, Settings, Ending, HasRecords, NoFault, copy_revision_name, with_header_value, DumpRecord, record_text, LengthsFit, image, kept_revisions, HoldsOfRecord, HasBadCopyRevision, AreFaultFree, IsWrittenBlock, IsWrittenText, IsCleanText, IsNewProperty, IsNewNode, path_of, NodePath, Node, Tree, root_alone, Change, Patching}
-use Rattle.std.proofs.Common.{ℕ, Bool, true, false, List, [], ◌∷◌, Some, codes}
+use Rattle.dump_history.proofs.Prelude.{◌≡◌, ◌+◌, ◌<◌, ◌^◌, ◌++◌, length, refl, ap, ◌∙◌, subst, inl, inr, None, arith, lit<, slice_get, Exclude, DropEmptied, DropAll, Pad, Settings, Ending, HasRecords, NoFault, copy_revision_name, with_header_value, DumpRecord, record_text, LengthsFit, image, kept_revisions, HoldsOfRecord, HasBadCopyRevision, AreFaultFree, IsWrittenBlock, IsWrittenText, IsCleanText, IsNewProperty, IsNewNode, path_of, NodePath, Node, Tree, root_alone, Change, Patching}
+use Rattle.std.proofs.Common.{ℕ, true, false, List, [], ◌∷◌, Some, codes}
 use Rattle.std.specs.Fmt.{digits}
-use Rattle.dump_trees.specs.Trees.{at_top, at_or_below}
-use Rattle.dump_trees.specs.Paths.{below}
 use Rattle.dump_trees.specs.Changes.{History}
-use Rattle.dump_trees.specs.Branches.{Branch, Branches, tree_of, HasBranch}
 use Rattle.dump_trees.specs.ComingBack.{ComesBack}
+use Rattle.dump_trees.specs.Returns.{IsCopyOver}
 use Rattle.dump_trees.specs.Trimming.{IsTrimmed}
 use Rattle.dump_trees.specs.Quiet.{is_quiet, is_over}
 use Rattle.dump_trees.proofs.quiet.QuietLemmas.{quiet_separates}
-use Rattle.dump_trees.proofs.expansions.TrimLemmas.{taken_tops_cover}
-use Rattle.dump_trees.proofs.expansions.BackFound.{coming_back_is_found}
+use Rattle.dump_trees.proofs.histories.StandingNames.{loaded_directories, loaded_names}
+use Rattle.dump_trees.proofs.cuts.ReturnLemmas.{returns_tell_all}
+use Rattle.dump_trees.proofs.cuts.DeleteLemmas.{deletes_are_found}
 use Rattle.dump_history.specs.WrittenNodes.{WrittenNode, node_bytes}
 use Rattle.dump_history.specs.CutDumps.{TreeRestricts, LoadsNew}
 use Rattle.dump_history.specs.TrimmedDumps.{IsTrimmedText, stays_empty, AreFilteredTrimming}
@@ -25,7 +24,7 @@ use Rattle.dump_history.proofs.values.WorkedCut.{old, two, app, three, branch, r
 abbrev pub settings : Settings
 settings = record {
   side = Exclude;
-  prefixes = codes "trunk/app" ∷ codes "branch/app" ∷ codes "branch/old" ∷ [];
+  prefixes = codes "/trunk/app" ∷ codes "/branch/app" ∷ codes "/branch/old" ∷ [];
   empty = DropEmptied;
   renumber = true;
   preserve = true;
@@ -361,36 +360,28 @@ is_trimmed = record {
     behind_zero : List ℕ
     behind_zero = record_text one ++ (codes "\n" ++ behind_one)
 
--- what is in the directory that is copied
-abbrev both : Branch
-both = Branch.Directory []
-    (Branches.Named (codes "app") (Branch.File [] (codes "text"))
-    (Branches.Named (codes "old") (Branch.File [] (codes "text")) Branches.NoMore))
+-- the copy of the directory, and the paths that the settings exclude
+abbrev excluded : List NodePath
+excluded = path_of (codes "trunk/app") ∷ path_of (codes "branch/app") ∷ path_of (codes "branch/old") ∷ []
 
-both_stand : HasBranch second_tree (path_of (codes "trunk")) both
-both_stand [] = refl
-both_stand (name ∷ rest) = cases rest (bytes_eq (codes "app") name) (bytes_eq (codes "old") name)
-  where
-    cases : (rest : NodePath) (app old : Bool)
-        → at_or_below (cond app (below [] rest) None) (λ more. first_tree (path_of (codes "trunk/old") ++ more))
-        (at_top (cond old (below [] rest) None) (Node.File [] (codes "text"))
-        (at_top (cond old (below [] rest) None) (Node.File [] []) None))
-        ≡ cond app (tree_of (Branch.File [] (codes "text")) rest)
-        (cond old (tree_of (Branch.File [] (codes "text")) rest) None)
-    cases [] true found = refl
-    cases (next ∷ rest) true found = refl
-    cases [] false true = refl
-    cases (next ∷ rest) false true = refl
-    cases rest false false = refl
+abbrev history : History
+history = slice_get (root_alone ∷ first_tree ∷ second_tree ∷ [])
 
--- by the copy nothing comes back
-nothing_back : ComesBack settings (slice_get (root_alone ∷ first_tree ∷ second_tree ∷ [])) copies_trunk → ⊥
-nothing_back b =
-    none ((coming_back_is_found settings (slice_get (root_alone ∷ first_tree ∷ second_tree ∷ [])) second_tree copies_trunk
-    2 (path_of (codes "trunk")) both refl refl both_stand refl).1 b)
-  where
-    none : Contains [] b.rest → ⊥
-    none (k, low, is) = absurd (omega (arith, low))
+over : IsCopyOver settings excluded history second_tree copies_trunk (path_of (codes "trunk"))
+over = record {
+  number = 2;
+  excludes = record { side = refl; prefixes = refl };
+  names = refl;
+  copies = refl;
+  there = refl;
+  directories = loaded_directories revisions trees 2 second_tree refl refl;
+  named = loaded_names revisions trees 2 second_tree refl refl refl;
+  path = refl;
+}
+
+-- by it nothing comes back
+nothing_back : ComesBack settings history copies_trunk → ⊥
+nothing_back = (returns_tell_all settings excluded history second_tree copies_trunk (path_of (codes "trunk")) over).2 refl
 
 stays_alone : (history : History) (before : Tree) (c : Change) → is_quiet settings c ≡ true
     → is_over settings before c ≡ false → IsTrimmed settings history before c []
@@ -436,8 +427,7 @@ trims = (
             refl,
             refl,
             nothing_back,
-            taken_tops_cover settings second_tree (path_of (codes "branch")) (path_of (codes "trunk")) both both_stand
-                refl,
+            deletes_are_found settings excluded history second_tree copies_trunk (path_of (codes "trunk")) over refl refl,
           ),
           λ after there. refl,
         ),

@@ -1,19 +1,18 @@
 -- The expanded form of the example dump, filtered and trimmed: a copy stays, and after it a file is deleted that the
 -- copy takes to an excluded path.
-use Rattle.dump_history.proofs.Prelude.{◌≡◌, ◌+◌, ◌<◌, ◌^◌, true, ◌++◌, length, refl, ap, ◌∙◌, subst, inl, inr, None, arith, lit<, cond, bytes_eq, slice_get, drop, Contains, AllZip, Exclude, Pad, Settings, Ending, HasRecords, NoFault, copy_revision_name, with_header_value, property_block_text, Property, DumpRecord, record_text, HasPropertyList, LengthsFit, kept_revisions, HoldsOfRecord, AreFaultFree, IsWrittenBlock, IsWrittenText, IsCleanText, AreNewProperties, IsNewProperty, IsNewNode, property_list_once, path_of, NodePath, Node, Tree, root_alone, put, Change, Patching, LoadsAs, map, not, both_ways, first_true, not-true, list_all, keeps, sym}
-use Rattle.std.proofs.Common.{ℕ, Bool, false, List, [], ◌∷◌, Some, codes}
+use Rattle.dump_history.proofs.Prelude.{◌≡◌, ◌+◌, ◌<◌, ◌^◌, true, ◌++◌, length, refl, ap, ◌∙◌, subst, inl, inr, None, arith, lit<, slice_get, drop, AllZip, Exclude, Pad, Settings, Ending, HasRecords, NoFault, copy_revision_name, with_header_value, property_block_text, Property, DumpRecord, record_text, HasPropertyList, LengthsFit, kept_revisions, HoldsOfRecord, AreFaultFree, IsWrittenBlock, IsWrittenText, IsCleanText, AreNewProperties, IsNewProperty, IsNewNode, property_list_once, path_of, NodePath, Node, Tree, root_alone, put, Change, Patching, LoadsAs, map, not, both_ways, first_true, not-true, list_all, keeps, sym}
+use Rattle.std.proofs.Common.{ℕ, false, List, [], ◌∷◌, Some, codes}
 use Rattle.std.specs.Fmt.{digits}
-use Rattle.dump_trees.specs.Trees.{at_top}
-use Rattle.dump_trees.specs.Paths.{below}
 use Rattle.dump_trees.specs.Changes.{History}
-use Rattle.dump_trees.specs.Branches.{Branch, Branches, tree_of, HasBranch}
 use Rattle.dump_trees.specs.ExpansionCases.{deletion_of, deletions}
 use Rattle.dump_trees.specs.ComingBack.{ComesBack}
+use Rattle.dump_trees.specs.Returns.{IsCopyOver}
 use Rattle.dump_trees.specs.Trimming.{IsTrimmed}
 use Rattle.dump_trees.specs.Quiet.{is_quiet, is_over}
 use Rattle.dump_trees.proofs.quiet.QuietLemmas.{quiet_separates}
-use Rattle.dump_trees.proofs.expansions.TrimLemmas.{taken_tops_cover}
-use Rattle.dump_trees.proofs.expansions.BackFound.{coming_back_is_found}
+use Rattle.dump_trees.proofs.histories.StandingNames.{loaded_directories, loaded_names}
+use Rattle.dump_trees.proofs.cuts.ReturnLemmas.{returns_tell_all}
+use Rattle.dump_trees.proofs.cuts.DeleteLemmas.{deletes_are_found}
 use Rattle.dump_history.specs.WrittenNodes.{WrittenNode, node_bytes, written_change}
 use Rattle.dump_history.specs.CutDumps.{TreeRestricts, LoadsNumbered}
 use Rattle.dump_history.specs.TrimmedDumps.{may_stand_behind, part_groups, changes_behind, IsTrimmedText, AreTrimming, AreAllTrimming}
@@ -23,14 +22,14 @@ use Rattle.dump_history.proofs.expanded.SteadLemmas.{with_records}
 use Rattle.dump_history.proofs.cuts.TrimmedLaw.{trimmed_dump_loads}
 use Rattle.dump_history.proofs.values.WorkedDump.{version, zero, one, trunk, none_of}
 use Rattle.dump_history.proofs.values.WorkedFilter.{at_place, free_of, follows, rises, begins, no_copy, text_alone, no_block, revision_part}
-use Rattle.dump_history.proofs.values.WorkedCut.{old, two, three, branch, records, dump, whole, begins_there, adds_trunk, adds_app, copies_trunk, revisions, first_tree, third_tree, trees, loads, settings as cut_settings, steads, file, can, expansion, is_expanded, expanded, expands, file_there, three_there, branch_there, again, whole_again}
+use Rattle.dump_history.proofs.values.WorkedCut.{old, two, three, branch, records, dump, whole, begins_there, adds_trunk, adds_old, adds_app, copies_trunk, revisions, first_tree, third_tree, trees, loads, settings as cut_settings, steads, file, can, expansion, is_expanded, expanded, expands, file_there, three_there, branch_there, again, whole_again}
 use Rattle.dump_history.proofs.values.CutLaw.{filtered}
 
 -- both files are excluded in the branch, and in the trunk the one of which the other is a copy
 abbrev settings : Settings
 settings = record {
   side = Exclude;
-  prefixes = codes "trunk/old" ∷ codes "branch/old" ∷ codes "branch/app" ∷ [];
+  prefixes = codes "/trunk/old" ∷ codes "/branch/old" ∷ codes "/branch/app" ∷ [];
   empty = Pad;
   renumber = false;
   preserve = true;
@@ -414,39 +413,32 @@ abbrev made_tree : Tree
 made_tree = put (path_of (codes "trunk/app")) (Node.File [] (codes "text"))
     (put (path_of (codes "trunk/app")) (Node.File [] []) (put (path_of (codes "trunk/app")) (Node.File [] []) first_tree))
 
--- what is in the directory that is copied
-abbrev both : Branch
-both = Branch.Directory []
-    (Branches.Named (codes "app") (Branch.File [] (codes "text"))
-    (Branches.Named (codes "old") (Branch.File [] (codes "text")) Branches.NoMore))
+-- the copy in it, and the paths that the settings exclude
+abbrev excluded : List NodePath
+excluded = path_of (codes "trunk/old") ∷ path_of (codes "branch/old") ∷ path_of (codes "branch/app") ∷ []
 
-both_stand : HasBranch made_tree (path_of (codes "trunk")) both
-both_stand [] = refl
-both_stand (name ∷ rest) = cases rest (bytes_eq (codes "app") name) (bytes_eq (codes "old") name)
+abbrev made_trees : List Tree
+made_trees = root_alone ∷ first_tree ∷ made_tree ∷ []
+
+over : IsCopyOver settings excluded (slice_get made_trees) made_tree copies_trunk (path_of (codes "trunk"))
+over = record {
+  number = 2;
+  excludes = record { side = refl; prefixes = refl };
+  names = refl;
+  copies = refl;
+  there = refl;
+  directories = loaded_directories made made_trees 2 made_tree refl refl;
+  named = loaded_names made made_trees 2 made_tree refl refl refl;
+  path = refl;
+}
   where
-    cases : (rest : NodePath) (app old : Bool)
-        → at_top (cond app (below [] rest) None) (Node.File [] (codes "text"))
-        (at_top (cond app (below [] rest) None) (Node.File [] [])
-        (at_top (cond app (below [] rest) None) (Node.File [] [])
-        (at_top (cond old (below [] rest) None) (Node.File [] (codes "text"))
-        (at_top (cond old (below [] rest) None) (Node.File [] []) None))))
-        ≡ cond app (tree_of (Branch.File [] (codes "text")) rest)
-        (cond old (tree_of (Branch.File [] (codes "text")) rest) None)
-    cases [] true found = refl
-    cases (next ∷ rest) true true = refl
-    cases (next ∷ rest) true false = refl
-    cases [] false true = refl
-    cases (next ∷ rest) false true = refl
-    cases rest false false = refl
+    made : List (List Change)
+    made = (adds_trunk ∷ adds_old ∷ []) ∷ (adds_app ∷ []) ∷ []
 
 -- by the copy nothing comes back
-nothing_back : ComesBack settings (slice_get (root_alone ∷ first_tree ∷ made_tree ∷ [])) copies_trunk → ⊥
-nothing_back b =
-    none ((coming_back_is_found settings (slice_get (root_alone ∷ first_tree ∷ made_tree ∷ [])) made_tree copies_trunk 2
-    (path_of (codes "trunk")) both refl refl both_stand refl).1 b)
-  where
-    none : Contains [] b.rest → ⊥
-    none (k, low, is) = absurd (omega (arith, low))
+nothing_back : ComesBack settings (slice_get made_trees) copies_trunk → ⊥
+nothing_back =
+    (returns_tell_all settings excluded (slice_get made_trees) made_tree copies_trunk (path_of (codes "trunk")) over).2 refl
 
 stays_alone : (history : History) (before : Tree) (c : Change) → is_quiet settings c ≡ true
     → is_over settings before c ≡ false → IsTrimmed settings history before c []
@@ -501,8 +493,8 @@ all_trimming = (
                   refl,
                   refl,
                   nothing_back,
-                  taken_tops_cover settings made_tree (path_of (codes "branch")) (path_of (codes "trunk")) both
-                      both_stand refl,
+                  deletes_are_found settings excluded (slice_get made_trees) made_tree copies_trunk
+                      (path_of (codes "trunk")) over refl refl,
                 ),
                 λ after there. refl,
               ),

@@ -8,12 +8,11 @@ use Rattle.dump_trees.specs.LoadCheck.{ToldKinds, TellsKinds}
 use Rattle.dump_trees.specs.Following.{Way, followed, AddsNothing, PlacedCopy, followed_told}
 use Rattle.dump_trees.specs.FollowedRests.{PlacedRest, rests_made, rests_at, all_rests, NoneAtAnyPlace, AllRestsAreListed, NoReturnsBringNothing}
 use Rattle.dump_trees.proofs.histories.KeptNumbers.{get_before}
-use Rattle.dump_trees.proofs.expansions.FoundSiblings.{contains_map}
+use Rattle.dump_trees.proofs.expansions.FoundSiblings.{contains_map, contains_made}
 use Rattle.dump_trees.proofs.expansions.StandingLemmas.{copy_has_tree}
 use Rattle.dump_trees.proofs.cuts.CoveredPaths.{contains_none, no_elements}
 use Rattle.dump_trees.proofs.cuts.FollowLemmas.{change_is_made, followed_bring_nothing}
 use Rattle.dump_trees.proofs.cuts.PlacedCopies.{get_contains, placed_of, copies_are_placed, followed_is_told}
-use Rattle.dump_trees.proofs.expansions.BackFound.{contains_made}
 
 last_or_before : (place count : ℕ) → place < suc count → (place ≡ count) ⊎ (place < count)
 last_or_before zero zero low = inl refl

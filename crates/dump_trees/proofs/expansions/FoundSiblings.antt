@@ -17,6 +17,16 @@ contains_map f (y ∷ xs) x (suc k, low, is) =
     let (m, fits, same) = contains_map f xs x (k, (let less : k < length xs = omega (arith, low) in less), is) in
     (suc m, omega (arith, fits), same)
 
+-- an element of a mapped list is the image of an element of the list
+pub contains_made : {A B : Type 0} (f : A → B) (xs : List A) (y : B) → Contains (map f xs) y
+    → (x : A) × Contains xs x × (f x ≡ y)
+contains_made f [] y (k, low, is) = absurd (omega (arith, low))
+contains_made f (x ∷ xs) y (zero, low, is) = (x, (zero, omega arith, refl), is)
+contains_made f (x ∷ xs) y (suc k, low, is) =
+    let (z, (m, fits, there), same) =
+    contains_made f xs y (k, (let less : k < length (map f xs) = omega (arith, low) in less), is) in
+    (z, (suc m, omega (arith, fits), there), same)
+
 -- a path above another one is listed
 above_listed : (path : NodePath) (name : List ℕ) (rest : NodePath)
     → Contains (directories_above (path ++ name ∷ rest)) path

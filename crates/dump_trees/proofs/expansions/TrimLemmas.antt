@@ -1,10 +1,9 @@
 -- Copies with deletions after them.
-use Rattle.dump_trees.proofs.Prelude.{◌≡◌, zero, suc, ◌<◌, ◌||◌, ◌⊎◌, arith, cond, option_map, refl, sym, ap, ◌∙◌, subst, append-nil, append_assoc, list_all, list_any, both_ways, and_parts, and_from, or_parts, or_left, or_right, inl, inr, not-true, not_from_false, Exclude, Settings, NodePath, keeps, below, Node, Tree, at_or_below, grafted, at_top, put, empty_tree, Made, PropertyChange, TextChange, Change, History, has_directory, copied, deleted, made_in, with_props, with_text, props_put, props_set, text_set, step, steps, NewProperty, NewNumber, KeepsEntries, IsNewNode, AreNewProps, IsNewMade, IsRestricted, sets_whole, IsMade, IsRenumbered}
-use Rattle.std.proofs.Common.{ℕ, Bool, true, false, not, ◌&&◌, List, [], ◌∷◌, ◌++◌, Option, Some, None, option_and_then, is_some, is_none, length, Contains}
+use Rattle.dump_trees.proofs.Prelude.{◌≡◌, cond, option_map, refl, sym, ap, ◌∙◌, subst, append-nil, append_assoc, list_all, both_ways, and_parts, and_from, not-true, Exclude, Settings, NodePath, keeps, below, Node, Tree, at_or_below, grafted, at_top, put, empty_tree, Made, PropertyChange, TextChange, Change, History, has_directory, copied, deleted, made_in, with_props, with_text, props_put, props_set, text_set, step, steps, NewProperty, NewNumber, KeepsEntries, IsNewNode, AreNewProps, IsNewMade, IsRestricted, IsNewChange, AreRestricted, sets_whole}
+use Rattle.std.proofs.Common.{ℕ, Bool, true, false, not, ◌&&◌, List, [], ◌∷◌, ◌++◌, Option, Some, None, option_and_then, is_some, is_none}
 use Rattle.dump_trees.specs.ExpansionCases.{deletions, none_is_below}
-use Rattle.dump_trees.specs.Branches.{tree_of}
-use Rattle.dump_trees.specs.ComingBack.{coming_back}
-use Rattle.dump_trees.specs.Trimming.{CoverTaken, topmost_from, TakenTopsCover, TrimmedCopyRestricts, EachTrimmedCopyRestricts}
+use Rattle.dump_trees.specs.ComingBack.{ComesBack}
+use Rattle.dump_trees.specs.Trimming.{CoverTaken}
 use Rattle.dump_trees.proofs.paths.KeptPaths.{gives_nothing, keeps_nothing}
 use Rattle.dump_trees.proofs.changes.TreeLemmas.{below_rest, below_found, below_top, same_presence, RestrictedAt, nothing_restricted, graft_restricts, directory_restricted}
 use Rattle.dump_trees.proofs.changes.StageLemmas.{Follows, follows_then, follows_if, deleted_follows, props_follow, text_follows}
@@ -12,7 +11,6 @@ use Rattle.dump_trees.proofs.changes.StepLemmas.{followed}
 use Rattle.dump_trees.proofs.expansions.BranchLemmas.{below_joined, graft_outside}
 use Rattle.dump_trees.proofs.expansions.DeletionLemmas.{parent_below, deletion_step, still_stand, without, without_none, without_found}
 use Rattle.dump_trees.proofs.expansions.StandingLemmas.{step_has}
-use Rattle.dump_trees.proofs.expansions.BackFound.{IsBack, branch_back, branch_found}
 use Rattle.dump_trees.proofs.expansions.EveryLemmas.{copies_something}
 
 -- whether a path, given from the top on, is below it
@@ -372,7 +370,7 @@ module _ (settings : Settings) (IsNew : NewProperty) (exclude : settings.side �
               subst (λ t. IsRestricted settings IsNew after t) same restricts),
         )
 
--- the law
+-- copies
 
 -- a copy of a kept path stays one
 stays_copy : (settings : Settings) (IsNumber : NewNumber) (whole : Bool) (number : ℕ) (source : NodePath)
@@ -386,8 +384,19 @@ stays_copy settings IsNumber whole number source (Some Made.NewFile) kept is =
 stays_copy settings IsNumber whole number source (Some (Made.Copied written same)) kept is =
     (written, is.1, ap (λ p. Some (Made.Copied written p)) is.2)
 
+-- if prefixes are excluded, and nothing comes back by a kept copy: what the filter writes for it, and then the
+-- deletions, lead from the restricted tree to the restricted one. The deletions are of what the copy takes to paths
+-- that aren't kept
 pub trimmed_copy : (settings : Settings) (IsNew : NewProperty) (IsNumber : NewNumber) → KeepsEntries IsNew
-    → TrimmedCopyRestricts settings IsNew IsNumber
+    → (history others : History) (before after restricted old : Tree) (c new : Change) (number : ℕ) (source : NodePath)
+    (rests : List NodePath) → settings.side ≡ Exclude
+    → AreRestricted settings IsNew IsNumber history others → IsRestricted settings IsNew before restricted
+    → step history before c ≡ Some after
+    → keeps settings c.path ≡ true → c.made ≡ Some (Made.Copied number source) → history number ≡ Some old
+    → (ComesBack settings history c → ⊥) → CoverTaken settings old c.path source rests
+    → IsNewChange settings IsNew IsNumber c new
+    → (other : Tree) × (steps others restricted (new ∷ deletions c.path rests) ≡ Some other)
+    × IsRestricted settings IsNew after other
 trimmed_copy settings IsNew IsNumber entries history others before after restricted old c new number source rests exclude
     same r at kept is there none cover is_new =
     let (written, numbered, made) = stays_copy settings IsNumber (sets_whole c) number source new.made kept_source
@@ -439,138 +448,3 @@ trimmed_copy settings IsNew IsNumber entries history others before after restric
         })
     moved written made = λ i. step others restricted
         (record { path = is_new.path i; deletes = is_new.deletes i; made = made i; props = new.props; text = is_new.text i })
-
-pub each_trimmed_copy : EachTrimmedCopyRestricts
-each_trimmed_copy settings make renumber entries = trimmed_copy settings (IsMade make) (IsRenumbered renumber) entries
-
--- what is taken
-
--- whether one of the seen paths is at or above the path
-abbrev is_seen : List NodePath → NodePath → Bool
-is_seen seen path = list_any (λ other. is_some (below other path)) seen
-
--- what is true of each path is true of the chosen paths
-topmost_all : (test : NodePath → Bool) (seen paths : List NodePath) → list_all test paths ≡ true
-    → list_all test (topmost_from seen paths) ≡ true
-topmost_all test seen [] all = refl
-topmost_all test seen (path ∷ paths) all =
-    cases (topmost_all test seen paths parts.1) (topmost_all test (path ∷ seen) paths parts.1) (is_seen seen path)
-  where
-    parts : (test path ≡ true) × (list_all test paths ≡ true)
-    parts = and_parts (test path) (list_all test paths) all
-
-    cases : list_all test (topmost_from seen paths) ≡ true → list_all test (topmost_from (path ∷ seen) paths) ≡ true
-        → (b : Bool)
-        → list_all test (cond b (topmost_from seen paths) (path ∷ topmost_from (path ∷ seen) paths)) ≡ true
-    cases left right true = left
-    cases left right false = and_from (test path) (list_all test (topmost_from (path ∷ seen) paths)) parts.0 right
-
--- no chosen path is at or below a seen one
-topmost_unseen : (other : NodePath) (seen paths : List NodePath)
-    → ((path : NodePath) → is_seen seen path ≡ false → is_none (below other path) ≡ true)
-    → list_all (λ path. is_none (below other path)) (topmost_from seen paths) ≡ true
-topmost_unseen other seen [] far = refl
-topmost_unseen other seen (path ∷ paths) far =
-    cases (topmost_unseen other seen paths far) (topmost_unseen other (path ∷ seen) paths further) (is_seen seen path) refl
-  where
-    further : (next : NodePath) → is_seen (path ∷ seen) next ≡ false → is_none (below other next) ≡ true
-    further next none = far next (or_parts (is_some (below path next)) (is_seen seen next) none).1
-
-    cases : list_all (λ next. is_none (below other next)) (topmost_from seen paths) ≡ true
-        → list_all (λ next. is_none (below other next)) (topmost_from (path ∷ seen) paths) ≡ true
-        → (b : Bool) → is_seen seen path ≡ b
-        → list_all (λ next. is_none (below other next))
-        (cond b (topmost_from seen paths) (path ∷ topmost_from (path ∷ seen) paths)) ≡ true
-    cases left right true is = left
-    cases left right false none =
-        and_from (is_none (below other path))
-        (list_all (λ next. is_none (below other next)) (topmost_from (path ∷ seen) paths))
-        (far path none) right
-
--- so none is at or below an earlier one
-topmost_apart : (seen paths : List NodePath) → none_is_below (topmost_from seen paths) ≡ true
-topmost_apart seen [] = refl
-topmost_apart seen (path ∷ paths) =
-    cases (topmost_apart seen paths) (topmost_apart (path ∷ seen) paths) (is_seen seen path)
-  where
-    none_of : (o : Option NodePath) → is_some o ≡ false → is_none o ≡ true
-    none_of None is = refl
-    none_of (Some more) is = absurd (let bad : true ≡ false = is in cc)
-
-    cases : none_is_below (topmost_from seen paths) ≡ true → none_is_below (topmost_from (path ∷ seen) paths) ≡ true
-        → (b : Bool) → none_is_below (cond b (topmost_from seen paths) (path ∷ topmost_from (path ∷ seen) paths)) ≡ true
-    cases left right true = left
-    cases left right false =
-        and_from (list_all (λ other. is_none (below path other)) (topmost_from (path ∷ seen) paths))
-        (none_is_below (topmost_from (path ∷ seen) paths))
-        (topmost_unseen path (path ∷ seen) paths
-        (λ next none. none_of (below path next) (or_parts (is_some (below path next)) (is_seen seen next) none).0))
-        right
-
--- and each path is at or below a seen or chosen one
-topmost_cover : (seen paths : List NodePath) (path : NodePath) → Contains paths path
-    → (is_seen seen path || is_seen (topmost_from seen paths) path) ≡ true
-topmost_cover seen [] path (k, low, is) = absurd (omega (arith, low))
-topmost_cover seen (first ∷ paths) path among =
-    cases (topmost_cover seen paths path) (topmost_cover (first ∷ seen) paths path) (is_seen seen first) refl
-    (place among)
-  where
-    place : Contains (first ∷ paths) path → (first ≡ path) ⊎ Contains paths path
-    place (zero, low, is) = inl is
-    place (suc k, low, is) = inr (k, (let less : k < length paths = omega (arith, low) in less), is)
-
-    cases : (Contains paths path → (is_seen seen path || is_seen (topmost_from seen paths) path) ≡ true)
-        → (Contains paths path
-        → ((is_some (below first path) || is_seen seen path) || is_seen (topmost_from (first ∷ seen) paths) path)
-        ≡ true)
-        → (b : Bool) → is_seen seen first ≡ b → (first ≡ path) ⊎ Contains paths path
-        → (is_seen seen path
-        || is_seen (cond b (topmost_from seen paths) (first ∷ topmost_from (first ∷ seen) paths)) path) ≡ true
-    cases left right true is (inl same) =
-        or_left (is_seen seen path) (is_seen (topmost_from seen paths) path)
-        (subst (λ p. is_seen seen p ≡ true) same is)
-    cases left right true is (inr later) = left later
-    cases left right false none (inl same) =
-        or_right (is_seen seen path) (is_seen (first ∷ topmost_from (first ∷ seen) paths) path)
-        (or_left (is_some (below first path)) (is_seen (topmost_from (first ∷ seen) paths) path)
-        (subst (λ p. is_some (below first p) ≡ true) same (ap is_some (below_top first))))
-    cases left right false none (inr later) =
-        between (is_some (below first path)) (is_seen seen path) (is_seen (topmost_from (first ∷ seen) paths) path)
-        (right later)
-      where
-        between : (a b c : Bool) → ((a || b) || c) ≡ true → (b || (a || c)) ≡ true
-        between true true c is = refl
-        between true false c is = refl
-        between false true c is = refl
-        between false false c is = is
-
-pub taken_tops_cover : TakenTopsCover
-taken_tops_cover settings old path source branch has apart = record {
-  kept = topmost_all (λ rest. keeps settings (source ++ rest)) [] all (each (λ rest. keeps settings (source ++ rest))
-      (λ rest back. back.kept) all (λ rest there. there));
-  left = topmost_all (λ rest. not (keeps settings (path ++ rest))) [] all
-      (each (λ rest. not (keeps settings (path ++ rest)))
-      (λ rest back. not_from_false (keeps settings (path ++ rest)) back.left) all (λ rest there. there));
-  stand = topmost_all (λ rest. is_some (old (source ++ rest))) [] all
-      (each (λ rest. is_some (old (source ++ rest))) (λ rest back. ap is_some (has rest) ∙ back.stands) all
-      (λ rest there. there));
-  apart = topmost_apart [] all;
-  all = λ rest stands kept left. topmost_cover [] all rest
-      (branch_found settings branch source path rest
-      record { stands = ap is_some (sym (has rest)) ∙ stands; kept = kept; left = left });
-}
-  where
-    all : List NodePath
-    all = coming_back settings source path branch
-
-    each : (test : NodePath → Bool)
-        → ((rest : NodePath) → IsBack settings source path (tree_of branch) rest → test rest ≡ true)
-        → (paths : List NodePath) → ((rest : NodePath) → Contains paths rest → Contains all rest)
-        → list_all test paths ≡ true
-    each test holds [] within = refl
-    each test holds (first ∷ paths) within =
-        and_from (test first) (list_all test paths)
-        (holds first (branch_back settings branch source path apart first (within first (0, omega arith, refl))))
-        (each test holds paths
-        (λ rest (k, low, is).
-        within rest (suc k, (let less : suc k < length (first ∷ paths) = omega (arith, low) in less), is)))

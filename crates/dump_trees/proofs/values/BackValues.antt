@@ -2,8 +2,7 @@
 use Rattle.dump_trees.proofs.Prelude.{◌≡◌, codes, refl, sym, ap, ap₂, ◌∙◌, subst, both_ways, bytes_eq, arith, zero, suc, unwrap_or, Settings, NodePath, path_of, keeps, Node, Tree, put, root_alone, Made, TextChange, Change, History, new_text, slice_get}
 use Rattle.std.proofs.Common.{true, false, List, [], ◌∷◌, ◌++◌, Some, None, is_some, Contains}
 use Rattle.std.proofs.lemmas.List.Elements.{All-head, All-tail}
-use Rattle.dump_trees.specs.Branches.{Branch, Branches, HasBranch}
-use Rattle.dump_trees.specs.ComingBack.{ComesBack, NoneComesBack, NothingComesBack, coming_back, MakesText, IsMadeByKept, SetsProperty}
+use Rattle.dump_trees.specs.ComingBack.{ComesBack, NoneComesBack, NothingComesBack, MakesText, IsMadeByKept, SetsProperty}
 use Rattle.dump_trees.proofs.values.ValueParts.{change, directory, file, copy, excluding, property, setting, patching}
 
 -- when something comes back
@@ -91,30 +90,6 @@ second_revision none =
 
     Nothing : List Change → Type 0
     Nothing changes = NoneComesBack (excluding (codes "a/s")) (slice_get (root_alone ∷ with_it ∷ [])) changes
-
--- found in a branch
-
--- a file by itself
-found_itself : coming_back (excluding (codes "a")) (path_of (codes "b")) (path_of (codes "a")) (Branch.File [] (codes "1"))
-    ≡ [] ∷ []
-found_itself = refl
-
-not_found_there : coming_back (excluding (codes "b")) (path_of (codes "b")) (path_of (codes "a"))
-    (Branch.File [] (codes "1")) ≡ []
-not_found_there = refl
-
--- the tree has more than the branch
-more_stands : HasBranch with_it (path_of (codes "a")) (Branch.Directory [] Branches.NoMore) → ⊥
-more_stands has = absurd (let bad : Some (Node.File [] (codes "1")) ≡ None = has (path_of (codes "s")) in cc)
-
--- a directory with a file
-abbrev with_file : Branch
-with_file = Branch.Directory [] (Branches.Named (codes "s") (Branch.File [] (codes "1")) Branches.NoMore)
-
--- if the file is excluded only at the source, it comes back
-loses_file : coming_back (excluding (codes "b/s")) (path_of (codes "a")) (path_of (codes "b")) with_file
-    ≡ path_of (codes "s") ∷ []
-loses_file = refl
 
 -- texts that kept changes make
 

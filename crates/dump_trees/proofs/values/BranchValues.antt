@@ -1,7 +1,7 @@
 -- Examples of branches and of the changes that write one out.
-use Rattle.dump_trees.proofs.Prelude.{◌≡◌, codes, refl, inr, both_ways, Property, Settings, path_of, Node, root_alone, Change, History, steps}
-use Rattle.std.proofs.Common.{ℕ, true, false, List, [], ◌∷◌, Option, Some, None, option_and_then, is_none}
-use Rattle.dump_trees.specs.Branches.{Branch, Branches, tree_of, is_distinct}
+use Rattle.dump_trees.proofs.Prelude.{◌≡◌, codes, refl, inr, both_ways, cond, bytes_eq, Property, Settings, NodePath, path_of, below, Node, Tree, at_top, put, root_alone, Change, History, steps}
+use Rattle.std.proofs.Common.{ℕ, Bool, true, false, List, [], ◌∷◌, Option, Some, None, option_and_then, is_none}
+use Rattle.dump_trees.specs.Branches.{Branch, Branches, tree_of, is_distinct, HasBranch}
 use Rattle.dump_trees.specs.WritingOut.{directory_of, file_of, IsCutAlike, IsLeftOut, WritesOut}
 use Rattle.dump_trees.specs.ExpansionCases.{branch_made, cleared, deletions, none_is_below}
 use Rattle.dump_trees.proofs.values.ValueParts.{including, excluding, copy, deletion, setting, editing, writing, property, removal}
@@ -33,6 +33,30 @@ not_beside = refl
 
 not_below_a_file : tree_of worked (path_of (codes "f/h")) ≡ None
 not_below_a_file = refl
+
+-- a branch in a tree
+
+abbrev with_file : Branch
+with_file = Branch.Directory [] (Branches.Named (codes "s") (Branch.File [] (codes "1")) Branches.NoMore)
+
+abbrev with_it : Tree
+with_it = put (path_of (codes "a/s")) (Node.File [] (codes "1")) (put (path_of (codes "a")) (Node.Directory []) root_alone)
+
+it_stands : HasBranch with_it (path_of (codes "a")) with_file
+it_stands [] = refl
+it_stands (name ∷ rest) = cases rest (bytes_eq (codes "s") name)
+  where
+    cases : (rest : NodePath) (b : Bool) → at_top (cond b (below [] rest) None) (Node.File [] (codes "1")) None
+        ≡ cond b (tree_of (Branch.File [] (codes "1")) rest) None
+    cases rest false = refl
+    cases [] true = refl
+    cases (next ∷ rest) true = refl
+
+-- the tree has more than this branch
+more_stands : HasBranch with_it (path_of (codes "a")) (Branch.Directory [] Branches.NoMore) → ⊥
+more_stands has = absurd (let bad : Some (Node.File [] (codes "1")) ≡ None = has (path_of (codes "s")) in cc)
+
+-- distinct names
 
 names_differ : is_distinct worked ≡ true
 names_differ = refl

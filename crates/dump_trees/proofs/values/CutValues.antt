@@ -1,14 +1,12 @@
 -- Examples of cuts, of their siblings, and of what comes back.
-use Rattle.dump_trees.proofs.Prelude.{◌≡◌, sym, ◌≤◌, ◌||◌, bytes_eq-Decides, or_cases, inr, inl, ◌⊎◌, list_any, codes, refl, ap, subst, slice_get, bytes_eq, arith, AllZip, Exclude, Settings, NodePath, path_text, path_of, keeps, Node, Tree, put, root_alone, Made, Change, History, unwrap_or, both_ways, loaded_over}
+use Rattle.dump_trees.proofs.Prelude.{◌≡◌, sym, ◌≤◌, ◌||◌, bytes_eq-Decides, or_cases, inr, inl, ◌⊎◌, list_any, codes, refl, ap, subst, slice_get, bytes_eq, arith, Exclude, Settings, NodePath, path_text, path_of, keeps, Node, Tree, put, root_alone, Made, Change, History, unwrap_or, both_ways, loaded_over}
 use Rattle.std.proofs.Common.{◌<◌, ℕ, zero, suc, true, false, List, [], ◌∷◌, ◌++◌, map, Some, Contains}
 use Rattle.std.proofs.lemmas.List.Elements.{All-nil, All-cons}
 use Rattle.dump_trees.specs.Siblings.{is_above_included, is_in_cut, is_sibling, has_node_names, AreSiblings}
-use Rattle.dump_trees.specs.Branches.{Branch, Branches}
 use Rattle.dump_trees.specs.FindingSiblings.{all_above, CanStandBelow}
 use Rattle.dump_trees.proofs.expansions.FoundSiblings.{above_are_listed, siblings_are_found}
-use Rattle.dump_trees.specs.ComingBack.{ComesBack, coming_back, NoneComesBack, NothingComesBack, AgreeWhereKept}
-use Rattle.dump_trees.proofs.expansions.ComingLemmas.{kept_changes_tell_all}
-use Rattle.dump_trees.proofs.values.ValueParts.{including_all, excluding, directory, file, copy, property, node_at}
+use Rattle.dump_trees.specs.ComingBack.{ComesBack, NoneComesBack, NothingComesBack}
+use Rattle.dump_trees.proofs.values.ValueParts.{including_all, excluding, directory, file, copy, property}
 use Rattle.dump_trees.proofs.paths.KeptPaths.{keeps_nothing}
 
 -- the cut
@@ -158,8 +156,6 @@ not_kept_alone b =
     source : b.source ≡ path_of (codes "a/t")
     source = (let both : (copy 1 (codes "a/t") (codes "b")).made ≡ Some _ = b.copies in cc)
 
--- what is excluded has no part in the result
-
 -- a history with an excluded text, and a copy of another one
 abbrev whole : List ℕ → List (List Change)
 whole text = (directory (codes "a") ∷ file (codes "a/f") (codes "1") ∷ file (codes "s") text ∷ [])
@@ -168,9 +164,7 @@ whole text = (directory (codes "a") ∷ file (codes "a/f") (codes "1") ∷ file 
 abbrev trees : List ℕ → List Tree
 trees text = unwrap_or (loaded_over root_alone (whole text)) []
 
-its_text : (text : List ℕ) → node_at (loaded_over root_alone (whole text)) 2 (codes "s") ≡ Some (Node.File [] text)
-its_text text = refl
-
+-- by it nothing comes back
 nothing_back : (text : List ℕ) → NothingComesBack (excluding (codes "s")) (trees text) (whole text)
 nothing_back text =
     All-cons (NoneComesBack (excluding (codes "s")) (slice_get (trees text)))
@@ -196,36 +190,6 @@ nothing_back text =
         in
         absurd (let bad : true ≡ false
         = subst (λ p. keeps (excluding (codes "s")) (p ++ b.rest) ≡ false) source b.left in cc)
-
--- whatever the text is, the same exists at kept paths
-no_part : (text other : List ℕ) → AllZip (AgreeWhereKept (excluding (codes "s"))) (trees text) (trees other)
-no_part text other =
-    kept_changes_tell_all (excluding (codes "s")) (whole text) (whole other) (trees text) (trees other) refl refl refl
-    (nothing_back text) (nothing_back other) (refl, (refl, tt))
-
--- found in a branch
-
--- a directory with a file, and one in it with another
-abbrev worked : Branch
-worked = Branch.Directory []
-    (Branches.Named (codes "s") (Branch.File [] (codes "1"))
-    (Branches.Named (codes "d") (Branch.Directory [] (Branches.Named (codes "s") (Branch.File [] []) Branches.NoMore))
-    Branches.NoMore))
-
-found_file : coming_back (excluding (codes "a/s")) (path_of (codes "b")) (path_of (codes "a")) worked
-    ≡ path_of (codes "s") ∷ []
-found_file = refl
-
-found_below : coming_back (excluding (codes "a/d")) (path_of (codes "b")) (path_of (codes "a")) worked
-    ≡ path_of (codes "d") ∷ path_of (codes "d/s") ∷ []
-found_below = refl
-
-found_all : coming_back (excluding (codes "a")) (path_of (codes "b")) (path_of (codes "a")) worked
-    ≡ [] ∷ path_of (codes "s") ∷ path_of (codes "d") ∷ path_of (codes "d/s") ∷ []
-found_all = refl
-
-found_none : coming_back (excluding (codes "b")) (path_of (codes "b")) (path_of (codes "a")) worked ≡ []
-found_none = refl
 
 -- the directories above included paths
 

@@ -1,12 +1,10 @@
 -- Examples of copies that stay, with deletions after them.
 use Rattle.dump_trees.proofs.Prelude.{◌≡◌, codes, refl, sym, ap, ◌∙◌, subst, at_top, inl, inr, bytes_eq, cond, AllZip, slice_get, path_of, NodePath, keeps, Node, Tree, put, grafted, root_alone, Made, Change, History, steps, list_any, below, loaded_over, IsRestricted, is_quiet, is_over}
 use Rattle.std.proofs.Common.{ℕ, Bool, true, false, ◌||◌, List, [], ◌∷◌, ◌++◌, Option, Some, None, option_and_then, is_some, is_none}
-use Rattle.dump_trees.specs.Branches.{Branch, Branches, tree_of, HasBranch}
 use Rattle.dump_trees.specs.Expansions.{Expands}
 use Rattle.dump_trees.specs.ComingBack.{ComesBack}
-use Rattle.dump_trees.specs.Trimming.{CoverTaken, taken_tops, IsTrimmed, IsSameNumber, AreTrimmedRevisions}
+use Rattle.dump_trees.specs.Trimming.{CoverTaken, IsTrimmed, IsSameNumber, AreTrimmedRevisions}
 use Rattle.dump_trees.proofs.quiet.QuietLemmas.{quiet_separates}
-use Rattle.dump_trees.proofs.expansions.TrimLemmas.{taken_tops_cover}
 use Rattle.dump_trees.proofs.expansions.TrimmedHistories.{trimmed_history}
 use Rattle.dump_trees.proofs.values.ValueParts.{as_it_was, entries_stay, directory, file, copy, deletion, excluding, same_directory, same_file, same_copy, node_at}
 
@@ -16,9 +14,6 @@ old = put (path_of (codes "a/s")) (Node.File [] (codes "1")) (put (path_of (code
 
 abbrev history : History
 history number = Some old
-
-abbrev with_file : Branch
-with_file = Branch.Directory [] (Branches.Named (codes "s") (Branch.File [] (codes "1")) Branches.NoMore)
 
 -- a copy that the cut doesn't take whole is no expansion of itself, since it isn't separated
 not_itself : Expands (excluding (codes "b/s")) history (put (path_of (codes "a")) (Node.Directory []) root_alone)
@@ -33,20 +28,25 @@ not_itself expands =
 
 -- copies that are trimmed
 
+-- a load that adds the file with a text puts it there twice
+abbrev first_tree : Tree
+first_tree = put (path_of (codes "a/s")) (Node.File [] (codes "1"))
+    (put (path_of (codes "a/s")) (Node.File [] []) (put (path_of (codes "a")) (Node.Directory []) root_alone))
+
 -- the file is deleted
-goes : CoverTaken (excluding (codes "b/s")) old (path_of (codes "b")) (path_of (codes "a")) (path_of (codes "s") ∷ [])
+goes : CoverTaken (excluding (codes "b/s")) first_tree (path_of (codes "b")) (path_of (codes "a")) (path_of (codes "s") ∷ [])
 goes = record { kept = refl; left = refl; stand = refl; apart = refl; all = all }
   where
     named : (name : List ℕ) (rest : NodePath) (b : Bool) → bytes_eq (codes "s") name ≡ b
-        → is_some (old (path_of (codes "a") ++ name ∷ rest)) ≡ true
+        → is_some (first_tree (path_of (codes "a") ++ name ∷ rest)) ≡ true
         → list_any (λ other. is_some (below other (name ∷ rest))) (path_of (codes "s") ∷ []) ≡ true
     named name rest true same some = subst (λ b. (is_some (cond b (Some rest) None) || false) ≡ true) (sym same) refl
     named name rest false apart some =
         absurd (let bad : false ≡ true
-        = subst (λ b. is_some (at_top (cond b (below [] rest) None) (Node.File [] (codes "1")) None)
-        ≡ true) apart some in cc)
+        = subst (λ b. is_some (at_top (cond b (below [] rest) None) (Node.File [] (codes "1"))
+        (at_top (cond b (below [] rest) None) (Node.File [] []) None)) ≡ true) apart some in cc)
 
-    all : (rest : NodePath) → is_some (old (path_of (codes "a") ++ rest)) ≡ true
+    all : (rest : NodePath) → is_some (first_tree (path_of (codes "a") ++ rest)) ≡ true
         → keeps (excluding (codes "b/s")) (path_of (codes "a") ++ rest) ≡ true
         → keeps (excluding (codes "b/s")) (path_of (codes "b") ++ rest) ≡ false
         → list_any (λ other. is_some (below other rest)) (path_of (codes "s") ∷ []) ≡ true
@@ -75,22 +75,6 @@ not_twice cover = absurd (let bad : false ≡ true = cover.apart in cc)
 not_taken : CoverTaken (record (excluding (codes "b/s")) { prefixes = codes "a/s" ∷ codes "b/s" ∷ [] }) old
     (path_of (codes "b")) (path_of (codes "a")) (path_of (codes "s") ∷ []) → ⊥
 not_taken cover = absurd (let bad : false ≡ true = cover.kept in cc)
-
--- they are found in the branch: only the topmost ones
-
-abbrev deeper : Branch
-deeper = Branch.Directory [] (Branches.Named (codes "d") with_file Branches.NoMore)
-
-found_top : taken_tops (excluding (codes "b/d")) (path_of (codes "b")) (path_of (codes "a")) deeper
-    ≡ path_of (codes "d") ∷ []
-found_top = refl
-
-found_file : taken_tops (excluding (codes "b/d/s")) (path_of (codes "b")) (path_of (codes "a")) deeper
-    ≡ path_of (codes "d/s") ∷ []
-found_file = refl
-
-found_none : taken_tops (excluding (codes "a/d")) (path_of (codes "b")) (path_of (codes "a")) deeper ≡ []
-found_none = refl
 
 -- the copy, and the deletion after it
 abbrev trimmed : List ℕ → Option Node
@@ -121,23 +105,8 @@ abbrev written : List (List Change)
 written = (directory (codes "a") ∷ file (codes "a/s") (codes "1") ∷ [])
     ∷ (copy 1 (codes "a") (codes "b") ∷ deletion (codes "b/s") ∷ []) ∷ []
 
-abbrev first_tree : Tree
-first_tree = put (path_of (codes "a/s")) (Node.File [] (codes "1"))
-    (put (path_of (codes "a/s")) (Node.File [] []) (put (path_of (codes "a")) (Node.Directory []) root_alone))
-
 abbrev second_tree : Tree
 second_tree = grafted (path_of (codes "b")) (λ rest. first_tree (path_of (codes "a") ++ rest)) first_tree
-
-first_stands : HasBranch first_tree (path_of (codes "a")) with_file
-first_stands [] = refl
-first_stands (name ∷ rest) = cases rest (bytes_eq (codes "s") name)
-  where
-    cases : (rest : NodePath) (b : Bool) → at_top (cond b (below [] rest) None) (Node.File [] (codes "1"))
-        (at_top (cond b (below [] rest) None) (Node.File [] []) None)
-        ≡ cond b (tree_of (Branch.File [] (codes "1")) rest) None
-    cases rest false = refl
-    cases [] true = refl
-    cases (next ∷ rest) true = refl
 
 nothing_back : ComesBack (excluding (codes "b/s")) (slice_get (root_alone ∷ first_tree ∷ []))
     (copy 1 (codes "a") (codes "b")) → ⊥
@@ -194,8 +163,7 @@ are_trimmed = (
             refl,
             refl,
             nothing_back,
-            taken_tops_cover (excluding (codes "b/s")) first_tree (path_of (codes "b")) (path_of (codes "a")) with_file
-                first_stands refl,
+            goes,
           ),
           λ after is. refl,
         ),
