@@ -10,11 +10,9 @@ use Rattle.dump_records.specs.DumpText.{Ending, HasRecords}
 use Rattle.dump_records.specs.RecordText.{DumpRecord}
 use Rattle.dump_rules.specs.Settings.{Settings}
 use Rattle.dump_digest.specs.RecordParts.{is_node, is_kept_node, has_lost_source}
-use Rattle.dump_filter.specs.FilterLaws.{LengthsFit}
 use Rattle.dump_filter.specs.Groups.{groups, revision_numbers}
 use Rattle.dump_filter.specs.NewHeaders.{without_copy_headers}
 use Rattle.dump_filter.specs.RecordFaults.{HoldsOfRecord}
-use Rattle.dump_filter.specs.WholeText.{IsCleanText}
 use Rattle.dump_trees.specs.Trees.{Tree, root_alone}
 use Rattle.dump_trees.specs.Changes.{Change}
 use Rattle.dump_trees.specs.Revisions.{AllRevisionsSeparate}
@@ -22,8 +20,6 @@ use Rattle.dump_trees.specs.Expansions.{AllRevisionsExpand}
 use Rattle.dump_trees.specs.EveryHistory.{loses_none}
 use Rattle.dump_history.specs.RecordChanges.{Patching, has_action, makes}
 use Rattle.dump_history.specs.DumpChanges.{MakeChanges, MakeRevisions, HaveRevisionProperties, LoadsAs}
-use Rattle.dump_history.specs.NumberGaps.{KeepsNamedNumbers}
-use Rattle.dump_history.specs.DumpLaws.{LoadsRestricted, LoadsAfterDirectories}
 use Rattle.dump_history.specs.WrittenNodes.{WrittenNode, node_record, can_be_written}
 
 -- what is left of a record of the dump
@@ -125,32 +121,6 @@ ExpandedDumpLoads = (patched : Patching) (settings : Settings) (dump : List ℕ)
     × AllRevisionsSeparate settings (root_alone ∷ []) root_alone expanded
     × (revision_numbers again ≡ revision_numbers records)
     × ((props : List (List Property)) → HaveRevisionProperties records props → HaveRevisionProperties again props)
-
--- what the filter writes of the expanded form of a dump that loads, loaded over the parent directories, has the
--- restricted trees of the dump. The filter answers of the expanded form; no change of the dump itself need be separated
--- or quiet
-abbrev pub FilteredExpansionRestricts : Type 0
-FilteredExpansionRestricts = (patched : Patching) (settings : Settings) (dump expansion text : List ℕ)
-    (records : List DumpRecord) (steads : List Stead) (again : List DumpRecord)
-    (revisions expanded : List (List Change)) (trees : List Tree) →
-    HasRecords dump records Ending.Whole
-    → LoadsAs patched root_alone records revisions trees
-    → IsExpandedDump patched settings records steads again revisions expanded
-    → IsCleanText settings expansion again text → LengthsFit settings again
-    → KeepsNamedNumbers settings again
-    → LoadsRestricted patched settings again trees text
-
--- the same if it is loaded after the parent directories
-abbrev pub FilteredExpansionRestrictsAfterDirectories : Type 0
-FilteredExpansionRestrictsAfterDirectories = (patched : Patching) (settings : Settings) (dump expansion text : List ℕ)
-    (records : List DumpRecord) (steads : List Stead) (again : List DumpRecord)
-    (revisions expanded : List (List Change)) (trees : List Tree) →
-    HasRecords dump records Ending.Whole
-    → LoadsAs patched root_alone records revisions trees
-    → IsExpandedDump patched settings records steads again revisions expanded
-    → IsCleanText settings expansion again text → LengthsFit settings again
-    → KeepsNamedNumbers settings again
-    → LoadsAfterDirectories patched settings again trees text
 
 -- whether the kept node has lines that state a copy source that isn't kept, and makes nothing; no load reads these
 -- lines, but the filter rejects it

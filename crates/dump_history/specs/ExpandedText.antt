@@ -5,19 +5,15 @@ use Rattle.std.specs.List.{AllZip, list_all}
 use Rattle.dump_records.specs.DumpText.{Ending, HasRecords, line_feeds}
 use Rattle.dump_records.specs.RecordText.{DumpRecord, record_text}
 use Rattle.dump_rules.specs.Settings.{Settings}
-use Rattle.dump_filter.specs.FilterLaws.{LengthsFit}
 use Rattle.dump_filter.specs.RecordFaults.{HoldsOfRecord}
-use Rattle.dump_filter.specs.WholeText.{IsCleanText}
 use Rattle.dump_text.specs.declared.fault.FaultKind.TheVariants.{CopySource}
 use Rattle.dump_digest.specs.RecordParts.{is_node, is_revision_record}
-use Rattle.dump_trees.specs.Trees.{Tree, root_alone}
+use Rattle.dump_trees.specs.Trees.{root_alone}
 use Rattle.dump_trees.specs.Changes.{Change}
 use Rattle.dump_trees.specs.Expansions.{AllRevisionsExpand}
 use Rattle.dump_trees.specs.EveryHistory.{loses_none}
 use Rattle.dump_history.specs.RecordChanges.{Patching}
-use Rattle.dump_history.specs.DumpChanges.{MakeRevisions, LoadsAs}
-use Rattle.dump_history.specs.NumberGaps.{KeepsNamedNumbers}
-use Rattle.dump_history.specs.DumpLaws.{LoadsRestricted, LoadsAfterDirectories}
+use Rattle.dump_history.specs.DumpChanges.{MakeRevisions}
 use Rattle.dump_history.specs.WrittenNodes.{written_change, replacing}
 use Rattle.dump_history.specs.ExpandedDumps.{OwnForm, Stead, may_stand, expanded_records, IsExpandedDump, takes_idle_source}
 
@@ -93,20 +89,7 @@ ExpansionsAreDumps = (patched : Patching) (settings : Settings) (dump text : Lis
     → (again : List DumpRecord) × HasRecords text again Ending.Whole
     × IsExpandedDump patched settings records steads again revisions (made_in_stead records steads revisions)
 
--- so what the filter writes of such a text, if its answer is clean, has the restricted trees of the dump, loaded over
--- the parent directories and after them: what is filtered of the expanded form of a dump, from bytes to bytes
-abbrev pub FilteredTextsRestrict : Type 0
-FilteredTextsRestrict = (patched : Patching) (settings : Settings) (dump text filtered : List ℕ)
-    (records again : List DumpRecord) (steads : List Stead) (revisions : List (List Change)) (trees : List Tree) →
-    HasRecords dump records Ending.Whole
-    → LoadsAs patched root_alone records revisions trees
-    → IsExpandedText records steads text
-    → AllRevisionsExpand settings (root_alone ∷ []) root_alone revisions (made_in_stead records steads revisions)
-    → IsCleanText settings text again filtered → LengthsFit settings again
-    → KeepsNamedNumbers settings again
-    → LoadsRestricted patched settings again trees filtered × LoadsAfterDirectories patched settings again trees filtered
-
--- and if it loses no source, the filter misses none in it
+-- if such a text loses no source, the filter misses none in it
 abbrev pub NoSourceIsMissedInText : Type 0
 NoSourceIsMissedInText = (patched : Patching) (settings : Settings) (dump text : List ℕ)
     (records again : List DumpRecord) (steads : List Stead) (revisions : List (List Change)) →

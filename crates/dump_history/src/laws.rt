@@ -1,8 +1,8 @@
 //! Laws of dumps and of the repositories that they make; each is the contract of a function that does nothing.
 ghost use Rattle.dump_history.specs.CutDumps.{ExcludedDumpLoads, ExcludedDumpLoadsNumbered, FilteredDumpsTellKeptPaths, NumbersAreKept};
 ghost use Rattle.dump_history.specs.DumpLaws.{DumpLoadsOnce, DumpLoadsTheSameBehindOthers, FilteredDumpRestricts, FilteredDumpRestrictsAfterDirectories, NoGapIsNeeded, PlainRevisionsStay, FilteredDumpFrontRestricts, QuietDumpRestricts, QuietDumpRestrictsAfterDirectories, QuietDumpFrontRestricts};
-ghost use Rattle.dump_history.specs.ExpandedDumps.{ExpandedDumpLoads, FilteredExpansionRestricts, FilteredExpansionRestrictsAfterDirectories, NoSourceIsMissed};
-ghost use Rattle.dump_history.specs.ExpandedText.{ExpansionsAreDumps, FilteredTextsRestrict, NoSourceIsMissedInText};
+ghost use Rattle.dump_history.specs.ExpandedDumps.{ExpandedDumpLoads, NoSourceIsMissed};
+ghost use Rattle.dump_history.specs.ExpandedText.{ExpansionsAreDumps, NoSourceIsMissedInText};
 ghost use Rattle.dump_history.specs.KeptChanges.{FilteredChangesAreKept, RenumberedChangesAreKept, TrimmedChangesAreKept};
 ghost use Rattle.dump_history.specs.PartLaws.{FilteredPartRestricts, NoGapIsNeededInPart, QuietPartRestricts};
 ghost use Rattle.dump_history.specs.Replacing.{KeptCopyReplaces};
@@ -78,20 +78,17 @@ pub fn written_nodes_make_changes()
     ensures changes { WrittenNodesMakeChanges }
 {}
 
-/// What is written in place of the records of a dump is a dump, whose records are an expanded form of them. So what
-/// the filter writes of it has the restricted trees of the dump. If no source is lost, the filter misses none.
+/// What is written in place of the records of a dump is a dump, whose records are an expanded form of them. If no source
+/// is lost, the filter misses none.
 pub fn each_expansion_is_a_dump()
     ensures dump { ExpansionsAreDumps }
-    ensures restricts { FilteredTextsRestrict }
     ensures sources { NoSourceIsMissedInText }
 {}
 
-/// The expanded form of a dump loads to the dump's trees. What the filter writes of it has these trees, restricted,
-/// whatever the dump's changes are. If the expanded form loses no source of a copy, the filter misses none.
-pub fn each_expanded_dump_restricts()
+/// The expanded form of a dump loads to the dump's trees, and each of its changes is separated, whatever the dump's
+/// changes are. If the expanded form loses no source of a copy, the filter misses none.
+pub fn each_expanded_dump_loads()
     ensures loads { ExpandedDumpLoads }
-    ensures filtered { FilteredExpansionRestricts }
-    ensures behind { FilteredExpansionRestrictsAfterDirectories }
     ensures sources { NoSourceIsMissed }
 {}
 

@@ -6,11 +6,13 @@ use Rattle.std.proofs.lemmas.List.{length-map}
 use Rattle.dump_rules.specs.declared.options.Side.TheVariants.{Exclude}
 use Rattle.dump_filter.specs.Groups.{is_pad}
 use Rattle.dump_trees.proofs.changes.CutLemmas.{gives_root}
+use Rattle.dump_trees.specs.Revisions.{AllRevisionsSeparate}
 use Rattle.dump_history.specs.ExpandedText.{made_in_stead}
 use Rattle.dump_history.specs.CutDumps.{leaves_no_gap, FiltersExpansion, TreeRelation, TreeRestricts, LoadsNew, LoadsNumbered, ExcludedDumpLoads, ExcludedDumpLoadsNumbered}
 use Rattle.dump_history.proofs.again.DumpAgain.{numbered_from, kept_revisions_are}
 use Rattle.dump_history.proofs.expanded.ExpandedLaw.{expanded_dump_loads}
-use Rattle.dump_history.proofs.expanded.SteadLemmas.{with_records, filtered_texts_restrict}
+use Rattle.dump_history.proofs.expanded.SteadLemmas.{with_records}
+use Rattle.dump_history.proofs.restricted.FilteredLaw.{filtered_dump_restricts}
 use Rattle.dump_history.proofs.cuts.OwnNumbers.{numbers_are_kept, own_images, filter_same, zip_from_gets, zip_length, same_properties}
 use Rattle.dump_trees.proofs.cuts.CheckedLoads.{loaded_size}
 
@@ -21,8 +23,9 @@ module _ (patched : Patching) (settings : Settings) (dump filtered : List ℕ) (
   expanded : List (List Change)
   expanded = made_in_stead records f.steads revisions
 
-  -- the expanded form loads to the same trees, with the same properties
+  -- the expanded form loads to the same trees, with the same properties, and each of its changes is separated
   expansion_loads : LoadsAs patched root_alone again (made_in_stead records f.steads revisions) trees
+      × AllRevisionsSeparate settings (root_alone ∷ []) root_alone (made_in_stead records f.steads revisions)
       × ((props : List (List Property)) → HaveRevisionProperties records props → HaveRevisionProperties again props)
   expansion_loads =
       let (loads, apart, numbers, properties) =
@@ -30,7 +33,7 @@ module _ (patched : Patching) (settings : Settings) (dump filtered : List ℕ) (
       (made_in_stead records f.steads revisions) trees f.has f.loads
       (with_records patched settings dump f.text records again f.steads revisions f.has f.loads.makes f.expanded
       f.expands f.clean.whole) in
-      (loads, properties)
+      (loads, apart, properties)
 
   -- what is written loads over the root, and has the restricted trees
   pub excluded_loads : settings.side ≡ Exclude → leaves_no_gap settings ≡ true
@@ -38,8 +41,8 @@ module _ (patched : Patching) (settings : Settings) (dump filtered : List ℕ) (
   excluded_loads side no_gap =
       let (named, numbering) = numbers_are_kept settings again no_gap in
       let (text, written, others, has, loads, counts, size, images, properties) =
-      (filtered_texts_restrict patched settings dump f.text filtered records again f.steads revisions trees f.has
-      f.loads f.expanded f.expands f.clean f.fit named).0 in (
+      filtered_dump_restricts patched settings f.text filtered again (made_in_stead records f.steads revisions) trees
+      f.clean f.fit named expansion_loads.0 expansion_loads.1 in (
         text,
         written,
         others,
@@ -98,7 +101,7 @@ module _ (patched : Patching) (settings : Settings) (dump filtered : List ℕ) (
           same_properties settings preserve (groups again) (groups text)
           (subst (λ (gs : List Group). AllZip (KeepsProperties settings) gs (groups text))
           (filter_same settings pad (groups again)) properties)
-          props (expansion_loads.1 props have),
+          props (expansion_loads.2 props have),
     )
 
 -- the laws

@@ -1,10 +1,8 @@
--- The laws of expanded dumps.
+-- The law of expanded dumps.
 use Rattle.dump_history.proofs.Prelude.{ap, ◌∙◌, subst, Ending, HasRecords, IsCutInto, DumpRecord, Settings, groups, root_alone, Change, Patching, makes, MakeRevisions, counts_from}
 use Rattle.std.proofs.Common.{ℕ, false, List, [], ◌∷◌}
 use Rattle.dump_trees.proofs.expansions.ExpandLemmas.{expanded_load}
-use Rattle.dump_history.specs.ExpandedDumps.{Stead, IsExpandedDump, ExpandedDumpLoads, FilteredExpansionRestricts, FilteredExpansionRestrictsAfterDirectories}
-use Rattle.dump_history.proofs.restricted.FilteredLaw.{filtered_dump_restricts}
-use Rattle.dump_history.proofs.restricted.DirectoryLaw.{filtered_dump_restricts_behind}
+use Rattle.dump_history.specs.ExpandedDumps.{Stead, IsExpandedDump, ExpandedDumpLoads}
 use Rattle.dump_history.proofs.expanded.FormLemmas.{AllFit, all_fit}
 use Rattle.dump_history.proofs.expanded.StandLemmas.{all_stand, same_revisions, same_numbers, same_properties, same_order}
 
@@ -43,20 +41,3 @@ expanded_dump_loads patched settings dump records steads again revisions expande
       same_numbers (groups records) (groups again) same,
       λ props have. same_properties (groups records) (groups again) props same have,
     )
-
--- and what the filter writes of it has the restricted trees of the dump
-pub filtered_expansion_restricts : FilteredExpansionRestricts
-filtered_expansion_restricts patched settings dump expansion text records steads again revisions expanded trees has
-    loads is clean fit keeps =
-    let (loads_again, apart, numbers, properties) =
-    expanded_dump_loads patched settings dump records steads again revisions expanded trees has loads is in
-    filtered_dump_restricts patched settings expansion text again expanded trees clean fit keeps loads_again apart
-
--- the same after the parent directories
-pub filtered_expansion_restricts_behind : FilteredExpansionRestrictsAfterDirectories
-filtered_expansion_restricts_behind patched settings dump expansion text records steads again revisions expanded trees
-    has loads is clean fit keeps =
-    let (loads_again, apart, numbers, properties) =
-    expanded_dump_loads patched settings dump records steads again revisions expanded trees has loads is in
-    filtered_dump_restricts_behind patched settings expansion text again expanded trees clean fit keeps loads_again
-    apart
