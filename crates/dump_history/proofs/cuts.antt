@@ -4,7 +4,6 @@ pub mod CutLaws
 pub mod WrittenChanges
 pub mod TrimmedTexts
 pub mod TrimmedLaw
-pub mod KeptPathsTold
 pub mod RenumberedLaw
 pub mod CopiesOver
 pub mod KeptChanges

@@ -1,7 +1,7 @@
 -- Dumps of which a part is taken: from the bytes of a dump through its expanded form to what is filtered of it, by
 -- excluded prefixes. What is written loads into a new repository, since above kept paths nothing has to be made.
-use Rattle.std.specs.Prelude.{◌≡◌, ℕ, Bool, true, not, ◌&&◌, ◌||◌, List, [], ◌∷◌, length, Option, Some, slice_get, IsTrue}
-use Rattle.std.specs.List.{AllZip, list_all}
+use Rattle.std.specs.Prelude.{◌≡◌, ℕ, Bool, true, ◌||◌, List, [], ◌∷◌, length, Option, Some, slice_get, IsTrue}
+use Rattle.std.specs.List.{AllZip}
 use Rattle.dump_text.specs.PropertyList.{Property}
 use Rattle.dump_records.specs.DumpText.{Ending, HasRecords}
 use Rattle.dump_records.specs.RecordText.{DumpRecord}
@@ -13,14 +13,13 @@ use Rattle.dump_filter.specs.FilterLaws.{LengthsFit}
 use Rattle.dump_filter.specs.Groups.{is_pad, kept_revisions}
 use Rattle.dump_filter.specs.NewContent.{IsNewProperty}
 use Rattle.dump_filter.specs.WholeText.{IsCleanText}
-use Rattle.dump_trees.specs.Paths.{keeps}
 use Rattle.dump_trees.specs.Trees.{Tree, root_alone}
 use Rattle.dump_trees.specs.Changes.{Change}
-use Rattle.dump_trees.specs.Restriction.{is_lost, IsRestricted}
+use Rattle.dump_trees.specs.Restriction.{IsRestricted}
 use Rattle.dump_trees.specs.Expansions.{AllRevisionsExpand}
 use Rattle.dump_history.specs.RecordChanges.{Patching}
-use Rattle.dump_history.specs.DumpChanges.{MakeRevisions, HaveRevisionProperties, LoadsAs}
-use Rattle.dump_history.specs.NumberGaps.{MakeRevisionsWithGaps, KeepsNamedNumbers}
+use Rattle.dump_history.specs.DumpChanges.{HaveRevisionProperties, LoadsAs}
+use Rattle.dump_history.specs.NumberGaps.{KeepsNamedNumbers}
 use Rattle.dump_history.specs.DumpLaws.{keeps_numbering, RevisionsKeepProperties}
 use Rattle.dump_history.specs.ExpandedDumps.{Stead}
 use Rattle.dump_history.specs.ExpandedText.{IsExpandedText, made_in_stead}
@@ -99,21 +98,3 @@ ExcludedDumpLoadsNumbered = (patched : Patching) (settings : Settings) (dump fil
     FiltersExpansion patched settings dump records revisions trees again filtered
     → settings.side ≡ Exclude → settings.empty ≡ Pad → settings.preserve ≡ true
     → LoadsNumbered patched (TreeRestricts settings again) records trees filtered
-
--- whether the change's path is kept, and so is its source, if it makes a copy
-abbrev pub tells_kept_paths : Settings → Change → Bool
-tells_kept_paths settings c = keeps settings c.path && not (is_lost settings c.made)
-
--- the text is a dump whose changes name kept paths alone, as their own and as sources of copies
-abbrev pub TellsKeptPaths : Patching → Settings → List ℕ → Type 0
-TellsKeptPaths patched settings text = (again : List DumpRecord) × (written : List (List Change))
-    × HasRecords text again Ending.Whole × MakeRevisionsWithGaps patched again written
-    × IsTrue (list_all (λ changes. list_all (tells_kept_paths settings) changes) written)
-
--- so does what the filter writes of a dump, whether or not it is separated: no node is at an excluded path, even if
--- the revisions show none
-abbrev pub FilteredDumpsTellKeptPaths : Type 0
-FilteredDumpsTellKeptPaths = (patched : Patching) (settings : Settings) (dump text : List ℕ)
-    (records : List DumpRecord) (revisions : List (List Change)) →
-    IsCleanText settings dump records text → LengthsFit settings records → KeepsNamedNumbers settings records
-    → MakeRevisions patched records revisions → TellsKeptPaths patched settings text

@@ -1,5 +1,5 @@
 //! Laws of dumps and of the repositories that they make; each is the contract of a function that does nothing.
-ghost use Rattle.dump_history.specs.CutDumps.{ExcludedDumpLoads, ExcludedDumpLoadsNumbered, FilteredDumpsTellKeptPaths, NumbersAreKept};
+ghost use Rattle.dump_history.specs.CutDumps.{ExcludedDumpLoads, ExcludedDumpLoadsNumbered, NumbersAreKept};
 ghost use Rattle.dump_history.specs.DumpLaws.{DumpLoadsOnce, DumpLoadsTheSameBehindOthers, FilteredDumpRestricts, FilteredDumpRestrictsAfterDirectories, NoGapIsNeeded, PlainRevisionsStay, FilteredDumpFrontRestricts, QuietDumpRestricts, QuietDumpRestrictsAfterDirectories, QuietDumpFrontRestricts};
 ghost use Rattle.dump_history.specs.ExpandedDumps.{ExpandedDumpLoads, NoSourceIsMissed};
 ghost use Rattle.dump_history.specs.ExpandedText.{ExpansionsAreDumps, NoSourceIsMissedInText};
@@ -104,12 +104,6 @@ pub fn each_excluded_dump_loads()
     ensures numbers { NumbersAreKept }
     ensures excluded { ExcludedDumpLoads }
     ensures excluded_numbered { ExcludedDumpLoadsNumbered }
-{}
-
-/// In what the filter writes of a dump, the nodes and their copy sources are at kept paths only, even if the dump
-/// isn't separated.
-pub fn cut_dumps_have_kept_paths()
-    ensures { FilteredDumpsTellKeptPaths }
 {}
 
 /// The filter may write, by excluded prefixes, deletions after its copies, which remove what the copies take to paths

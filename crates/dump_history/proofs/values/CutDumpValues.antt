@@ -12,10 +12,10 @@ use Rattle.dump_trees.proofs.expansions.ExpandLemmas.{expanded_lead}
 use Rattle.dump_history.specs.WrittenNodes.{NodeKind, WrittenNode, node_bytes, node_record, replacing, written_change}
 use Rattle.dump_history.specs.ExpandedDumps.{OwnForm, stead_records, expanded_records}
 use Rattle.dump_history.specs.ExpandedText.{AreRecordTexts, IsExpandedText}
-use Rattle.dump_history.specs.CutDumps.{leaves_no_gap, tells_kept_paths, FiltersExpansion, TreeRelation, ImagesRelate, LoadsNew, LoadsNumbered}
+use Rattle.dump_history.specs.CutDumps.{leaves_no_gap, FiltersExpansion, TreeRelation, ImagesRelate, LoadsNew, LoadsNumbered}
 use Rattle.dump_history.proofs.expanded.ReplacingLemmas.{kept_copy_replaces}
 use Rattle.dump_history.proofs.values.WorkedExpansion.{stays}
-use Rattle.dump_history.proofs.values.WorkedCut.{app, three, branch, records, dump, settings, adds_trunk, adds_old, copies_old, copies_trunk, revisions, begun_tree, first_tree, second_tree, trees, file, adds_app, source_branch, again}
+use Rattle.dump_history.proofs.values.WorkedCut.{app, three, branch, records, dump, settings, adds_trunk, adds_old, copies_old, revisions, begun_tree, first_tree, second_tree, trees, file, adds_app, source_branch, again}
 
 -- options that leave no gap
 
@@ -180,14 +180,3 @@ none_numbered text (parts, written, others, has, loads, zip, properties) = no_zi
     no_zip : (others : List Tree) → AllZip NoTree (root_alone ∷ []) others → ⊥
     no_zip [] zip = zip
     no_zip (other ∷ others) zip = zip.0
-
--- kept paths
-
-tells_kept : tells_kept_paths settings copies_trunk ≡ true
-tells_kept = refl
-
-tells_excluded : tells_kept_paths settings adds_old ≡ false
-tells_excluded = refl
-
-tells_excluded_source : tells_kept_paths settings copies_old ≡ false
-tells_excluded_source = refl
