@@ -31,7 +31,7 @@ pub use Rattle.dump_filter.specs.WholeText.{IsCleanText}
 pub use Rattle.dump_filter.specs.Written.{IsWrittenText, is_written}
 pub use Rattle.dump_filter.specs.steps.NewLines.{is_copy_line}
 pub use Rattle.dump_history.specs.DumpChanges.{HaveRevisionProperties, LoadsAs, MakeChanges, MakeRevisions, counts_from, has_ordered_nodes}
-pub use Rattle.dump_history.specs.DumpLaws.{DumpLoadsOnce, DumpLoadsTheSameBehindOthers, FilteredDumpFrontRestricts, FilteredDumpRestricts, FilteredDumpRestrictsAfterDirectories, FrontLoadsRestricted, HasNoGapIfKept, KeepsProperties, LoadsAfterDirectories, LoadsRestricted, NoGapIsNeeded, PlainRevisionsStay, QuietDumpFrontRestricts, QuietDumpRestricts, QuietDumpRestrictsAfterDirectories, RevisionsKeepProperties, TreesRestrict, keeps_numbering, sets_no_mergeinfo}
+pub use Rattle.dump_history.specs.DumpLaws.{DumpLoadsOnce, FilteredDumpFrontRestricts, FilteredDumpRestricts, FilteredDumpRestrictsAfterDirectories, FrontLoadsRestricted, HasNoGapIfKept, KeepsProperties, LoadsAfterDirectories, LoadsRestricted, NoGapIsNeeded, QuietDumpFrontRestricts, QuietDumpRestricts, QuietDumpRestrictsAfterDirectories, RevisionsKeepProperties, TreesRestrict, keeps_numbering}
 pub use Rattle.dump_history.specs.Findings.{AreDumpFindingsOf, AreFindingsOf, AreNodeFaultsOf, DumpFacts, HasUnreadRevision, IsReadBlock, IsUnreadRevision, NodeFaults, begins_at, copies_from_before, dump_findings, every_dump_finding, every_finding, findings_of, first_has_node, has_kept_path, has_kept_source, has_source_before, is_above_prefix, is_alarm, is_found, is_found_in_dump, is_obstacle, rise}
 pub use Rattle.dump_history.specs.NumberGaps.{HasNamingNode, HasNamingNodeBehind, KeepsNamedNumbers, LoadsWithGapsAs, MakeRevisionsWithGaps, NamesRevision, NamesRevisionBehind, SetsMergeinfo, count_to_gap, entries_of, go_up, name_no_revision, names_revision, sets_mergeinfo}
 pub use Rattle.dump_history.specs.PartLaws.{FilteredPartRestricts, IsLoadedBehindOne, IsLoadedProperty, MakePartRevisions, MakePartRevisionsWithGaps, NoGapIsNeededInPart, PartLoadsAs, PartLoadsBehind, QuietPartRestricts, kept_as_loaded}
@@ -67,14 +67,13 @@ pub use Rattle.dump_trees.proofs.histories.AlikeLemmas.{both_restrict, given_ali
 pub use Rattle.dump_trees.proofs.histories.FrontLemmas.{front_history}
 pub use Rattle.dump_trees.proofs.histories.HistoryLemmas.{history}
 pub use Rattle.dump_trees.proofs.histories.KeptNumbers.{AreAbove, AreBelow, all_counted, below_next, below_pushed, kept_above, length_push}
-pub use Rattle.dump_trees.proofs.histories.MovedLemmas.{loads_behind}
 pub use Rattle.dump_trees.proofs.histories.NamingLemmas.{fewer_names_none, front_names_none}
 pub use Rattle.dump_trees.proofs.paths.GivenDirectories.{given_directories}
 pub use Rattle.dump_trees.proofs.paths.PathNames.{keeps_text}
 pub use Rattle.dump_trees.proofs.quiet.QuietLemmas.{all_quiet}
 pub use Rattle.dump_trees.specs.Changes.{Change, Made, PropertyChange, TextChange, is_copied}
 pub use Rattle.dump_trees.specs.HistoryLaws.{ImagesRestrict}
-pub use Rattle.dump_trees.specs.MovedLaws.{IsChangeBehind, change_behind, made_behind, revisions_behind}
+pub use Rattle.dump_trees.specs.MovedLaws.{change_behind, made_behind, revisions_behind}
 pub use Rattle.dump_trees.specs.Paths.{NodePath, is_short, keeps, path_of}
 pub use Rattle.dump_trees.specs.Quiet.{are_quiet, cuts_alike, is_quiet, is_quiet_dropped, is_quiet_kept, nowhere_is_over}
 pub use Rattle.dump_trees.specs.Restriction.{AreNewProps, IsNewChange, IsNewMade, IsNewNode, KeepsEntries, NewNumber, NewProperty, edits_props, given, is_above_some, sets_whole, sets_whole_text}

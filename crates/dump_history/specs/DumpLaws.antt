@@ -1,7 +1,7 @@
 -- The law of filtered dumps: loading commutes with filtering. What is written, loaded over the parent directories, has
 -- the trees that the whole dump has, restricted to the kept paths.
-use Rattle.std.specs.Prelude.{◌≡◌, ℕ, Bool, not, ◌||◌, List, [], ◌∷◌, ◌++◌, length, drop, take, filter, Some, IsTrue}
-use Rattle.std.specs.List.{AllZip, list_all, list_any}
+use Rattle.std.specs.Prelude.{◌≡◌, ℕ, Bool, ◌||◌, List, [], ◌∷◌, ◌++◌, length, drop, take, filter, Some, IsTrue}
+use Rattle.std.specs.List.{AllZip, list_all}
 use Rattle.dump_text.specs.PropertyList.{Property}
 use Rattle.dump_records.specs.DumpText.{Ending, HasRecords}
 use Rattle.dump_records.specs.RecordText.{DumpRecord}
@@ -17,12 +17,12 @@ use Rattle.dump_trees.specs.Changes.{Change}
 use Rattle.dump_trees.specs.Restriction.{given}
 use Rattle.dump_trees.specs.Quiet.{are_quiet, nowhere_is_over}
 use Rattle.dump_trees.specs.Revisions.{loaded, loaded_over, AllRevisionsSeparate}
-use Rattle.dump_trees.specs.MovedLaws.{revisions_behind, AreRevisionsBehind}
+use Rattle.dump_trees.specs.MovedLaws.{AreRevisionsBehind}
 use Rattle.dump_trees.specs.HistoryLaws.{ImagesRestrict}
 use Rattle.dump_history.specs.RecordChanges.{Patching}
 use Rattle.dump_history.specs.RaisedMergeinfo.{IsRaised}
 use Rattle.dump_history.specs.DumpChanges.{counts_from, MakeRevisions, HaveRevisionProperties, LoadsAs}
-use Rattle.dump_history.specs.NumberGaps.{sets_mergeinfo, MakeRevisionsWithGaps, LoadsWithGapsAs, KeepsNamedNumbers}
+use Rattle.dump_history.specs.NumberGaps.{MakeRevisionsWithGaps, LoadsWithGapsAs, KeepsNamedNumbers}
 
 -- whether what is written of a dump numbered 0, 1, 2 and so on is numbered so too: revisions are renumbered, or none is
 -- dropped. If not, what is written has gaps in its numbers
@@ -134,23 +134,6 @@ DumpLoadsOnce = (patched : Patching) (first : Tree) (dump : List ℕ) (records o
     → LoadsWithGapsAs patched first records revisions trees → LoadsWithGapsAs patched first others more others_trees
     → HaveRevisionProperties records props → HaveRevisionProperties others others_props
     → (others ≡ records) × (more ≡ revisions) × (others_trees ≡ trees) × (others_props ≡ props)
-
--- whether no change sets mergeinfo
-abbrev pub sets_no_mergeinfo : List (List Change) → Bool
-sets_no_mergeinfo revisions = list_all (λ changes. not (list_any sets_mergeinfo changes)) revisions
-
--- after older revisions, the last of which has the first tree, a dump that sets no mergeinfo makes the same trees; the
--- load raises the numbers of its copies by as many
-abbrev pub DumpLoadsTheSameBehindOthers : Type 0
-DumpLoadsTheSameBehindOthers = (patched : Patching) (older : List Tree) (first : Tree) (records : List DumpRecord)
-    (revisions : List (List Change)) (trees : List Tree) →
-    LoadsWithGapsAs patched first records revisions trees → IsTrue (sets_no_mergeinfo revisions)
-    → loaded (older ++ first ∷ []) first (revisions_behind (length older) revisions) ≡ Some (older ++ trees)
-
--- revisions that set no mergeinfo stay as they are after others, but for the numbers of their copies
-abbrev pub PlainRevisionsStay : Type 0
-PlainRevisionsStay = (count : ℕ) (revisions : List (List Change)) → IsTrue (sets_no_mergeinfo revisions)
-    → AreRevisionsBehind (IsRaised count) count revisions (revisions_behind count revisions)
 
 -- a property of the dump, and what becomes of it if the filtered dump is loaded after this many revisions
 abbrev pub IsPropertyBehind : ℕ → Settings → KeptRevisions → Property → Property → Type 0

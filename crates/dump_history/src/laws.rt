@@ -1,6 +1,6 @@
 //! Laws of dumps and of the repositories that they make; each is the contract of a function that does nothing.
 ghost use Rattle.dump_history.specs.CutDumps.{ExcludedDumpLoads, ExcludedDumpLoadsNumbered, NumbersAreKept};
-ghost use Rattle.dump_history.specs.DumpLaws.{DumpLoadsOnce, DumpLoadsTheSameBehindOthers, FilteredDumpRestricts, FilteredDumpRestrictsAfterDirectories, NoGapIsNeeded, PlainRevisionsStay, FilteredDumpFrontRestricts, QuietDumpRestricts, QuietDumpRestrictsAfterDirectories, QuietDumpFrontRestricts};
+ghost use Rattle.dump_history.specs.DumpLaws.{DumpLoadsOnce, FilteredDumpRestricts, FilteredDumpRestrictsAfterDirectories, NoGapIsNeeded, FilteredDumpFrontRestricts, QuietDumpRestricts, QuietDumpRestrictsAfterDirectories, QuietDumpFrontRestricts};
 ghost use Rattle.dump_history.specs.ExpandedDumps.{ExpandedDumpLoads, NoSourceIsMissed};
 ghost use Rattle.dump_history.specs.ExpandedText.{ExpansionsAreDumps, NoSourceIsMissedInText};
 ghost use Rattle.dump_history.specs.KeptChanges.{FilteredChangesAreKept, RenumberedChangesAreKept, TrimmedChangesAreKept};
@@ -46,13 +46,6 @@ pub fn each_dump_loads_once()
     ensures once { DumpLoadsOnce }
     ensures dump { NoGapIsNeeded }
     ensures part { NoGapIsNeededInPart }
-{}
-
-/// If a dump that sets no mergeinfo is loaded after older revisions, it makes the same trees as in a new repository.
-/// Its changes are those that a load makes of them there.
-pub fn each_dump_loads_the_same_behind_others()
-    ensures same { DumpLoadsTheSameBehindOthers }
-    ensures plain { PlainRevisionsStay }
 {}
 
 /// A survey has only one list of findings in a node, and the list is exact. A node without an obstacle makes a change,

@@ -15,7 +15,7 @@ pub use Rattle.dump_text.specs.PropertyList.{Property}
 pub use Rattle.dump_trees.specs.Changes.{Change, History, Made, PropertyChange, TextChange, copied, deleted, edited_with, has_directory, is_copied, is_directory_at, made_in, new_props, new_text, node_put, props_put, props_set, step, steps, text_set, with_entry, with_props, with_text}
 pub use Rattle.dump_trees.specs.FrontLaws.{BegunTreesStay, EachFrontRestricts, FrontLoads, FrontRestricts}
 pub use Rattle.dump_trees.specs.HistoryLaws.{EachHistoryRestricts, EachRevisionRestricts, HistoryRestricts, ImagesRestrict}
-pub use Rattle.dump_trees.specs.MovedLaws.{AllAreAlike, AreAlike, AreRevisionsBehind, EachLoadsAlike, IsChangeBehind, LoadsAlike, LoadsBehindOthers, change_behind, made_behind, revisions_behind}
+pub use Rattle.dump_trees.specs.MovedLaws.{AllAreAlike, AreAlike, AreRevisionsBehind, EachLoadsAlike, IsChangeBehind, LoadsAlike, change_behind, made_behind, revisions_behind}
 pub use Rattle.dump_trees.specs.PathLaws.{KeepsAsTextDoes, TextsAreRead}
 pub use Rattle.dump_trees.specs.Paths.{NodePath, below, is_name, is_short, keeps, names_of, parent_of, path_of, path_text}
 pub use Rattle.dump_trees.specs.Quiet.{AllQuietSeparate, QuietSeparates, are_quiet, cuts_alike, cuts_one, holds_of_some, is_over, is_quiet, is_quiet_dropped, is_quiet_kept, none_is_over, nowhere_is_over, rest_of_prefix}

@@ -1,7 +1,7 @@
 -- A dump that is loaded after other revisions: svnadmin load gives its revisions higher numbers, and raises the numbers
 -- of its copies by as much (load-fs-vtable.c). It raises the numbers in mergeinfo too, so it sets new properties. An
 -- administrator creates the given directories in such revisions.
-use Rattle.std.specs.Prelude.{◌≡◌, ℕ, ◌+◌, List, [], ◌∷◌, ◌++◌, length, map, Option, Some, None, option_map, slice_get}
+use Rattle.std.specs.Prelude.{◌≡◌, ℕ, ◌+◌, List, [], ◌∷◌, ◌++◌, length, map, Option, Some, None, slice_get}
 use Rattle.std.specs.List.{AllZip}
 use Rattle.dump_text.specs.PropertyList.{Property}
 use Rattle.dump_trees.specs.Paths.{NodePath}
@@ -25,13 +25,6 @@ change_behind count c = record c { made = made_behind count c.made }
 -- the revisions, with the numbers of all copies higher by this many
 abbrev pub revisions_behind : ℕ → List (List Change) → List (List Change)
 revisions_behind count revisions = map (λ changes. map (change_behind count) changes) revisions
-
--- after older revisions, the last of which has the first tree, a dump makes the trees that it makes in a new repository
--- whose revision 0 has this tree. It is rejected exactly if it is rejected there
-abbrev pub LoadsBehindOthers : Type 0
-LoadsBehindOthers = (older : List Tree) (first : Tree) (revisions : List (List Change)) →
-    loaded (older ++ first ∷ []) first (revisions_behind (length older) revisions)
-    ≡ option_map (λ trees. older ++ trees) (loaded_over first revisions)
 
 -- the change that a load makes of another one after this many revisions, if it sets new properties
 pub record IsChangeBehind (IsNew : NewProperty) (count : ℕ) (old new : Change) : Type 0 where

