@@ -4,6 +4,5 @@ pub mod FormLemmas
 pub mod StandLemmas
 pub mod TextLemmas
 pub mod ExpandedLaw
-pub mod SourceLemmas
 pub mod SteadLemmas
 pub mod ReplacingLemmas

@@ -2,24 +2,21 @@
 -- separates each change.
 use Rattle.std.specs.Prelude.{◌≡◌, ℕ, Bool, true, not, ◌&&◌, List, [], ◌∷◌, ◌++◌, map, codes, IsTrue}
 use Rattle.std.specs.List.{AllZip, list_all}
-use Rattle.dump_text.specs.declared.fault.FaultKind.TheVariants.{CopySource}
 use Rattle.dump_text.specs.Names.{action_name}
 use Rattle.dump_text.specs.HeaderLine.{with_header_value}
 use Rattle.dump_text.specs.PropertyList.{Property}
 use Rattle.dump_records.specs.DumpText.{Ending, HasRecords}
 use Rattle.dump_records.specs.RecordText.{DumpRecord}
 use Rattle.dump_rules.specs.Settings.{Settings}
-use Rattle.dump_digest.specs.RecordParts.{is_node, is_kept_node, has_lost_source}
+use Rattle.dump_digest.specs.RecordParts.{is_node}
 use Rattle.dump_filter.specs.Groups.{groups, revision_numbers}
 use Rattle.dump_filter.specs.NewHeaders.{without_copy_headers}
-use Rattle.dump_filter.specs.RecordFaults.{HoldsOfRecord}
 use Rattle.dump_trees.specs.Trees.{Tree, root_alone}
 use Rattle.dump_trees.specs.Changes.{Change}
 use Rattle.dump_trees.specs.Revisions.{AllRevisionsSeparate}
 use Rattle.dump_trees.specs.Expansions.{AllRevisionsExpand}
-use Rattle.dump_trees.specs.EveryHistory.{loses_none}
 use Rattle.dump_history.specs.RecordChanges.{Patching, has_action, makes}
-use Rattle.dump_history.specs.DumpChanges.{MakeChanges, MakeRevisions, HaveRevisionProperties, LoadsAs}
+use Rattle.dump_history.specs.DumpChanges.{MakeChanges, HaveRevisionProperties, LoadsAs}
 use Rattle.dump_history.specs.WrittenNodes.{WrittenNode, node_record, can_be_written}
 
 -- what is left of a record of the dump
@@ -121,28 +118,3 @@ ExpandedDumpLoads = (patched : Patching) (settings : Settings) (dump : List ℕ)
     × AllRevisionsSeparate settings (root_alone ∷ []) root_alone expanded
     × (revision_numbers again ≡ revision_numbers records)
     × ((props : List (List Property)) → HaveRevisionProperties records props → HaveRevisionProperties again props)
-
--- whether the kept node has lines that state a copy source that isn't kept, and makes nothing; no load reads these
--- lines, but the filter rejects it
-abbrev pub has_idle_source : Settings → DumpRecord → Bool
-has_idle_source settings r = is_kept_node settings r && has_lost_source settings r && not (makes r)
-
--- whether such a node isn't left unchanged
-abbrev pub takes_idle_source : Settings → DumpRecord → OwnForm → Bool
-takes_idle_source settings r OwnForm.AsItIs = not (has_idle_source settings r)
-takes_idle_source settings r OwnForm.WithoutSource = true
-takes_idle_source settings r OwnForm.Replacing = true
-takes_idle_source settings r OwnForm.LeftOut = true
-
--- if no change of an expanded form loses its source, and no node is in it that states one and makes nothing, the filter
--- rejects none of its records for its copy source
-abbrev pub NoSourceIsMissed : Type 0
-NoSourceIsMissed = (patched : Patching) (settings : Settings) (dump : List ℕ) (records : List DumpRecord)
-    (steads : List Stead) (again : List DumpRecord) (revisions expanded : List (List Change)) →
-    HasRecords dump records Ending.Whole
-    → MakeRevisions patched records revisions
-    → IsExpandedDump patched settings records steads again revisions expanded
-    → IsTrue (list_all (loses_none settings) expanded)
-    → AllZip (λ r (stead : Stead). IsTrue (takes_idle_source settings r stead.own)) records steads
-    → (before after : List DumpRecord) (s : DumpRecord) → again ≡ before ++ s ∷ after
-    → ¬ HoldsOfRecord settings before s CopySource

@@ -1,21 +1,18 @@
 -- The text of an expanded dump: what is written in place of each record, and the changes that are made in place of
 -- each.
 use Rattle.std.specs.Prelude.{◌≡◌, ℕ, true, List, [], ◌∷◌, ◌++◌, drop, map, if◌then◌else◌, IsTrue}
-use Rattle.std.specs.List.{AllZip, list_all}
+use Rattle.std.specs.List.{AllZip}
 use Rattle.dump_records.specs.DumpText.{Ending, HasRecords, line_feeds}
 use Rattle.dump_records.specs.RecordText.{DumpRecord, record_text}
 use Rattle.dump_rules.specs.Settings.{Settings}
-use Rattle.dump_filter.specs.RecordFaults.{HoldsOfRecord}
-use Rattle.dump_text.specs.declared.fault.FaultKind.TheVariants.{CopySource}
 use Rattle.dump_digest.specs.RecordParts.{is_node, is_revision_record}
 use Rattle.dump_trees.specs.Trees.{root_alone}
 use Rattle.dump_trees.specs.Changes.{Change}
 use Rattle.dump_trees.specs.Expansions.{AllRevisionsExpand}
-use Rattle.dump_trees.specs.EveryHistory.{loses_none}
 use Rattle.dump_history.specs.RecordChanges.{Patching}
 use Rattle.dump_history.specs.DumpChanges.{MakeRevisions}
 use Rattle.dump_history.specs.WrittenNodes.{written_change, replacing}
-use Rattle.dump_history.specs.ExpandedDumps.{OwnForm, Stead, may_stand, expanded_records, IsExpandedDump, takes_idle_source}
+use Rattle.dump_history.specs.ExpandedDumps.{OwnForm, Stead, may_stand, expanded_records, IsExpandedDump}
 
 -- what is written
 
@@ -88,17 +85,3 @@ ExpansionsAreDumps = (patched : Patching) (settings : Settings) (dump text : Lis
     → AllRevisionsExpand settings (root_alone ∷ []) root_alone revisions (made_in_stead records steads revisions)
     → (again : List DumpRecord) × HasRecords text again Ending.Whole
     × IsExpandedDump patched settings records steads again revisions (made_in_stead records steads revisions)
-
--- if such a text loses no source, the filter misses none in it
-abbrev pub NoSourceIsMissedInText : Type 0
-NoSourceIsMissedInText = (patched : Patching) (settings : Settings) (dump text : List ℕ)
-    (records again : List DumpRecord) (steads : List Stead) (revisions : List (List Change)) →
-    HasRecords dump records Ending.Whole
-    → MakeRevisions patched records revisions
-    → IsExpandedText records steads text
-    → AllRevisionsExpand settings (root_alone ∷ []) root_alone revisions (made_in_stead records steads revisions)
-    → IsTrue (list_all (loses_none settings) (made_in_stead records steads revisions))
-    → AllZip (λ r (stead : Stead). IsTrue (takes_idle_source settings r stead.own)) records steads
-    → HasRecords text again Ending.Whole
-    → (before after : List DumpRecord) (s : DumpRecord) → again ≡ before ++ s ∷ after
-    → ¬ HoldsOfRecord settings before s CopySource

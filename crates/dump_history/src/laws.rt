@@ -1,8 +1,8 @@
 //! Laws of dumps and of the repositories that they make; each is the contract of a function that does nothing.
 ghost use Rattle.dump_history.specs.CutDumps.{ExcludedDumpLoads, ExcludedDumpLoadsNumbered, NumbersAreKept};
 ghost use Rattle.dump_history.specs.DumpLaws.{DumpLoadsOnce, FilteredDumpRestricts, FilteredDumpRestrictsAfterDirectories, NoGapIsNeeded, FilteredDumpFrontRestricts, QuietDumpRestricts, QuietDumpRestrictsAfterDirectories, QuietDumpFrontRestricts};
-ghost use Rattle.dump_history.specs.ExpandedDumps.{ExpandedDumpLoads, NoSourceIsMissed};
-ghost use Rattle.dump_history.specs.ExpandedText.{ExpansionsAreDumps, NoSourceIsMissedInText};
+ghost use Rattle.dump_history.specs.ExpandedDumps.{ExpandedDumpLoads};
+ghost use Rattle.dump_history.specs.ExpandedText.{ExpansionsAreDumps};
 ghost use Rattle.dump_history.specs.KeptChanges.{FilteredChangesAreKept, RenumberedChangesAreKept, TrimmedChangesAreKept};
 ghost use Rattle.dump_history.specs.PartLaws.{FilteredPartRestricts, NoGapIsNeededInPart, QuietPartRestricts};
 ghost use Rattle.dump_history.specs.Replacing.{KeptCopyReplaces};
@@ -71,18 +71,15 @@ pub fn written_nodes_make_changes()
     ensures changes { WrittenNodesMakeChanges }
 {}
 
-/// What is written in place of the records of a dump is a dump, whose records are an expanded form of them. If no source
-/// is lost, the filter misses none.
+/// What is written in place of the records of a dump is a dump, whose records are an expanded form of them.
 pub fn each_expansion_is_a_dump()
-    ensures dump { ExpansionsAreDumps }
-    ensures sources { NoSourceIsMissedInText }
+    ensures { ExpansionsAreDumps }
 {}
 
 /// The expanded form of a dump loads to the dump's trees, and each of its changes is separated, whatever the dump's
-/// changes are. If the expanded form loses no source of a copy, the filter misses none.
+/// changes are.
 pub fn each_expanded_dump_loads()
-    ensures loads { ExpandedDumpLoads }
-    ensures sources { NoSourceIsMissed }
+    ensures { ExpandedDumpLoads }
 {}
 
 /// The changes that are written in place of a copy to a kept path may begin with a change that replaces the node

@@ -404,7 +404,3 @@ module _ (patched : Patching) (r : DumpRecord) (adds : has_action (codes "add") 
         (let one : change_of patched new ps ≡ Some (node_change patched new ps) = rw (makes_still made) refl in
             one ∙ ap (λ (d : Change). Some d) (replaced_change ps ∙ ap (replacing true) change)),
       )
-
--- a node that replaces makes something
-pub replacing_adds : (r : DumpRecord) → has_action (codes "add") r ≡ true → makes (as_replacement r) ≡ true
-replacing_adds r adds = new_makes (λ delta old. None) r adds

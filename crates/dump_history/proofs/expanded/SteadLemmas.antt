@@ -5,13 +5,12 @@ use Rattle.dump_text.specs.Names.{revision_name}
 use Rattle.dump_history.specs.RecordChanges.{has_action}
 use Rattle.dump_history.specs.WrittenNodes.{WrittenNode, node_record, can_be_written, written_change}
 use Rattle.dump_history.specs.ExpandedDumps.{OwnForm, Stead, own_records, stead_records, may_be_left, may_precede, IsSameRecord, IsExpandedDump}
-use Rattle.dump_history.specs.ExpandedText.{own_changes, changes_for, expanded_changes, expanded_revisions, node_steads, stead_groups, made_in_stead, IsExpandedText, ExpansionsAreDumps, NoSourceIsMissedInText}
+use Rattle.dump_history.specs.ExpandedText.{own_changes, changes_for, expanded_changes, expanded_revisions, node_steads, stead_groups, made_in_stead, IsExpandedText, ExpansionsAreDumps}
 use Rattle.dump_history.proofs.expanded.NodeLemmas.{written_nodes_make_changes}
 use Rattle.dump_history.proofs.expanded.FormLemmas.{AllFit, bare_makes, replacing_makes}
 use Rattle.dump_history.proofs.expanded.StandLemmas.{StandFor, AllStandFor, all_stand, precedes, is_left, other_stands, stand_nodes, take_nodes, groups_behind, node_of, HaveSameRevisions, same_revisions, same_list}
 use Rattle.dump_history.proofs.expanded.TextLemmas.{expansion_is_dump}
 use Rattle.dump_history.proofs.expanded.ExpandedLaw.{whole_fits}
-use Rattle.dump_history.proofs.expanded.SourceLemmas.{no_source_is_missed}
 use Rattle.dump_history.proofs.restricted.LoadsOnce.{whole_records_once}
 use Rattle.dump_trees.specs.Expansions.{AllRevisionsExpand}
 
@@ -234,10 +233,3 @@ with_records patched settings dump text records again steads revisions has makes
     is expands in
     subst (λ l. IsExpandedDump patched settings records steads l revisions (made_in_stead records steads revisions))
     (whole_records_once text found again has_found whole) expansion
-
--- the same for bytes
-pub no_source_is_missed_in_text : NoSourceIsMissedInText
-no_source_is_missed_in_text patched settings dump text records again steads revisions has makes is expands none take
-    whole =
-    no_source_is_missed patched settings dump records steads again revisions (made_in_stead records steads revisions) has
-    makes (with_records patched settings dump text records again steads revisions has makes is expands whole) none take

@@ -6,7 +6,7 @@ use Rattle.dump_trees.specs.Expansions.{Expands}
 use Rattle.dump_trees.specs.ExpansionCases.{deletion_of}
 use Rattle.dump_trees.specs.WritingOut.{directory_of}
 use Rattle.dump_history.specs.WrittenNodes.{WrittenNode, replacing}
-use Rattle.dump_history.specs.ExpandedDumps.{OwnForm, Stead, without_source, as_replacement, may_stand, IsSameRecord, has_idle_source, takes_idle_source}
+use Rattle.dump_history.specs.ExpandedDumps.{OwnForm, Stead, without_source, as_replacement, may_stand, IsSameRecord}
 use Rattle.dump_history.specs.ExpandedText.{AreRecordTexts, changes_for, node_steads, stead_groups, made_in_stead}
 use Rattle.dump_history.proofs.values.WorkedDump.{line, record_at, version, one, settings, none_of}
 use Rattle.dump_history.proofs.values.WorkedExpansion.{other, copy, records, steads, stays, trunk, adds_other, copies_other, first_tree, second_tree, revisions}
@@ -135,17 +135,3 @@ lacks_copy expands =
     let one : first_tree ≡ second_tree = cc in
     absurd_bool (is_some (first_tree (path_of (codes "trunk"))))
     (ap (λ (t : Tree). is_some (t (path_of (codes "trunk")))) one) refl
-
--- copy sources of nodes that make nothing
-
-idle_source : has_idle_source settings idle ≡ true
-idle_source = refl
-
-no_idle_copy : has_idle_source settings copy ≡ false
-no_idle_copy = refl
-
-not_as_it_is : takes_idle_source settings idle OwnForm.AsItIs ≡ false
-not_as_it_is = refl
-
-without_it : takes_idle_source settings idle OwnForm.WithoutSource ≡ true
-without_it = refl
