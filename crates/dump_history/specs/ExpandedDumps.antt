@@ -1,6 +1,6 @@
 -- Expanded dumps: what is in place of each record of a dump, so that the same trees are loaded, and the filter's cut
 -- separates each change.
-use Rattle.std.specs.Prelude.{◌≡◌, ℕ, Bool, true, not, ◌&&◌, List, [], ◌∷◌, ◌++◌, map, codes, IsTrue}
+use Rattle.std.specs.Prelude.{◌≡◌, ℕ, Bool, true, ◌&&◌, List, [], ◌∷◌, ◌++◌, map, codes, IsTrue}
 use Rattle.std.specs.List.{AllZip, list_all}
 use Rattle.dump_text.specs.Names.{action_name}
 use Rattle.dump_text.specs.HeaderLine.{with_header_value}
@@ -10,12 +10,11 @@ use Rattle.dump_records.specs.RecordText.{DumpRecord}
 use Rattle.dump_rules.specs.Settings.{Settings}
 use Rattle.dump_digest.specs.RecordParts.{is_node}
 use Rattle.dump_filter.specs.Groups.{groups, revision_numbers}
-use Rattle.dump_filter.specs.NewHeaders.{without_copy_headers}
 use Rattle.dump_trees.specs.Trees.{Tree, root_alone}
 use Rattle.dump_trees.specs.Changes.{Change}
 use Rattle.dump_trees.specs.Revisions.{AllRevisionsSeparate}
 use Rattle.dump_trees.specs.Expansions.{AllRevisionsExpand}
-use Rattle.dump_history.specs.RecordChanges.{Patching, has_action, makes}
+use Rattle.dump_history.specs.RecordChanges.{Patching, has_action}
 use Rattle.dump_history.specs.DumpChanges.{MakeChanges, HaveRevisionProperties, LoadsAs}
 use Rattle.dump_history.specs.WrittenNodes.{WrittenNode, node_record, can_be_written}
 
@@ -23,8 +22,6 @@ use Rattle.dump_history.specs.WrittenNodes.{WrittenNode, node_record, can_be_wri
 pub data OwnForm : Type 0 where
   -- it is unchanged
   AsItIs : OwnForm
-  -- the node, without the lines that state a copy source
-  WithoutSource : OwnForm
   -- the node, with the action that replaces what is there
   Replacing : OwnForm
   -- nothing
@@ -34,16 +31,6 @@ pub data OwnForm : Type 0 where
 pub record Stead : Type 0 where
   pub nodes : List WrittenNode
   pub own : OwnForm
-
--- the node without the lines that state a copy source
-abbrev pub without_source : DumpRecord → DumpRecord
-without_source r = record {
-  place = r.place;
-  version = r.version;
-  headers = without_copy_headers r.headers;
-  props = r.props;
-  text = r.text;
-}
 
 -- the node with the action that replaces what is there
 abbrev pub as_replacement : DumpRecord → DumpRecord
@@ -58,7 +45,6 @@ as_replacement r = record {
 -- what is left of the record
 abbrev pub own_records : DumpRecord → OwnForm → List DumpRecord
 own_records r OwnForm.AsItIs = r ∷ []
-own_records r OwnForm.WithoutSource = without_source r ∷ []
 own_records r OwnForm.Replacing = as_replacement r ∷ []
 own_records r OwnForm.LeftOut = []
 
@@ -72,11 +58,10 @@ expanded_records [] steads = []
 expanded_records (r ∷ records) [] = []
 expanded_records (r ∷ records) (stead ∷ steads) = stead_records r stead ++ expanded_records records steads
 
--- Whether this may remain of the record. If a node makes nothing, no load reads its copy source, so that may be
--- removed. A node that adds may replace instead, and a node may be omitted. Any other record is unchanged.
+-- Whether this may remain of the record. A node that adds may replace instead, and a node may be omitted. Any other
+-- record is unchanged.
 abbrev pub may_be_left : DumpRecord → OwnForm → Bool
 may_be_left r OwnForm.AsItIs = true
-may_be_left r OwnForm.WithoutSource = is_node r && not (makes r)
 may_be_left r OwnForm.Replacing = is_node r && has_action (codes "add") r
 may_be_left r OwnForm.LeftOut = is_node r
 

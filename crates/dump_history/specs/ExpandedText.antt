@@ -35,7 +35,6 @@ pub record IsExpandedText (records : List DumpRecord) (steads : List Stead) (tex
 -- the change that is left of the one
 abbrev pub own_changes : OwnForm → Change → List Change
 own_changes OwnForm.AsItIs c = c ∷ []
-own_changes OwnForm.WithoutSource c = c ∷ []
 own_changes OwnForm.Replacing c = replacing true c ∷ []
 own_changes OwnForm.LeftOut c = []
 

@@ -1,19 +1,18 @@
 -- What remains of a node, and the nodes before it: they are nodes, break no rule, and make their changes.
-use Rattle.dump_history.proofs.Prelude.{◌≡◌, ◌+◌, ◌==◌, Bool, true, not, ◌&&◌, ◌||◌, ◌++◌, length, refl, sym, ap, ◌∙◌, subst, lit<, if◌then◌else◌, list_all, list_any, bytes_eq, Option, None, is_some, unwrap_or, option_and_then, number_of, header_number, first_true, second_true, and_from, first_false, second_false, false_from_ne_true, or-true, has_byte, has_header, header_value, has_value, path_name, action_name, property_length_name, text_length_name, content_length_name, prop_delta_name, text_delta_name, node_kind_name, copy_path_name, copy_revision_name, is_block, IsCutInto, property_length, text_length, BeginsWithRecord, DumpRecord, record_text, is_lawful, Property, HasPropertyList, is_node, is_revision_record, is_copy, node_path, copy_path, is_copy_line, gone, put_has, put_own, put_change, alone, is_short, path_of, Made, PropertyChange, TextChange, Change, Patching, MakesChange, change_of, made_of, makes, copied_from, made_by_kind, is_plain_line, loads_as_written}
+use Rattle.dump_history.proofs.Prelude.{◌≡◌, ◌+◌, ◌==◌, Bool, true, not, ◌&&◌, ◌||◌, ◌++◌, length, refl, sym, ap, ◌∙◌, subst, lit<, if◌then◌else◌, list_all, list_any, bytes_eq, Option, None, is_some, unwrap_or, option_and_then, number_of, header_number, first_true, second_true, and_from, first_false, second_false, false_from_ne_true, or-true, has_byte, has_header, header_value, has_value, path_name, action_name, property_length_name, text_length_name, content_length_name, prop_delta_name, text_delta_name, node_kind_name, copy_path_name, copy_revision_name, is_block, IsCutInto, property_length, text_length, BeginsWithRecord, DumpRecord, record_text, is_lawful, Property, HasPropertyList, is_node, is_revision_record, is_copy, node_path, copy_path, put_has, put_own, put_change, alone, is_short, path_of, Made, PropertyChange, TextChange, Change, Patching, MakesChange, change_of, made_of, makes, copied_from, made_by_kind, is_plain_line, loads_as_written}
 use Rattle.std.proofs.Common.{ℕ, false, List, [], ◌∷◌, Some, codes, is_none}
 use Rattle.std.proofs.Math.Bool.{and-false}
 use Rattle.dump_records.specs.HeaderRules.{has_bad_kind, has_bad_version, has_bad_number, has_bad_lengths, is_one_alone}
 use Rattle.dump_records.proofs.Unique as unique
 use Rattle.dump_text.specs.Names.{version_name, uuid_name, revision_name}
 use Rattle.dump_text.specs.PropertyList.{IsPropertyBlock}
-use Rattle.dump_filter.specs.NewHeaders.{without_copy_headers}
-use Rattle.dump_filter.proofs.again.LineChanges.{IsChange, go_change, same_has, block_stays}
+use Rattle.dump_filter.proofs.again.LineChanges.{IsChange, same_has, block_stays}
 use Rattle.dump_filter.proofs.again.Headers.{no_others}
 use Rattle.dump_history.specs.RecordChanges.{has_action}
 use Rattle.dump_history.specs.WrittenNodes.{WrittenNode, node_record, can_be_written, replacing}
-use Rattle.dump_history.specs.ExpandedDumps.{without_source, as_replacement}
+use Rattle.dump_history.specs.ExpandedDumps.{as_replacement}
 use Rattle.dump_history.proofs.again.NodeChanges.{makes_change, node_change, change_is}
-use Rattle.dump_history.proofs.again.RecordLines.{plain_gone, plain_put}
+use Rattle.dump_history.proofs.again.RecordLines.{plain_put}
 use Rattle.dump_history.proofs.expanded.NodeLemmas.{written_nodes_are_records}
 
 -- nodes
@@ -177,13 +176,6 @@ module _ (r s : DumpRecord) (fits : Fits r) (node : is_node r ≡ true) (touches
         unwrap_or (option_and_then number_of o) 0) (change.same text_length_name apart.text));
   }
 
--- a node without its copy source fits
-pub bare_fits : (r : DumpRecord) → Fits r → is_node r ≡ true → Fits (without_source r)
-bare_fits r fits node = changed_fits r (without_source r) fits node is_copy_line (go_change r.headers)
-    (record { version = refl; uuid = refl; revision = refl; node = refl; props = refl; text = refl; content = refl })
-    (rw (gone copy_revision_name refl r.headers, gone copy_path_name refl r.headers) refl)
-    (rw (gone copy_revision_name refl r.headers) refl) refl refl
-
 -- a lawful node has both lines of a copy source or neither; one of them has a number
 source_lines : (r : DumpRecord) → Fits r → is_node r ≡ true
     → is_one_alone (has_header copy_revision_name r.headers) (has_header copy_path_name r.headers) ≡ false
@@ -214,19 +206,7 @@ replacing_fits r fits node = changed_fits r (as_replacement r) fits node (λ nam
       (put_change action_name (codes "replace") r.headers refl).same copy_revision_name refl,
     ) (source_number r fits)) refl refl
 
--- a node without its copy source is a node
-
-pub bare_node : (r : DumpRecord) → IsNode r → IsNode (without_source r)
-bare_node r n = record {
-  node = there path_name refl ∙ n.node;
-  no_revision = there revision_name refl ∙ n.no_revision;
-  no_version = there version_name refl ∙ n.no_version;
-}
-  where
-    there : (name : List ℕ) → is_copy_line name ≡ false
-        → has_header name (without_copy_headers r.headers) ≡ has_header name r.headers
-    there name other = same_has is_copy_line r.headers (without_copy_headers r.headers) (go_change r.headers) name other
-
+-- a node that replaces is a node
 pub replacing_node : (r : DumpRecord) → IsNode r → IsNode (as_replacement r)
 replacing_node r n = record {
   node = put_has path_name action_name (codes "replace") r.headers ∙ n.node;
@@ -274,61 +254,6 @@ module _ (r s : DumpRecord) (touches : List ℕ → Bool) (change : IsChange tou
         ∙ second_true (list_all is_plain_line r.headers && plain_names ps) (is_short (node_path r)) three))
         (short (second_true (list_all is_plain_line r.headers && plain_names ps && is_short (node_path r))
         (is_short (copy_path r)) is))
-
--- a node that makes nothing makes the same change without its copy source
-module _ (patched : Patching) (r : DumpRecord) (idle : makes r ≡ false) where
-  abbrev bare : DumpRecord
-  bare = without_source r
-
-  value : (name : List ℕ) → is_copy_line name ≡ false → header_value name bare.headers ≡ header_value name r.headers
-  value name other = (go_change r.headers).same name other
-
-  bare_there : (name : List ℕ) → is_copy_line name ≡ false → has_header name bare.headers ≡ has_header name r.headers
-  bare_there name other = same_has is_copy_line r.headers bare.headers (go_change r.headers) name other
-
-  no_source : copy_path bare ≡ []
-  no_source = by_value (header_value copy_path_name bare.headers)
-      (has_value copy_path_name bare.headers ∙ gone copy_path_name refl r.headers)
-    where
-      by_value : (o : Option (List ℕ)) → is_some o ≡ false → unwrap_or o [] ≡ []
-      by_value None is = refl
-      by_value (Some path) is = cc
-
-  same_idle : makes bare ≡ makes r
-  same_idle = ap (λ o. tells o (codes "add") || tells o (codes "replace")) (value action_name refl)
-
-  same_made : made_of bare ≡ made_of r
-  same_made = rw (same_idle, idle) refl
-
-  same_change : (ps : List Property) → node_change patched bare ps ≡ node_change patched r ps
-  same_change ps = λ i. record {
-    path = path_of (unwrap_or (value path_name refl i) []);
-    deletes = tells (value action_name refl i) (codes "delete") || tells (value action_name refl i) (codes "replace");
-    made = same_made i;
-    props = if bare_there property_length_name refl i then
-        Some (if bare_there path_name refl i && (r.version == 3) && tells (value prop_delta_name refl i) (codes "true") then
-        PropertyChange.Edited ps else PropertyChange.Replaced ps) else None;
-    text = if bare_there text_length_name refl i then
-        Some (if bare_there path_name refl i && (r.version == 3) && tells (value text_delta_name refl i) (codes "true") then
-        TextChange.Patched (patched r.text) else TextChange.Replaced r.text) else None;
-  }
-
-  still_makes : makes_change bare ≡ makes_change r
-  still_makes = λ i. list_any (λ word. tells (value action_name refl i) word)
-      (codes "add" ∷ codes "change" ∷ codes "delete" ∷ codes "replace" ∷ [])
-      && not (not (r.version == 3) && (tells (value prop_delta_name refl i) (codes "true")
-      || tells (value text_delta_name refl i) (codes "true")))
-
-  pub bare_makes : (c : Change) → MakesChange patched r c → MakesChange patched (without_source r) c
-  bare_makes c (ps, list, plain, is) =
-      let (made, change) = change_is patched r ps c is in (
-        ps,
-        new_list r bare is_copy_line (go_change r.headers) refl refl refl ps list,
-        new_plain r bare is_copy_line (go_change r.headers) refl refl refl ps (plain_gone r.headers)
-            (λ short. ap is_short no_source) plain,
-        (let one : change_of patched bare ps ≡ Some (node_change patched bare ps) = rw (still_makes ∙ made) refl in
-            one ∙ ap (λ (d : Change). Some d) (same_change ps ∙ change)),
-      )
 
 -- a node that adds makes the change that replaces, with the action that does
 module _ (patched : Patching) (r : DumpRecord) (adds : has_action (codes "add") r ≡ true) where

@@ -1,12 +1,12 @@
 -- What records have in common with the records that replace them.
-use Rattle.dump_history.proofs.Prelude.{◌≡◌, ◌==◌, Bool, true, not, ◌&&◌, ◌||◌, ◌++◌, map, refl, sym, ap, ◌∙◌, subst, unwrap_or, take_while, AllZip, if◌then◌else◌, list_all, take_while-cons, or-true, first_true, second_true, and_from, absurd_bool, has_header, path_name, header_number, DumpRecord, Property, HasPropertyList, is_node, is_revision_record, Group, group_number, groups, makes, has_ordered_nodes}
+use Rattle.dump_history.proofs.Prelude.{◌≡◌, ◌==◌, Bool, true, not, ◌&&◌, ◌||◌, ◌++◌, map, refl, sym, ap, ◌∙◌, subst, unwrap_or, take_while, AllZip, if◌then◌else◌, list_all, take_while-cons, or-true, first_true, second_true, and_from, absurd_bool, has_header, path_name, header_number, DumpRecord, Property, HasPropertyList, is_node, is_revision_record, Group, group_number, groups, has_ordered_nodes}
 use Rattle.std.proofs.Common.{ℕ, false, List, [], ◌∷◌, codes}
 use Rattle.dump_text.specs.Names.{revision_name, version_name}
 use Rattle.dump_text.specs.PropertyList.{IsPropertyBlock}
 use Rattle.dump_history.specs.RecordChanges.{has_action}
 use Rattle.dump_history.specs.WrittenNodes.{WrittenNode, node_record, can_be_written}
 use Rattle.dump_history.specs.ExpandedDumps.{OwnForm, Stead, own_records, stead_records, expanded_records, may_be_left, may_precede, may_stand, IsSameRecord}
-use Rattle.dump_history.proofs.expanded.FormLemmas.{IsNode, lawful_node, written_node, bare_node, replacing_node, Fits, AllFit}
+use Rattle.dump_history.proofs.expanded.FormLemmas.{IsNode, lawful_node, written_node, replacing_node, Fits, AllFit}
 
 -- these records replace this one, and they may
 pub record StandFor (r : DumpRecord) (stead : Stead) (again : List DumpRecord) : Type 0 where
@@ -61,7 +61,6 @@ other_records r stead other may = by_parts stead.nodes stead.own (precedes r ste
     by_parts : (nodes : List WrittenNode) (own : OwnForm) → may_precede r nodes ≡ true → may_be_left r own ≡ true
         → map (node_record r.place r.version) nodes ++ own_records r own ≡ r ∷ []
     by_parts [] OwnForm.AsItIs before left = refl
-    by_parts [] OwnForm.WithoutSource before left = absurd (no_node (first_true (is_node r) (not (makes r)) left))
     by_parts [] OwnForm.Replacing before left =
         absurd (no_node (first_true (is_node r) (has_action (codes "add") r) left))
     by_parts [] OwnForm.LeftOut before left = absurd (no_node left)
@@ -102,7 +101,6 @@ node_records r stead n =
 
     own : (form : OwnForm) → AllNodes (own_records r form)
     own OwnForm.AsItIs = (n, tt)
-    own OwnForm.WithoutSource = (bare_node r n, tt)
     own OwnForm.Replacing = (replacing_node r n, tt)
     own OwnForm.LeftOut = tt
 

@@ -1,5 +1,5 @@
 -- The changes that replace a dump's changes are those of the records that replace its records.
-use Rattle.dump_history.proofs.Prelude.{◌≡◌, Bool, true, not, ◌++◌, drop, map, refl, sym, ap, ◌∙◌, subst, take_while, AllZip, if◌then◌else◌, list_all, take_while-cons, first_true, second_true, absurd_bool, false_from_ne_true, not-true, has_header, path_name, change_of, loads_as_written, DumpRecord, is_node, is_revision_record, alone, Group, group_of, groups, Change, Patching, MakesChange, MakeChanges, MakeRevisions, makes, Ending, HasRecords, Settings, root_alone}
+use Rattle.dump_history.proofs.Prelude.{◌≡◌, Bool, true, ◌++◌, drop, map, refl, sym, ap, ◌∙◌, subst, take_while, AllZip, if◌then◌else◌, list_all, take_while-cons, first_true, second_true, absurd_bool, false_from_ne_true, has_header, path_name, change_of, loads_as_written, DumpRecord, is_node, is_revision_record, alone, Group, group_of, groups, Change, Patching, MakesChange, MakeChanges, MakeRevisions, makes, Ending, HasRecords, Settings, root_alone}
 use Rattle.std.proofs.Common.{ℕ, false, List, [], ◌∷◌, codes}
 use Rattle.dump_text.specs.Names.{revision_name}
 use Rattle.dump_history.specs.RecordChanges.{has_action}
@@ -7,7 +7,7 @@ use Rattle.dump_history.specs.WrittenNodes.{WrittenNode, node_record, can_be_wri
 use Rattle.dump_history.specs.ExpandedDumps.{OwnForm, Stead, own_records, stead_records, may_be_left, may_precede, IsSameRecord, IsExpandedDump}
 use Rattle.dump_history.specs.ExpandedText.{own_changes, changes_for, expanded_changes, expanded_revisions, node_steads, stead_groups, made_in_stead, IsExpandedText, ExpansionsAreDumps}
 use Rattle.dump_history.proofs.expanded.NodeLemmas.{written_nodes_make_changes}
-use Rattle.dump_history.proofs.expanded.FormLemmas.{AllFit, bare_makes, replacing_makes}
+use Rattle.dump_history.proofs.expanded.FormLemmas.{AllFit, replacing_makes}
 use Rattle.dump_history.proofs.expanded.StandLemmas.{StandFor, AllStandFor, all_stand, precedes, is_left, other_stands, stand_nodes, take_nodes, groups_behind, node_of, HaveSameRevisions, same_revisions, same_list}
 use Rattle.dump_history.proofs.expanded.TextLemmas.{expansion_is_dump}
 use Rattle.dump_history.proofs.expanded.ExpandedLaw.{whole_fits}
@@ -63,8 +63,6 @@ module _ (patched : Patching) where
   own_make : (r : DumpRecord) (own : OwnForm) (c : Change) → may_be_left r own ≡ true → MakesChange patched r c
       → AllZip (MakesChange patched) (own_records r own) (own_changes own c)
   own_make r OwnForm.AsItIs c may make = (make, tt)
-  own_make r OwnForm.WithoutSource c may make =
-      (bare_makes patched r (not-true (makes r) (second_true (is_node r) (not (makes r)) may)) c make, tt)
   own_make r OwnForm.Replacing c may make =
       (replacing_makes patched r (second_true (is_node r) (has_action (codes "add") r) may) c make, tt)
   own_make r OwnForm.LeftOut c may make = tt

@@ -1,5 +1,5 @@
 -- The text that replaces a dump's records is a dump of the records that replace them.
-use Rattle.dump_history.proofs.Prelude.{◌≡◌, ◌+◌, ◌<◌, Bool, true, not, ◌++◌, length, map, refl, sym, ap, ◌∙◌, subst, arith, append_assoc, AllZip, list_all, first_true, second_true, absurd_bool, Ending, HasRecords, IsCutInto, BeginsWithRecord, DumpRecord, record_text, is_lawful, is_node, has_header, makes}
+use Rattle.dump_history.proofs.Prelude.{◌≡◌, ◌+◌, ◌<◌, Bool, true, ◌++◌, length, map, refl, sym, ap, ◌∙◌, subst, arith, append_assoc, AllZip, list_all, first_true, second_true, absurd_bool, Ending, HasRecords, IsCutInto, BeginsWithRecord, DumpRecord, record_text, is_lawful, is_node, has_header}
 use Rattle.std.proofs.Common.{ℕ, false, List, [], ◌∷◌, codes}
 use Rattle.dump_records.specs.DumpText.{HaveVersions, line_feeds}
 use Rattle.dump_records.specs.HeaderRules.{version_from}
@@ -11,7 +11,7 @@ use Rattle.dump_history.specs.RecordChanges.{has_action}
 use Rattle.dump_history.specs.WrittenNodes.{WrittenNode, node_record, can_be_written}
 use Rattle.dump_history.specs.ExpandedDumps.{OwnForm, Stead, own_records, stead_records, expanded_records, may_be_left, may_precede, may_stand, IsSameRecord}
 use Rattle.dump_history.specs.ExpandedText.{AreRecordTexts}
-use Rattle.dump_history.proofs.expanded.FormLemmas.{Fits, AllFit, all_fit, written_fits, bare_fits, replacing_fits}
+use Rattle.dump_history.proofs.expanded.FormLemmas.{Fits, AllFit, all_fit, written_fits, replacing_fits}
 use Rattle.dump_history.proofs.expanded.StandLemmas.{precedes, is_left, other_records, AllNodes, node_records, node_of}
 
 -- the record, at another place
@@ -112,7 +112,6 @@ stead_fits r stead fits may =
 
     own : (form : OwnForm) → may_be_left r form ≡ true → AllFit (own_records r form)
     own OwnForm.AsItIs may = (fits, tt)
-    own OwnForm.WithoutSource may = (bare_fits r fits (first_true (is_node r) (not (makes r)) may), tt)
     own OwnForm.Replacing may = (replacing_fits r fits (first_true (is_node r) (has_action (codes "add") r) may), tt)
     own OwnForm.LeftOut may = tt
 
@@ -147,7 +146,6 @@ stead_under r stead = written stead.nodes
   where
     own : (form : OwnForm) → AllUnder r.version (own_records r form)
     own OwnForm.AsItIs = (refl, tt)
-    own OwnForm.WithoutSource = (refl, tt)
     own OwnForm.Replacing = (refl, tt)
     own OwnForm.LeftOut = tt
 

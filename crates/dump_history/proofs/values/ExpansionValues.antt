@@ -1,12 +1,12 @@
 -- Examples for the definitions of expanded dumps.
-use Rattle.dump_history.proofs.Prelude.{◌≡◌, arith, None, refl, sym, ap, absurd_bool, DumpRecord, record_text, is_some, path_of, Tree, root_alone, Change, Patching, MakesChange, slice_get}
+use Rattle.dump_history.proofs.Prelude.{◌≡◌, arith, refl, ap, absurd_bool, DumpRecord, record_text, is_some, path_of, Tree, root_alone, Patching, MakesChange, slice_get}
 use Rattle.std.proofs.Common.{true, false, List, [], ◌∷◌, Some, codes}
 use Rattle.std.specs.Fmt.{digits}
 use Rattle.dump_trees.specs.Expansions.{Expands}
 use Rattle.dump_trees.specs.ExpansionCases.{deletion_of}
 use Rattle.dump_trees.specs.WritingOut.{directory_of}
 use Rattle.dump_history.specs.WrittenNodes.{WrittenNode, replacing}
-use Rattle.dump_history.specs.ExpandedDumps.{OwnForm, Stead, without_source, as_replacement, may_stand, IsSameRecord}
+use Rattle.dump_history.specs.ExpandedDumps.{OwnForm, Stead, as_replacement, may_stand, IsSameRecord}
 use Rattle.dump_history.specs.ExpandedText.{AreRecordTexts, changes_for, node_steads, stead_groups, made_in_stead}
 use Rattle.dump_history.proofs.values.WorkedDump.{line, record_at, version, one, settings, none_of}
 use Rattle.dump_history.proofs.values.WorkedExpansion.{other, copy, records, steads, stays, trunk, adds_other, copies_other, first_tree, second_tree, revisions}
@@ -48,13 +48,6 @@ no_revision_left_out = refl
 no_other_node : may_stand copy (stead (WrittenNode.Deletion (codes "a\nb") ∷ []) OwnForm.LeftOut) ≡ false
 no_other_node = refl
 
-idle_without : may_stand idle (stead [] OwnForm.WithoutSource) ≡ true
-idle_without = refl
-
--- a copy would be another change without its source
-no_copy_without : may_stand copy (stead [] OwnForm.WithoutSource) ≡ false
-no_copy_without = refl
-
 copy_replaces : may_stand copy (stead [] OwnForm.Replacing) ≡ true
 copy_replaces = refl
 
@@ -62,19 +55,6 @@ no_change_replaces : may_stand idle (stead [] OwnForm.Replacing) ≡ false
 no_change_replaces = refl
 
 -- what remains of a record
-
-lines_without : (without_source idle).headers
-    ≡ line (codes "Node-path") (codes "trunk") ∷ line (codes "Node-action") (codes "change") ∷ []
-lines_without = refl
-
--- it makes the same change
-same_change : (patched : Patching) (c : Change)
-    → c ≡ record { path = path_of (codes "trunk"); deletes = false; made = None; props = None; text = None }
-    → MakesChange patched idle c × MakesChange patched (without_source idle) c
-same_change patched c is = (
-  ([], none_of idle refl, refl, ap (λ (d : Change). Some d) (sym is)),
-  ([], none_of (without_source idle) refl, refl, ap (λ (d : Change). Some d) (sym is)),
-)
 
 lines_replacing : (as_replacement copy).headers ≡ line (codes "Node-path") (codes "trunk")
     ∷ line (codes "Node-kind") (codes "dir")
