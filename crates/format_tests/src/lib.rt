@@ -2,6 +2,8 @@
 #![tactic(auto)]
 
 #[cfg(test)]
+mod deltas;
+#[cfg(test)]
 mod records;
 #[cfg(test)]
 mod text;

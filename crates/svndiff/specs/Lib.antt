@@ -1,0 +1,3 @@
+pub mod Svndiff
+pub mod DeltaLaws
+pub mod steps
