@@ -6,4 +6,5 @@ pub mod ReadLemmas
 pub mod StepLemmas
 pub mod TableLemmas
 pub mod TextLemmas
+pub mod PatchedLemmas
 pub mod Values

@@ -141,7 +141,7 @@ module _ (patched : Patching) where
       (its.0, its.1, with_record r records number l its.0 its.2)
 
 -- if one list has no change at a place, the other list has none there
-none_placed : (listed : List Listed) (placed : List Placed) → AllZip IsListed listed placed → (place : ℕ)
+pub none_placed : (listed : List Listed) (placed : List Placed) → AllZip IsListed listed placed → (place : ℕ)
     → slice_get listed place ≡ None → slice_get placed place ≡ None
 none_placed [] [] zip place none = refl
 none_placed [] (p ∷ placed) zip place none = absurd zip

@@ -91,7 +91,7 @@ stored_nowhere texts listed path count places is none =
     inl (record { trail = reverse places; sets = is; is_last = first_backwards places None none }, refl)
 
 -- the text that a node's change sets
-its_text : (patched : Patching) (r : DumpRecord) (c : Change) → MakesChange patched r c → text_change_of patched r ≡ c.text
+pub its_text : (patched : Patching) (r : DumpRecord) (c : Change) → MakesChange patched r c → text_change_of patched r ≡ c.text
 its_text patched r c (ps, has, plain, is) = cases (has_known_action r && not (has_undefined_delta r)) is
   where
     set : Option Change → Option TextChange
@@ -103,7 +103,7 @@ its_text patched r c (ps, has, plain, is) = cases (has_known_action r && not (ha
     cases false is = absurd (let bad : None ≡ Some c = is in cc)
 
 -- a change that sets a whole text sets the text of its record
-whole_set : (patched : Patching) (r : DumpRecord) (s : Setting) (t : Option TextChange) → text_change_of patched r ≡ t
+pub whole_set : (patched : Patching) (r : DumpRecord) (s : Setting) (t : Option TextChange) → text_change_of patched r ≡ t
     → HasText s t → is_replacing s ≡ true → t ≡ Some (TextChange.Replaced r.text)
 whole_set patched r Keeps t its has whole = absurd (let bad : false ≡ true = whole in cc)
 whole_set patched r Edits t its has whole = absurd (let bad : false ≡ true = whole in cc)

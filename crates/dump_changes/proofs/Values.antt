@@ -1,5 +1,6 @@
 -- Examples for the definitions; the checker computes and proves them.
-use Rattle.dump_changes.proofs.Prelude.{◌≡◌, ℕ, false, List, [], ◌∷◌, Option, Some, None, inr, refl, codes, DumpRecord}
+use Rattle.dump_changes.proofs.Prelude.{◌≡◌, ℕ, false, List, [], ◌∷◌, ◌++◌, Option, Some, None, inr, refl, codes, DumpRecord, Patching}
+use Rattle.svndiff.specs.Svndiff.{patch}
 use Rattle.dump_trees.specs.Changes.{Made}
 use Rattle.dump_index.specs.Listed.{Listed}
 use Rattle.dump_index.specs.Settings.{Edited, IsTrail, Whole}
@@ -8,6 +9,7 @@ use Rattle.dump_index.specs.declared.change.Setting.TheVariants.{Edits, Keeps, R
 use Rattle.dump_index.specs.declared.trail.Part.TheVariants.{Text}
 use Rattle.dump_changes.specs.FileTexts.{IsStoredAt, TextStored, ToldText, no_text, record_texts}
 use Rattle.dump_changes.specs.NodeProperties.{node_numbers, property_blocks}
+use Rattle.dump_changes.specs.PatchedTexts.{AgreesWithSvndiff, text_patched}
 
 abbrev one_header : List ℕ → List ℕ → List ℕ → DumpRecord
 one_header name value props = record {
@@ -88,3 +90,33 @@ stored_delta = inr (
   refl,
   (refl, refl),
 )
+
+-- the second record's text, which copies the one byte before it and appends another
+abbrev delta : ToldText
+delta = record { text = codes "SVN" ++ 0 ∷ 0 ∷ 1 ∷ 2 ∷ 3 ∷ 1 ∷ 1 ∷ 0 ∷ 129 ∷ 121 ∷ []; md5 = None; sha1 = None }
+
+-- the changes give a text from the oldest one on
+text_of_both : text_patched (text ∷ delta ∷ []) changes (1 ∷ 0 ∷ []) ≡ Some (codes "xy")
+text_of_both = refl
+
+text_of_first : text_patched (text ∷ delta ∷ []) changes (0 ∷ []) ≡ Some (codes "x")
+text_of_first = refl
+
+-- without a change it is empty
+text_of_none : text_patched (text ∷ delta ∷ []) changes [] ≡ Some []
+text_of_none = refl
+
+-- so the delta alone sees too much
+text_of_second : text_patched (text ∷ delta ∷ []) changes (1 ∷ []) ≡ None
+text_of_second = refl
+
+-- svndiff is a reading that agrees with itself, and one of which each text becomes empty does not agree
+svndiff_agrees : AgreesWithSvndiff patch
+svndiff_agrees d old new is = is
+
+abbrev emptied : Patching
+emptied d old = Some []
+
+emptied_disagrees : AgreesWithSvndiff emptied → ⊥
+emptied_disagrees agrees =
+    let bad : emptied delta.text (codes "x") ≡ Some (codes "xy") = agrees delta.text (codes "x") (codes "xy") refl in cc

@@ -1,4 +1,5 @@
 pub mod FileTexts
 pub mod ListedDumps
 pub mod NodeProperties
+pub mod PatchedTexts
 pub mod steps

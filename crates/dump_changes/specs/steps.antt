@@ -3,3 +3,4 @@ pub mod DumpReading
 pub mod Nodes
 pub mod Reading
 pub mod StoredTexts
+pub mod MadeTexts

@@ -20,13 +20,14 @@
 //!
 //! [`properties_at`] finds the properties of the node at a path after some of the changes, with a
 //! [`PropertyTable`] of the dump. [`text_at`] finds the text of a file in the same way, if the dump has
-//! it as a whole, with a [`TextTable`].
+//! it as a whole, with a [`TextTable`]; [`patched_text_at`] makes the text of whole texts and deltas.
 #![tactic(auto)]
 
 pub mod laws;
 mod node;
 mod node_text;
 mod numbers;
+mod patched_texts;
 mod properties;
 mod property_edit;
 mod property_table;
@@ -38,6 +39,7 @@ pub use dump_rules::Memory;
 pub use node::node_change;
 pub use node_text::{NodeText, StoredText};
 pub use numbers::{copies_from_gap, with_loaded_source};
+pub use patched_texts::{FileText, PatchedText, patched_text_at};
 pub use properties::properties_at;
 pub use property_edit::NodeProperty;
 pub use property_table::PropertyTable;

@@ -9,3 +9,5 @@ mod expansion;
 mod index;
 #[cfg(test)]
 mod nodes;
+#[cfg(test)]
+mod patched_texts;

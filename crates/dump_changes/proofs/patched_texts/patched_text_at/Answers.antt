@@ -1,0 +1,45 @@
+use Rattle.dump_changes.proofs.Prelude.{◌+◌, refl, ℕ, Some, None, List, ap, sym, ◌∙◌}
+use Rattle.std.proofs.Common.{reverse, take, drop}
+use Rattle.std.proofs.lemmas.List.{take_all}
+use Rattle.dump_changes.specs.PatchedTexts.{text_patched}
+use Rattle.dump_changes.specs.steps.MadeTexts.{file_bytes}
+use Rattle.dump_changes.proofs.PatchedLemmas.{around, none_at_last, one_more}
+use Rattle.dump_changes.proofs.patched_texts.patched_text_at.Goals as goal
+
+pub returns-in-Err-Broken : goal.returns-in-Err-Broken
+returns-in-Err-Broken c =
+    let places = c.in_ok-places.places.items in
+    let items = c.deref-place-items.result.now in
+    let i = c.loop-place.place-index in
+    let fails = rw c.in-Err-Broken.field-0-is at c.in-Err-Broken.ensures in
+    let none = one_more c.args.table.now c.args.index.now items i _ (file_bytes c.loop-place.text) None
+    c.loop-place-test.true refl c.loop-place.invariant fails in (
+      reverse places,
+      c.in_ok-places.ensures,
+      ap (λ (ps : List ℕ). text_patched c.args.table.now c.args.index.now (reverse ps)) (sym c.deref-place-items.ensures.value)
+          ∙ none_at_last c.args.table.now c.args.index.now items (i + 1) none,
+      record {
+        newer = reverse (drop (i + 1) items);
+        older = reverse (take i items);
+        old = file_bytes c.loop-place.text;
+        is_between = ap (λ (ps : List ℕ). reverse ps) (sym c.deref-place-items.ensures.value) ∙ around items i c.loop-place-test.true;
+        before = c.loop-place.invariant;
+        makes_nothing = fails;
+      },
+    )
+
+pub loop-place-preserved : goal.loop-place-preserved
+loop-place-preserved c =
+    one_more c.args.table.now c.args.index.now c.deref-place-items.result.now c.loop-place.place-index _
+    (file_bytes c.loop-place.text) (Some (file_bytes c.in-Ok.text)) c.loop-place-test.true refl c.loop-place.invariant c.in-Ok.ensures
+
+pub returns : goal.returns
+returns c =
+    let places = c.in_ok-places.places.items in
+    let items = c.deref-place-items.result.now in (
+      reverse places,
+      c.in_ok-places.ensures,
+      ap (λ (ps : List ℕ). text_patched c.args.table.now c.args.index.now (reverse ps))
+          (sym c.deref-place-items.ensures.value ∙ sym (take_all c.loop-place.place-index items c.loop-place-test.false))
+          ∙ c.loop-place.invariant,
+    )
