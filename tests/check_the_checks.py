@@ -48,9 +48,9 @@ LEMMAS = "crates/dump_text/proofs/BoolLemmas.antt"
 EDITS = [
     ("tests/check_trusted.py", ANSWER,
      [(NOUGHT, NOUGHT.replace("written ≡", "IsInRange 1 1 × written ≡")), ("use Rattle.dump_writer", RANGE + "use Rattle.dump_writer")],
-     "specs/steps/PlanRange.antt: IsInRange: the statement or a law needs it"),
+     "specs/steps/PlanRange.antt: IsInRange: a statement needs it"),
     ("tests/check_trusted.py", ANSWER, [(BEHIND, f"abbrev pub nought : ℕ\nnought = 0\n\n{BEHIND}")],
-     "specs/RunAnswer.antt: nought: neither the statement nor a law needs it"),
+     "specs/RunAnswer.antt: nought: no statement needs it"),
     ("tests/check_names.py", ANSWER, [(BEHIND, f"abbrev pub status_of : ℕ\nstatus_of = 0\n\n{BEHIND}")],
      f"status_of is defined in two crates: crates/dump_cli/specs/Drive.antt, {ANSWER}"),
     ("tests/check_names.py", ANSWER, [(BEHIND, f"abbrev nought : ℕ\nnought = 0\n\nabbrev none : ℕ\nnone = 0\n\n{BEHIND}")],

@@ -1,11 +1,11 @@
 #!/usr/bin/env python3
-"""Lists the definitions that the statement needs, and compares them with the list in docs/TRUSTED.md.
+"""Lists the definitions that the statements need, and compares them with the lists in docs/TRUSTED.md.
 
     tests/check_trusted.py [--print]
 
-It begins with the names in the signatures of the functions of tests/statements.txt, and follows each name to its definition
-and from there to the names in that one. Each file comes after those that it needs. With --print it writes the list. The files
-of the list have these definitions and no others, and are directly in a crate's specs/; all other definitions are in
+It begins with the names in the clauses of tests/statements.txt, and follows each name to its definition and from there to the
+names in that one. Each section has its files, each after those that it needs. With --print it writes the lists. The files of
+the lists have these definitions and no others, and are directly in a crate's specs/; all other definitions are in
 specs/steps/. The last line is 'N passed, M failed'.
 """
 import functools
@@ -14,15 +14,18 @@ import re
 import sys
 
 sys.path.insert(0, os.path.join(os.path.dirname(__file__), "..", "tools"))
-from repository import ended, libraries, lines_of, path as path_to, programs, read
+from repository import ended, libraries, lines_of, path as path_to, read
 
-BEGIN = "<!-- the definitions of the statement, by tests/check_trusted.py --print -->\n"
+BEGIN = "<!-- the definitions of the statements, by tests/check_trusted.py --print -->\n"
 END = "<!-- the end of the definitions -->\n"
 CRATES = sorted(libraries())
 OWN = f"Rattle\\.({'|'.join(CRATES)})\\.specs\\."
 # `use M.{a, b as c}` and `use M as c`, of the modules of this repository
 USE = re.compile(rf"^[ ]*(?:ghost |pub )*use {OWN}([\w.-]+?)(?:\.\{{([^}}]*)\}}|[ ]as[ ](\S+?));?$", re.MULTILINE)
 FUNCTION = re.compile(r"^pub fn (\w+)(.*?)^\{", re.DOTALL | re.MULTILINE)
+# where a clause of a contract begins, and the name of one that says what is true afterwards
+CLAUSE = re.compile(r"^    (?=requires\b|ensures\b)", re.MULTILINE)
+ENSURES = re.compile(r"ensures (?:(\w+) )?\{")
 # the line that begins a definition, and a word
 HEAD = re.compile(r"(?:(?:abbrev|pub|unfoldable|opaque|record|data) )+([^\s:({]+)")
 WORD = re.compile(r"[^\s(){};,.]+")
@@ -129,62 +132,99 @@ class Needed:
             visit(crate, path)
         return found
 
-    def follow_functions(self, text, names=None):
-        """Adds what the signatures of these functions of a source, or of all, need."""
-        known, signatures = meanings(text), dict(FUNCTION.findall(text))
-        for name in signatures if names is None else names:
-            for used in meant(signatures[name], known):
-                self.follow(*used)
+    def follow_function(self, text, name, clause=None):
+        """Adds what the signature of a function of a source needs, or one clause of it with what it requires."""
+        signature = dict(FUNCTION.findall(text))[name]
+        if clause:
+            parts = [it for it in CLAUSE.split(signature)[1:] if it.startswith("requires") or ENSURES.match(it)[1] == clause]
+            if not any(it.startswith("ensures") for it in parts):
+                raise SystemExit(f"tests/check_trusted.py: {name} has no clause {clause}")
+            signature = "".join(parts)
+        for used in meant(signature, meanings(text)):
+            self.follow(*used)
+
+    def lines(self):
+        """How many lines these definitions have, without comments."""
+        return sum(file(crate, path).texts[name].count("\n") for crate, path, name in self.names)
+
+    def counts(self):
+        return f"{len(self.names)} definitions, {self.lines()} lines"
 
 
-def statements():
-    """The crate, source and function of each statement, by the program that it is for."""
-    found = {}
-    for program, *statement in map(str.split, lines_of("tests/statements.txt")):
-        found.setdefault(program, []).append(statement)
-    return found
+class Statement:
+    """A line of tests/statements.txt: a crate, a source, a function or all, and a clause if not the whole contract."""
+
+    def __init__(self, crate, source, function, clause=None):
+        self.crate, self.source, self.function, self.clause = crate, source, function, clause
+
+    def name(self):
+        clause = f"the clause `{self.clause}` of " if self.clause else ""
+        return f"the laws of `{self.crate}`" if self.function == "*" else f"{clause}`{self.function}` of `{self.crate}`"
+
+    def follow(self, found):
+        text = read("crates", self.crate, "src", self.source + ".rt")
+        for name in dict(FUNCTION.findall(text)) if self.function == "*" else [self.function]:
+            found.follow_function(text, name, self.clause)
 
 
-class Group:
-    """What the statements for one program need, except what the groups before it need."""
+class Section:
+    """A section of the page: its title, its statements, and what these need."""
 
-    def __init__(self, program, functions, found):
-        files, count = found.files(), len(found.names)
-        for crate, source, name in functions:
-            those = [crate] if crate != "*" else [it for it in CRATES if os.path.exists(path_to("crates", it, "src", source + ".rt"))]
-            for it in those:
-                found.follow_functions(read("crates", it, "src", source + ".rt"), None if name == "*" else [name])
-        self.files, self.count = [it for it in found.files() if it not in files], len(found.names) - count
-        # main's part is named drive in each program
-        named = [f"`{it}`" for _, _, it in functions if it != "*"]
-        if program != next(iter(programs())) and named[-1] == "`drive`":
-            named[-1] = f"the {program}'s `drive`"
-        self.names = " and ".join(filter(None, [", ".join(named[:-1]), named[-1]]))
-        self.has_laws = any(name == "*" for _, _, name in functions)
+    def __init__(self, title):
+        self.title, self.statements, self.found = title, [], Needed()
+
+    def add(self, statement, whole):
+        self.statements.append(statement)
+        statement.follow(self.found)
+        statement.follow(whole)
+
+    def page(self):
+        alone = Needed()
+        self.statements[0].follow(alone)
+        lines = [f"- {it.name()}" for it in self.statements]
+        if self.statements[0].clause:
+            lines[0] += f": {alone.counts()}"
+        statements = "\n".join(lines)
+        return f"### {self.title}\n\n{statements}\n\nneed {self.found.counts()}:\n\n{listed(self.found)}"
 
 
 def needed():
-    """What the statements for each program need, and all that was found."""
-    found = Needed()
-    return [Group(program, functions, found) for program, functions in statements().items()], found
+    """The sections of the page, and all that they need."""
+    sections, whole = [], Needed()
+    for line in lines_of("tests/statements.txt"):
+        if line.startswith("["):
+            sections.append(Section(line.strip("[]")))
+        else:
+            sections[-1].add(Statement(*line.split()), whole)
+    return sections, whole
 
 
-def listed(files):
-    """A line a crate with what is listed of it, in the order in which each is first named."""
-    found = {}
-    for crate, path in files:
-        found.setdefault(crate, []).append(path)
-    return "".join(f"- `{crate}`: {', '.join(f'`{it}`' for it in paths)}\n" for crate, paths in found.items())
+def entry(found, crate, path):
+    """A file of a list, with those of its definitions that are needed if it has others."""
+    all_names = list(file(crate, path).texts)
+    names = [it for it in all_names if (crate, path, it) in found.names]
+    return f"`{path}`" + ("" if names == all_names else f" ({', '.join(f'`{it}`' for it in names)})")
 
 
-def page(groups, found):
-    first, *others = groups
-    text = f"\nThe statement of {first.names} needs {first.count} definitions, all of those in {len(first.files)} files:\n\n"
-    text += f"{listed(first.files)}\n"
-    for it in others:
-        needs = ", and the laws, need" if it.has_laws else " needs"
-        text += f"That of {it.names}{needs} {it.count} more, in these {len(it.files)}:\n\n{listed(it.files)}\n"
-    return text + f"{'Both' if len(groups) == 2 else 'All'} speak of these types of the sources:\n\n{listed(sorted(found.types))}\n"
+def listed(found):
+    """A line for each run of files of a crate, in the order in which they can be read."""
+    lines, last = [], None
+    for crate, path in found.files():
+        if crate == last:
+            lines[-1] += ", " + entry(found, crate, path)
+        else:
+            lines.append(f"- `{crate}`: {entry(found, crate, path)}")
+        last = crate
+    return "\n".join(lines) + "\n"
+
+
+def page(sections, found):
+    types = {}
+    for crate, name in sorted(found.types):
+        types.setdefault(crate, []).append(f"`{name}`")
+    text = f"\nAll sections together have {found.counts()}.\n\n" + "\n".join(it.page() for it in sections)
+    text += "\n### Types of the sources that these definitions speak of\n\n"
+    return text + "".join(f"- `{crate}`: {', '.join(names)}\n" for crate, names in types.items()) + "\n"
 
 
 def modules(crate):
@@ -196,7 +236,7 @@ def modules(crate):
 
 def misplaced(found):
     """A sentence for each definition that is in the wrong directory."""
-    unneeded, wanted = "neither the statement nor a law needs it", "the statement or a law needs it"
+    unneeded, wanted = "no statement needs it", "a statement needs it"
     wrong = []
     for crate in CRATES:
         for path in sorted(modules(crate)):
@@ -210,8 +250,8 @@ def misplaced(found):
 
 
 def main(words):
-    groups, found = needed()
-    wanted = page(groups, found)
+    sections, found = needed()
+    wanted = page(sections, found)
     if words == ["--print"]:
         print(wanted, end="")
         return 0
@@ -220,7 +260,7 @@ def main(words):
     for sentence in wrong:
         print(f"tests/check_trusted.py: {sentence}")
     if told != wanted:
-        print("tests/check_trusted.py: the list in docs/TRUSTED.md is another than that of tests/check_trusted.py --print")
+        print("tests/check_trusted.py: the lists in docs/TRUSTED.md are others than those of tests/check_trusted.py --print")
     failed = int(told != wanted) + int(bool(wrong))
     return ended(2 - failed, failed)
 

@@ -15,15 +15,15 @@ use Rattle.dump_rules.specs.declared.options.Side.TheVariants.{Exclude, Include}
 use Rattle.dump_filter.specs.FilterLaws.{LengthsFit}
 use Rattle.dump_filter.specs.WholeText.{IsCleanText}
 use Rattle.dump_trees.specs.Changes.{Change}
-use Rattle.dump_trees.specs.ComingBack.{NothingComesBack}
+use Rattle.dump_trees.specs.steps.ComingBack.{NothingComesBack}
 use Rattle.dump_trees.specs.Following.{Way}
-use Rattle.dump_trees.specs.LoadCheck.{all_apply, TellsKinds, ToldKinds}
-use Rattle.dump_trees.specs.Looking.{Placed, placed_from}
+use Rattle.dump_trees.specs.steps.LoadCheck.{all_apply, TellsKinds, ToldKinds}
+use Rattle.dump_trees.specs.steps.Looking.{Placed, placed_from}
 use Rattle.dump_trees.specs.Paths.{NodePath}
 use Rattle.dump_trees.specs.Revisions.{loaded_over}
 use Rattle.dump_trees.specs.CanonicalPaths.{canonical_path}
 use Rattle.dump_trees.specs.Returns.{is_covered}
-use Rattle.dump_trees.specs.Siblings.{ExcludesPaths, have_node_names, is_in_cut, is_sibling}
+use Rattle.dump_trees.specs.steps.Siblings.{ExcludesPaths, have_node_names, is_in_cut, is_sibling}
 use Rattle.dump_trees.proofs.cuts.CoveredPaths.{contains_cases, contains_first, contains_none}
 use Rattle.dump_trees.proofs.cuts.EverKept.{ever_kept_in_cut}
 use Rattle.dump_trees.proofs.paths.CutLineLemmas.{named_line_stays}
@@ -31,46 +31,49 @@ use Rattle.dump_trees.specs.Trees.{Tree, root_alone}
 use Rattle.dump_trees.proofs.cuts.FollowLemmas.{following_is_least}
 use Rattle.dump_trees.proofs.cuts.RestLemmas.{all_rests_are_listed, no_returns_bring_nothing}
 use Rattle.dump_filter.specs.Groups.{is_pad, revision_numbers}
-use Rattle.dump_history.specs.CutDumps.{FiltersExpansion, LoadsNew, LoadsNumbered, TreeRestricts, leaves_no_gap}
+use Rattle.dump_history.specs.steps.CutDumps.{FiltersExpansion, LoadsNew, LoadsNumbered, TreeRestricts, leaves_no_gap}
 use Rattle.dump_history.specs.DumpChanges.{HaveRevisionProperties, LoadsAs, MakeRevisions, counts_from}
-use Rattle.dump_history.specs.ExpandedText.{made_in_stead}
+use Rattle.dump_history.specs.steps.ExpandedText.{made_in_stead}
 use Rattle.dump_history.specs.CopiesOver.{some_copies_over}
 use Rattle.dump_history.specs.KeptChanges.{ChangesComeOfKept}
-use Rattle.dump_history.specs.TrimmedDumps.{FiltersRenumbered, FiltersTrimmed}
+use Rattle.dump_history.specs.steps.TrimmedDumps.{FiltersRenumbered, FiltersTrimmed}
 use Rattle.dump_history.proofs.cuts.CutLaws.{excluded_dump_loads}
 use Rattle.dump_history.proofs.cuts.KeptChanges.{filtered_changes_are_kept, renumbered_changes_are_kept, trimmed_changes_are_kept}
 use Rattle.dump_history.proofs.cuts.RenumberedLaw.{trimmed_dump_loads_renumbered}
 use Rattle.dump_history.proofs.cuts.TrimmedLaw.{trimmed_dump_loads}
 use Rattle.dump_history.specs.RecordChanges.{Patching}
-use Rattle.dump_index.specs.IndexLaws.{AreListed}
-use Rattle.dump_index.specs.Listed.{Listed, listed_of}
-use Rattle.dump_index.specs.ToldKinds.{kinds_told_by}
+use Rattle.dump_index.specs.steps.IndexLaws.{AreListed}
+use Rattle.dump_index.specs.steps.Listed.{Listed, listed_of}
+use Rattle.dump_index.specs.steps.ToldKinds.{kinds_told_by}
 use Rattle.dump_index.specs.declared.change.NodeChange.{NodeChange}
 use Rattle.dump_index.proofs.ToldLemmas.{index_tells_kinds}
-use Rattle.dump_changes.specs.ListedDumps.{AreListedIn, are_numbered}
-use Rattle.dump_changes.specs.FileTexts.{record_texts}
-use Rattle.dump_changes.specs.NodeProperties.{HaveNodeNumbers, property_blocks}
+use Rattle.dump_changes.specs.steps.ListedDumps.{AreListedIn, are_numbered}
+use Rattle.dump_changes.specs.steps.FileTexts.{record_texts}
+use Rattle.dump_changes.specs.steps.NodeProperties.{HaveNodeNumbers, property_blocks}
 use Rattle.dump_changes.proofs.PropertyLemmas.{has_revision, nodes_are}
 use Rattle.dump_changes.proofs.ReadLemmas.{numbered_makes}
-use Rattle.dump_cut.specs.NamedLines.{CoverMergeinfo, is_left_by}
+use Rattle.dump_cut.specs.steps.NamedLines.{CoverMergeinfo, is_left_by}
 use Rattle.dump_cut.proofs.FoundSiblings.{found_siblings_are_all}
-use Rattle.dump_cut.specs.LoadChecks.{IsFirstRejected}
-use Rattle.dump_cut.specs.NamedPaths.{has_named_paths}
-use Rattle.dump_cut.specs.TakenCopies.{IsFirstNotTaken, emptied_by}
-use Rattle.dump_cut.specs.TrimmedCopies.{IsTrimmedBy, TrimsDump}
+use Rattle.dump_cut.specs.steps.LoadChecks.{IsFirstRejected}
+use Rattle.dump_cut.specs.steps.NamedPaths.{has_named_paths}
+use Rattle.dump_cut.specs.steps.TakenCopies.{IsFirstNotTaken, emptied_by}
+use Rattle.dump_cut.specs.TrimmedCopies.{IsTrimmedBy}
+use Rattle.dump_cut.specs.steps.TrimmedCopies.{TrimsDump}
 use Rattle.dump_cut.proofs.LoadLaws.{unrejected_loads}
 use Rattle.dump_cut.proofs.NamedLemmas.{listed_in_named}
 use Rattle.dump_cut.proofs.OwnFormLemmas.{own_expansion}
 use Rattle.dump_cut.proofs.TakenLaw.{placed_named, revisions_named, taken_dump_loads}
 use Rattle.dump_cut.proofs.TakenLemmas.{taken_revisions_separate}
 use Rattle.dump_cut.proofs.TrimLaw.{trimmed_copies_load}
-use Rattle.dump_expansion.specs.GivenSteads.{GivenStead, IsExpandedBy, steads_in}
-use Rattle.dump_additions.specs.AdditionLaws.{HasAdditions}
-use Rattle.dump_additions.specs.Additions.{AreAdditionsFrom}
+use Rattle.dump_expansion.specs.steps.GivenSteads.{GivenStead, IsExpandedBy, steads_in}
+use Rattle.dump_additions.specs.steps.AdditionLaws.{HasAdditions}
+use Rattle.dump_additions.specs.steps.Additions.{AreAdditionsFrom}
 use Rattle.dump_additions.proofs.AdditionLaw.{additions_load, additions_over}
-use Rattle.cut_cli.specs.Cuts.{AreChangesOf, AreCopiesTaken, AreKnownAs, AreListedButNumbers, BringsNothingBack, CutLoads, ExcludesAsAsked, FiltersOrTrims, FollowsAsAsked, HasPartIf, IsAskedBy, IsClosureOf, IsCutAsAsked, IsCutText, IsObstacleTo, IsReadFor, IsReadyFor, IsSetUp, IsTrimmedIf, LeadsNowhere, MergeinfoStaysByCut, text_read, writes_additions}
-use Rattle.cut_cli.specs.Drive.{CleanTextsAreCuts, CutsDump, CutsInput, WritesBoth, WritesIfAsked, obstacle_status}
-use Rattle.cut_cli.specs.Words.{CutMeaning, asked_map}
+use Rattle.cut_cli.specs.Sent.{IsTrimmedIf}
+use Rattle.cut_cli.specs.steps.Cuts.{AreChangesOf, AreCopiesTaken, AreKnownAs, AreListedButNumbers, BringsNothingBack, CutLoads, ExcludesAsAsked, FiltersOrTrims, FollowsAsAsked, HasPartIf, IsAskedBy, IsClosureOf, IsCutAsAsked, IsCutText, IsObstacleTo, IsReadFor, IsReadyFor, IsSetUp, LeadsNowhere, MergeinfoStaysByCut, text_read, writes_additions}
+use Rattle.cut_cli.specs.steps.Drive.{CleanTextsAreCuts, CutsDump, CutsInput, WritesBoth, WritesIfAsked, obstacle_status}
+use Rattle.cut_cli.specs.Words.{CutMeaning}
+use Rattle.cut_cli.specs.steps.Words.{asked_map}
 use Rattle.cut_cli.specs.declared.examine.Obstacle.{Obstacle}
 use Rattle.cut_cli.specs.steps.Examined.{AreDeletesIfAny}
 use Rattle.dump_history.proofs.restricted.LoadsOnce.{whole_records_once}
@@ -90,7 +93,7 @@ known_numbered records changes listed numbered known =
     subst (λ b. MatchBool b (map listed_of changes ≡ listed) (AreListedButNumbers changes listed)) numbered known
 
 -- so are those of records that make revisions
-read_numbered : (patched : Patching) (records : List DumpRecord) (revisions : List (List Change))
+pub read_numbered : (patched : Patching) (records : List DumpRecord) (revisions : List (List Change))
     → MakeRevisions patched records revisions → are_numbered records ≡ true
 read_numbered patched records revisions makes =
     and_from (list_any is_revision_record records) (counts_from 0 (revision_numbers records))
@@ -461,6 +464,7 @@ module _ (m : CutMeaning) (dump : List ℕ) (settings : Settings) (deletes : Opt
         records = records;
         again = again;
         excludes = set_up.excludes;
+        have_names = set_up.have_names;
         whole = whole;
         whole_again = clean.whole;
         loads = λ patched.

@@ -1,5 +1,5 @@
 -- A run with its last line, and what is reported once its last bytes are written.
-use Rattle.std.proofs.Common.{◌≡◌, ℕ, true, false, List, [], ◌++◌, take, drop, Option, Some, None, Result, Ok, Err, refl, ◌⊎◌, OnErr, OnOk, ◌||◌, is_some, sym, subst, inl, inr, append_assoc, ap, ◌∙◌}
+use Rattle.std.proofs.Common.{◌≡◌, ◌<◌, ◌^◌, ℕ, length, true, false, List, [], ◌++◌, take, drop, Option, Some, None, Result, Ok, Err, refl, ◌⊎◌, OnErr, OnOk, ◌||◌, is_some, sym, subst, inl, inr, append_assoc, ap, ◌∙◌}
 use Rattle.std.proofs.KnownBytes.{Appends-kept, Appends-trans}
 use Rattle.std.proofs.lemmas.List.{append-nil, take-append-drop}
 use Rattle.std.specs.Io.KnownBytes.{Appends, GrowsBy, Keeps, append_known}
@@ -13,8 +13,8 @@ use Rattle.dump_pipeline.specs.declared.answer.Answer.{Answer}
 use Rattle.dump_pipeline.specs.declared.answer.Answer.TheVariants.{Clean, Fault}
 use Rattle.dump_pipeline.specs.declared.answer.Failure.{Failure}
 use Rattle.cli_support.proofs.OutputLemmas.{from_none, handed_on, part_taken}
-use Rattle.cut_cli.specs.Cuts.{IsTrimmedIf}
-use Rattle.cut_cli.specs.Drive.{ArrivesOrBreaksOff, IsKeptOf, IsPartIf, IsSent, RanCut, TakesPart, stop_line_of}
+use Rattle.cut_cli.specs.Sent.{IsTrimmedIf, IsKeptOf, IsPartIf, IsSent, TakesPart, stop_line_of}
+use Rattle.cut_cli.specs.steps.Drive.{ArrivesOrBreaksOff, RanCut}
 use Rattle.cut_cli.specs.steps.Ended.{FailsFirst, TellsAfter}
 
 -- the first bytes of a text, fewer than all
@@ -140,21 +140,21 @@ module _ (deletes : Option (List (List (List ℕ)))) (after : Option ℕ) (filte
       ⊎ (Keeps old new × FailsFirst told)
 
   abbrev pub IsCutSent : Type 0
-  IsCutSent = ((cut sent : List ℕ) × IsTrimmedIf deletes filtered cut × IsPartIf after cut sent
+  IsCutSent = ((cut sent : List ℕ) × (length filtered < 10 ^ 18) × IsTrimmedIf deletes filtered cut × IsPartIf after cut sent
       × ArrivesOrBreaksOff sent (Clean report) old new told) ⊎ (Keeps old new × FailsFirst told)
 
-  pub cut_sent : (cut : List ℕ) → IsTrimmedIf deletes filtered cut → IsSentOf cut → IsCutSent
-  cut_sent cut trims (inl (sent, part, arrives)) = inl (cut, sent, trims, part, arrives)
-  cut_sent cut trims (inr failed) = inr failed
+  pub cut_sent : (cut : List ℕ) → length filtered < 10 ^ 18 → IsTrimmedIf deletes filtered cut → IsSentOf cut → IsCutSent
+  cut_sent cut short trims (inl (sent, part, arrives)) = inl (cut, sent, short, trims, part, arrives)
+  cut_sent cut short trims (inr failed) = inr failed
 
   pub ran_and_sent : (settings : Settings) (dump : List ℕ) (answer : Answer) → (is_some deletes || is_some after) ≡ true
       → RunLeaves settings dump (Some []) (Some filtered) answer → answer ≡ Clean report → IsCutSent
       → RanCut settings deletes after dump old new told ⊎ (Keeps old new × FailsFirst told)
-  ran_and_sent settings dump answer asked ran is (inl (cut, sent, trims, part, arrives)) = inl (record {
+  ran_and_sent settings dump answer asked ran is (inl (cut, sent, short, trims, part, arrives)) = inl (record {
     answer = answer;
     sent = sent;
     answered = in_memory settings deletes after dump filtered sent answer asked ran
-        (subst (λ a. IsKeptOf deletes after filtered sent a) (sym is) (cut, trims, part));
+        (subst (λ a. IsKeptOf deletes after filtered sent a) (sym is) (cut, short, trims, part));
     arrived = subst (λ a. ArrivesOrBreaksOff sent a old new told) (sym is) arrives;
   })
   ran_and_sent settings dump answer asked ran is (inr failed) = inr failed

@@ -3,9 +3,9 @@ use Rattle.std.proofs.Common.{◌≡◌, ◌==◌, ℕ, zero, suc, true, false, 
 use Rattle.std.specs.List.{list_all}
 use Rattle.std.proofs.lemmas.Bool.{and_from, and_parts}
 use Rattle.dump_trees.specs.Paths.{NodePath}
-use Rattle.dump_index.specs.Listed.{Listed}
-use Rattle.dump_cut.specs.NamedPaths.{has_named_paths}
-use Rattle.cut_cli.specs.Cuts.{CutsOtherwise, DiffersBefore}
+use Rattle.dump_index.specs.steps.Listed.{Listed}
+use Rattle.dump_cut.specs.steps.NamedPaths.{has_named_paths}
+use Rattle.cut_cli.specs.steps.Cuts.{CutsOtherwise, DiffersBefore}
 use Rattle.cut_cli.specs.Words.{CutMeaning}
 
 -- the first changes have named paths

@@ -5,17 +5,17 @@ use Rattle.dump_records.specs.RecordText.{DumpRecord}
 use Rattle.dump_rules.specs.declared.options.Side.{Side}
 use Rattle.dump_rules.specs.declared.options.Side.TheVariants.{Exclude, Include}
 use Rattle.dump_trees.specs.Paths.{NodePath}
-use Rattle.dump_index.specs.Listed.{Listed}
-use Rattle.dump_changes.specs.FileTexts.{ToldText, record_texts}
-use Rattle.dump_changes.specs.NodeProperties.{property_blocks}
-use Rattle.dump_cut.specs.LaterParts.{IsWhyNoPart}
-use Rattle.dump_cut.specs.LoadChecks.{IsFirstRejected}
+use Rattle.dump_index.specs.steps.Listed.{Listed}
+use Rattle.dump_changes.specs.steps.FileTexts.{ToldText, record_texts}
+use Rattle.dump_changes.specs.steps.NodeProperties.{property_blocks}
+use Rattle.dump_cut.specs.steps.LaterParts.{IsWhyNoPart}
+use Rattle.dump_cut.specs.steps.LoadChecks.{IsFirstRejected}
 use Rattle.dump_cut.specs.declared.later.NoPart.{NoPart}
 use Rattle.dump_cut.specs.declared.load_check.Rejected.{Rejected}
-use Rattle.dump_expansion.specs.GivenSteads.{GivenStead, IsExpandedBy}
+use Rattle.dump_expansion.specs.steps.GivenSteads.{GivenStead, IsExpandedBy}
 use Rattle.dump_additions.specs.declared.not_added.NotAdded.{NotAdded}
 use Rattle.dump_additions.specs.steps.Nodes.{AreAdditions}
-use Rattle.cut_cli.specs.Cuts.{AreAdditionsUnread, AreChangesOf, BeginsWithChanges, BringsNothingBack, BringsSomeBack, ExcludesAsAsked, ExcludesWithReturns, BeginsAsBefore, HasAdditionsFor, HasPartIf, IsAskedBy, IsNotAdded, IsNotRead, IsObstacleTo, IsTakenDump, IsUnreadFor, StaysBack, writes_additions}
+use Rattle.cut_cli.specs.steps.Cuts.{AreAdditionsUnread, AreChangesOf, BeginsWithChanges, BringsNothingBack, BringsSomeBack, ExcludesAsAsked, ExcludesWithReturns, BeginsAsBefore, HasAdditionsFor, HasPartIf, IsAskedBy, IsNotAdded, IsNotRead, IsObstacleTo, IsTakenDump, IsUnreadFor, StaysBack, writes_additions}
 use Rattle.cut_cli.specs.Words.{CutMeaning}
 use Rattle.cut_cli.specs.declared.examine.Obstacle.{Obstacle}
 use Rattle.cut_cli.specs.declared.examine.Obstacle.TheVariants.{ComesBack}

@@ -8,18 +8,18 @@ use Rattle.std.proofs.lemmas.List.{drop_more, length-map, map-append, take-appen
 use Rattle.std.proofs.lemmas.List.Folds.{list_all-append}
 use Rattle.dump_records.specs.DumpText.{Ending, HasRecords}
 use Rattle.dump_records.specs.RecordText.{DumpRecord}
-use Rattle.dump_index.specs.InOrder.{are_in_order}
+use Rattle.dump_index.specs.steps.InOrder.{are_in_order}
 use Rattle.dump_index.specs.steps.OutOfOrder.{IsFirstOutOfOrder}
-use Rattle.dump_index.specs.Listed.{Listed, listed_of}
+use Rattle.dump_index.specs.steps.Listed.{Listed, listed_of}
 use Rattle.dump_index.specs.declared.change.NodeChange.{NodeChange}
-use Rattle.dump_changes.specs.ListedDumps.{AreListedIn, are_numbered, without_number}
+use Rattle.dump_changes.specs.steps.ListedDumps.{AreListedIn, are_numbered, without_number}
 use Rattle.dump_changes.specs.declared.read.End.{End}
 use Rattle.dump_changes.specs.declared.read.End.TheVariants.{Whole, NoChange, OutOfOrder, Broken}
 use Rattle.dump_changes.specs.declared.read.Reading.{Reading}
 use Rattle.dump_changes.specs.steps.DumpReading.{EndsReading, IsReadingOfDump}
-use Rattle.dump_cut.specs.NamedPaths.{has_named_paths}
+use Rattle.dump_cut.specs.steps.NamedPaths.{has_named_paths}
 use Rattle.dump_cut.proofs.NamedLemmas.{listed_in_named, same_named}
-use Rattle.cut_cli.specs.Cuts.{AreChangesOf, AreKnownAs, AreListedButNumbers, BeginsWithChanges, CopiesByOtherNumbers, IsUnreadFor}
+use Rattle.cut_cli.specs.steps.Cuts.{AreChangesOf, AreKnownAs, AreListedButNumbers, BeginsWithChanges, CopiesByOtherNumbers, IsUnreadFor}
 use Rattle.cut_cli.specs.declared.read.Unread.{Unread}
 use Rattle.cut_cli.specs.declared.read.Unread.TheVariants as unread
 use Rattle.cut_cli.specs.steps.Examined.{AreKnownOf, AreKnownUpTo, AreReadAs, IsUnknownFor, StopsFor}

@@ -4,6 +4,8 @@ pub mod DriveLemmas
 pub mod EarlierLemmas
 pub mod ExamineLemmas
 pub mod FrontLemmas
+mod HeadlineValues
 pub mod MapLemmas
 pub mod UnfollowedLemmas
+pub mod headline
 mod Values

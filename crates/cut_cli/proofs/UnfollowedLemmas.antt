@@ -3,13 +3,13 @@ use Rattle.std.proofs.Common.{◌≡◌, ℕ, Bool, true, false, List, [], ◌�
 use Rattle.std.specs.List.{AllZip}
 use Rattle.dump_trees.specs.Changes.{Made}
 use Rattle.dump_trees.specs.Following.{Way}
-use Rattle.dump_trees.specs.Looking.{Placed}
+use Rattle.dump_trees.specs.steps.Looking.{Placed}
 use Rattle.dump_trees.specs.Paths.{NodePath}
 use Rattle.dump_history.specs.RecordChanges.{Patching}
-use Rattle.dump_index.specs.IndexLaws.{AreListed, HasProps, HasText, IsListed}
-use Rattle.dump_index.specs.Listed.{Listed, listed_of}
-use Rattle.dump_changes.specs.ListedDumps.{NodesMake, are_numbered, without_number}
-use Rattle.cut_cli.specs.Cuts.{AreChangesOf, AreListedButNumbers, BringsSomeBack, FollowsAsAsked, IsTakenDump}
+use Rattle.dump_index.specs.steps.IndexLaws.{AreListed, HasProps, HasText, IsListed}
+use Rattle.dump_index.specs.steps.Listed.{Listed, listed_of}
+use Rattle.dump_changes.specs.steps.ListedDumps.{NodesMake, are_numbered, without_number}
+use Rattle.cut_cli.specs.steps.Cuts.{AreChangesOf, AreListedButNumbers, BringsSomeBack, FollowsAsAsked, IsTakenDump}
 use Rattle.cut_cli.specs.Words.{CutMeaning}
 
 -- some reading of text deltas

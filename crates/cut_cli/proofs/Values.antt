@@ -1,5 +1,5 @@
 -- Worked values of the definitions, computed by the kernel.
-use Rattle.std.proofs.Common.{◌≡◌, ℕ, Bool, List, [], ◌∷◌, length, None, Some, Ok, Err, inl, codes, refl, true, false}
+use Rattle.std.proofs.Common.{◌≡◌, ℕ, Bool, List, [], ◌∷◌, length, None, Some, Ok, Err, inl, codes, refl, true, false, ap}
 use Rattle.std.specs.Fmt.{digits}
 use Rattle.clap.specs.Words.{Text}
 use Rattle.clap.proofs.OnLiterals.{clap_on_literals}
@@ -13,11 +13,15 @@ use Rattle.dump_cut.specs.declared.later.NoPart.TheVariants.{NoRevision}
 use Rattle.dump_text.specs.declared.fault.FaultKind.TheVariants.{Md5}
 use Rattle.cut_cli.specs.CommandLine.{cut_command}
 use Rattle.cli_support.specs.declared.info.Info.TheVariants.{Version}
-use Rattle.cut_cli.specs.Cuts.{writes_additions}
-use Rattle.cut_cli.specs.Drive.{AnswersArguments, AnswersWhole, BeginsMap, EndsMap, FollowsCut, ReadsTargets, obstacle_status, stop_line, stop_line_of}
-use Rattle.cut_cli.specs.RevisionMap.{TakesPartOfMap, fate_lines, last_behind, loaded_number}
+use Rattle.cut_cli.specs.steps.Cuts.{writes_additions}
+use Rattle.cut_cli.specs.Statuses.{TextIsPrinted}
+use Rattle.cut_cli.specs.Sent.{stop_line, stop_line_of}
+use Rattle.cut_cli.specs.steps.Drive.{AnswersWhole, BeginsMap, EndsMap, FollowsCut, ReadsTargets, obstacle_status}
+use Rattle.cut_cli.specs.RevisionMap.{fate_lines, last_behind, loaded_number}
+use Rattle.cut_cli.specs.steps.RevisionMap.{TakesPartOfMap}
 use Rattle.cut_cli.specs.Texts.{info_text}
-use Rattle.cut_cli.specs.Words.{CutMeaning, TellsCut, asked_map, cut_of_words, with_texts_of}
+use Rattle.cut_cli.specs.Words.{CutMeaning, cut_of_words, with_texts_of}
+use Rattle.cut_cli.specs.steps.Words.{TellsCut, asked_map}
 use Rattle.cut_cli.specs.declared.examine.Obstacle.TheVariants.{ComesBack, NoPart, OddDelete}
 
 -- CommandLine
@@ -291,9 +295,8 @@ others_have_one = refl
 no_part_has_one : obstacle_status (NoPart NoRevision) ≡ 1
 no_part_has_one = refl
 
-version_is_printed : AnswersArguments (λ _. None) (Some Version) (Err Words) None (Some []) (Some (info_text Version))
-    (Some []) (Some []) 0
-version_is_printed = (inl (refl, refl), refl)
+version_is_printed : TextIsPrinted (Some Version) (Some []) (Some (info_text Version)) (Some []) (Some []) 0
+version_is_printed info is = let same : Version ≡ info = cc in (inl (ap info_text same, refl), refl)
 
 in_the_file : (with_texts_of (meaning (codes "a" ∷ [])) (codes "b\n" ∷ [])).prefixes ≡ codes "a" ∷ codes "b" ∷ []
 in_the_file = refl

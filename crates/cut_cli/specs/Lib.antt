@@ -1,7 +1,8 @@
 pub mod CommandLine
-pub mod Cuts
-pub mod Drive
+pub mod Headline
 pub mod RevisionMap
+pub mod Sent
+pub mod Statuses
 pub mod Texts
 pub mod Words
 pub mod steps

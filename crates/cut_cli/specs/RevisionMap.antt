@@ -1,12 +1,10 @@
 -- The map of revisions, word for word: the number that each one has in the new repository, or what becomes of references
 -- to it.
-use Rattle.std.specs.Prelude.{◌≡◌, ◌⊎◌, ℕ, ◌+◌, ◌==◌, nat_lt, Bool, true, List, [], ◌∷◌, ◌++◌, Option, Some, None, codes, decimal, unwrap_or, if◌then◌else◌}
-use Rattle.std.specs.Io.KnownBytes.{Appends}
+use Rattle.std.specs.Prelude.{◌≡◌, ℕ, ◌+◌, ◌==◌, nat_lt, Bool, true, List, [], ◌∷◌, ◌++◌, Option, Some, None, codes, decimal, unwrap_or, if◌then◌else◌}
 use Rattle.std.specs.List.{concat}
 use Rattle.dump_records.specs.DumpText.{Ending, HasRecords}
 use Rattle.dump_records.specs.RecordText.{DumpRecord}
 use Rattle.dump_rules.specs.Settings.{Settings}
-use Rattle.dump_writer.specs.SinkWords.{IsPrefixOf}
 use Rattle.dump_cut.specs.RevisionFates.{fates_of_groups}
 use Rattle.dump_cut.specs.declared.fates.RevisionFate.{RevisionFate}
 
@@ -50,8 +48,3 @@ pub record IsMapOfCut (after : Option ℕ) (settings : Settings) (dump text : Li
   pub ending : Ending
   pub has : HasRecords dump records ending
   pub text_is : text ≡ fate_lines after None (fates_of_groups settings records)
-
--- the file took nothing, or a first part of the map
-abbrev pub TakesPartOfMap : Option ℕ → Settings → List ℕ → Option (List ℕ) → Option (List ℕ) → Type 0
-TakesPartOfMap after settings dump old new = Appends old new []
-    ⊎ ((text part : List ℕ) × IsMapOfCut after settings dump text × IsPrefixOf part text × Appends old new part)

@@ -1,5 +1,5 @@
 -- What the program's arguments mean, by the side and by what clap finds after it.
-use Rattle.std.specs.Prelude.{ℕ, Bool, false, ◌||◌, ◌&&◌, List, [], ◌++◌, Result, Ok, Err, codes, drop, map, option_map, unwrap_or, Option, Some, None, is_none, if◌then◌else◌}
+use Rattle.std.specs.Prelude.{ℕ, Bool, false, ◌||◌, ◌&&◌, List, [], ◌++◌, Result, Ok, Err, codes, drop, unwrap_or, Option, Some, None, is_none, if◌then◌else◌}
 use Rattle.std.specs.Option.{option_and_then}
 use Rattle.std.specs.List.{list_any}
 use Rattle.clap.specs.Walk.{is_empty}
@@ -7,13 +7,11 @@ use Rattle.clap.specs.Words.{Row, Text, all_of, first_of}
 use Rattle.dump_text.specs.Number.{number_of}
 use Rattle.dump_rules.specs.declared.options.Side.{Side}
 use Rattle.dump_rules.specs.declared.options.Side.TheVariants.{Exclude, Include}
-use Rattle.dump_pipeline.specs.PlanViews.{worker_count, window_size}
 use Rattle.cli_support.specs.Targets.{prefixes_of_texts}
-use Rattle.cli_support.specs.Arguments.{Answers, flag_number, is_set, meaning_in}
+use Rattle.cli_support.specs.Arguments.{flag_number, is_set, meaning_in}
 use Rattle.cli_support.specs.declared.usage.Usage.{Usage}
 use Rattle.cli_support.specs.declared.usage.Usage.TheVariants.{Words}
 use Rattle.cut_cli.specs.CommandLine.{cut_command}
-use Rattle.cut_cli.specs.declared.words.Call.{Call}
 
 -- what a call asks for: a side, prefixes, files with more of them, the file of a map of revisions, whether copies are
 -- followed, whether what copies bring back is kept, whether emptied revisions are dropped, the revision after which the cut is
@@ -32,23 +30,6 @@ pub record CutMeaning : Type 0 where
   pub verbose : Bool
   pub workers : ℕ
   pub window : ℕ
-
-abbrev pub cut_meaning : Call → CutMeaning
-cut_meaning call = record {
-  side = call.side;
-  prefixes = map (λ prefix. prefix.now) call.prefixes.items;
-  targets = map (λ name. name.now) call.targets.items;
-  map_name = option_map (λ name. name.now) call.map_name;
-  follow = call.follow;
-  keep = call.keep;
-  drop = call.drop;
-  after = call.after;
-  dry_run = call.dry_run;
-  quiet = call.quiet;
-  verbose = call.verbose;
-  workers = worker_count call.plan;
-  window = window_size call.plan;
-}
 
 -- the prefixes of the rows
 abbrev pub prefixes_in : List Row → List Text
@@ -102,14 +83,6 @@ cut_of_side side rows = if are_refused side rows then Err Words else Ok (record 
 abbrev pub cut_of_words : List Text → Result CutMeaning Usage
 cut_of_words words = meaning_in cut_command cut_of_side (drop 1 words)
 
--- the answer to arguments of this meaning: out of memory may hide it, and nothing else
-abbrev pub TellsCut : Result CutMeaning Usage → Result Call Usage → Type 0
-TellsCut meaning answer = Answers cut_meaning meaning answer
-
 -- the same with the prefixes in these texts too
 abbrev pub with_texts_of : CutMeaning → List (List ℕ) → CutMeaning
 with_texts_of m texts = record m { prefixes = m.prefixes ++ prefixes_of_texts texts }
-
--- the file of the map that is written; a trial writes none
-abbrev pub asked_map : CutMeaning → Option Text
-asked_map m = if m.dry_run then None else m.map_name

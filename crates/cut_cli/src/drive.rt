@@ -2,10 +2,14 @@
 ghost use Rattle.std.specs.Prelude.{◌≡◌, ◌⊎◌, ◌||◌, [], IfOk, OnErr, OnOk, is_some, map};
 ghost use Rattle.std.specs.Io.KnownBytes.{Appends, Keeps};
 ghost use Rattle.dump_writer.specs.steps.SinkStates.{lent_taken, loan_of};
-ghost use Rattle.cut_cli.specs.Drive.{AnswersArguments, AnswersCall, AnswersWhole, CutsDump, CutsInput, DrivesCut, RanCut, ReadsTargets, TakesPart, WritesBoth, WritesCut, stop_line, stop_line_of, obstacle_status, cut_status};
+ghost use Rattle.cut_cli.specs.Sent.{TakesPart, stop_line, stop_line_of};
+ghost use Rattle.cut_cli.specs.steps.Drive.{AnswersCall, AnswersWhole, CutsDump, CutsInput, DrivesCut, RanCut, ReadsTargets, WritesBoth, WritesCut, obstacle_status, cut_status};
 ghost use Rattle.cli_support.specs.Info.{info_of};
-ghost use Rattle.cut_cli.specs.Words.{asked_map, cut_of_words, cut_meaning};
-ghost use Rattle.cut_cli.specs.Cuts.{text_read};
+ghost use Rattle.cut_cli.specs.Headline.{ZeroIsCut, ZeroIsDroppedCut, ZeroIsOfKept, ZeroIsRest, ZeroPromises};
+ghost use Rattle.cut_cli.specs.Statuses.{MapIsWritten, NothingIsWritten, PartIsWritten, TextIsPrinted};
+ghost use Rattle.cut_cli.specs.Words.{cut_of_words};
+ghost use Rattle.cut_cli.specs.steps.Words.{asked_map, cut_meaning};
+ghost use Rattle.cut_cli.specs.steps.Cuts.{text_read};
 ghost use Rattle.cut_cli.specs.steps.Examined.{expansion_text};
 ghost use Rattle.cut_cli.specs.steps.Ended.{FailsFirst, TellsAfter};
 
@@ -61,7 +65,14 @@ pub fn drive<
     map_file: &mut M,
     errors: &mut E,
 ) -> u8
-    ensures { AnswersArguments (F.text_of files.now) (info_of (map (λ word. word.now) words.now)) (cut_of_words (map (λ word. word.now) words.now)) (R.remaining reader.old) (W.contents writer.old) (W.contents writer.new) (M.contents map_file.old) (M.contents map_file.new) result }
+    ensures zero { ZeroPromises ZeroIsCut (F.text_of files.now) (info_of (map (λ word. word.now) words.now)) (cut_of_words (map (λ word. word.now) words.now)) (R.remaining reader.old) (W.contents writer.old) (W.contents writer.new) result }
+    ensures zero_drops { ZeroPromises ZeroIsDroppedCut (F.text_of files.now) (info_of (map (λ word. word.now) words.now)) (cut_of_words (map (λ word. word.now) words.now)) (R.remaining reader.old) (W.contents writer.old) (W.contents writer.new) result }
+    ensures zero_after { ZeroPromises ZeroIsRest (F.text_of files.now) (info_of (map (λ word. word.now) words.now)) (cut_of_words (map (λ word. word.now) words.now)) (R.remaining reader.old) (W.contents writer.old) (W.contents writer.new) result }
+    ensures zero_kept { ZeroPromises ZeroIsOfKept (F.text_of files.now) (info_of (map (λ word. word.now) words.now)) (cut_of_words (map (λ word. word.now) words.now)) (R.remaining reader.old) (W.contents writer.old) (W.contents writer.new) result }
+    ensures nothing { NothingIsWritten (info_of (map (λ word. word.now) words.now)) (cut_of_words (map (λ word. word.now) words.now)) (R.remaining reader.old) (W.contents writer.old) (W.contents writer.new) result }
+    ensures part { PartIsWritten (info_of (map (λ word. word.now) words.now)) (R.remaining reader.old) (W.contents writer.old) (W.contents writer.new) result }
+    ensures mapped { MapIsWritten (info_of (map (λ word. word.now) words.now)) (cut_of_words (map (λ word. word.now) words.now)) (R.remaining reader.old) (W.contents writer.old) (W.contents writer.new) (M.contents map_file.old) (M.contents map_file.new) result }
+    ensures printed { TextIsPrinted (info_of (map (λ word. word.now) words.now)) (W.contents writer.old) (W.contents writer.new) (M.contents map_file.old) (M.contents map_file.new) result }
 {
     match info_of(words) {
         Some(info) => print_text(alloc, info_text(info), PROGRAM, writer, errors),

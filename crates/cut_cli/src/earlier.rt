@@ -2,10 +2,10 @@
 ghost use Rattle.std.specs.Prelude.{IfOk, IsTrue, MatchBool, map};
 ghost use Rattle.std.specs.List.{list_all};
 ghost use Rattle.dump_trees.specs.Paths.{names_of};
-ghost use Rattle.dump_cut.specs.NamedPaths.{has_named_paths};
+ghost use Rattle.dump_cut.specs.steps.NamedPaths.{has_named_paths};
 ghost use Rattle.dump_cut.specs.steps.ExcludedPaths.{paths_of};
-ghost use Rattle.cut_cli.specs.Cuts.{BeginsAsBefore, CutsOtherwise, DiffersBefore};
-ghost use Rattle.cut_cli.specs.Words.{cut_meaning};
+ghost use Rattle.cut_cli.specs.steps.Cuts.{BeginsAsBefore, CutsOtherwise, DiffersBefore};
+ghost use Rattle.cut_cli.specs.steps.Words.{cut_meaning};
 
 use crate::copy_lines::write_differences;
 use crate::examine::ask_paths;

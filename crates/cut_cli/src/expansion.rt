@@ -3,9 +3,9 @@
 ghost use Rattle.std.specs.Prelude.{IfOk, IsTrue, MatchBool, MatchOption, MatchResult};
 ghost use Rattle.clap.specs.Walk.{is_empty};
 ghost use Rattle.std.specs.List.{list_all};
-ghost use Rattle.dump_cut.specs.NamedPaths.{has_named_paths};
+ghost use Rattle.dump_cut.specs.steps.NamedPaths.{has_named_paths};
 ghost use Rattle.dump_cut.specs.steps.ExcludedPaths.{paths_of};
-ghost use Rattle.cut_cli.specs.Cuts.{BringsNothingBack, BringsSomeBack, HasAdditionsFor, IsNotAdded, IsNotRead, IsTakenDump};
+ghost use Rattle.cut_cli.specs.steps.Cuts.{BringsNothingBack, BringsSomeBack, HasAdditionsFor, IsNotAdded, IsNotRead, IsTakenDump};
 ghost use Rattle.cut_cli.specs.steps.Examined.{IsFrontToCut};
 
 use crate::read::{Front, read_front};

@@ -1,9 +1,9 @@
 //! The map of revisions: the number of each one in the new repository.
 ghost use Rattle.std.specs.Prelude.{◌≡◌, ◌+◌, ◌<◌, ◌^◌, ◌++◌, [], if◌then◌else◌, IfOk, None, OnOk, false, true, is_some, unwrap_or};
 ghost use Rattle.std.specs.Io.KnownBytes.{Keeps};
-ghost use Rattle.cut_cli.specs.Drive.{BeginsMap, EndsMap, WritesMap};
+ghost use Rattle.cut_cli.specs.steps.Drive.{BeginsMap, EndsMap, WritesMap};
 ghost use Rattle.cut_cli.specs.RevisionMap.{IsMapOfCut, fate_line, fate_lines, has_line, last_behind, loaded_number};
-ghost use Rattle.cut_cli.specs.Words.{asked_map, cut_meaning};
+ghost use Rattle.cut_cli.specs.steps.Words.{asked_map, cut_meaning};
 
 use crate::mistakes::{write_cut_map, write_no_map};
 use crate::words::{Call, asked_map};

@@ -1,10 +1,10 @@
 //! Cuts that are kept in memory before they are written: those with deletes, and parts.
-ghost use Rattle.std.specs.Prelude.{◌≡◌, ◌⊎◌, ◌||◌, List, ℕ, [], IfOk, is_some, true};
+ghost use Rattle.std.specs.Prelude.{◌≡◌, ◌<◌, ◌^◌, ◌⊎◌, ◌||◌, List, ℕ, [], IfOk, is_some, length, true};
 ghost use Rattle.std.specs.Io.KnownBytes.{Keeps};
 ghost use Rattle.dump_writer.specs.steps.SinkStates.{loan_of};
 ghost use Rattle.dump_pipeline.specs.declared.answer.Answer.TheVariants.{Clean};
-ghost use Rattle.cut_cli.specs.Cuts.{IsTrimmedIf};
-ghost use Rattle.cut_cli.specs.Drive.{ArrivesOrBreaksOff, IsPartIf, RanCut};
+ghost use Rattle.cut_cli.specs.Sent.{IsTrimmedIf, IsPartIf};
+ghost use Rattle.cut_cli.specs.steps.Drive.{ArrivesOrBreaksOff, RanCut};
 ghost use Rattle.cut_cli.specs.steps.Ended.{FailsFirst};
 
 use crate::drive::{flush_after, write_ending, write_whole};
@@ -20,6 +20,9 @@ use std::thread::Threads;
 
 /// How many bytes the sink in memory takes in one call.
 const MOST: usize = 1 << 20;
+
+/// How many bytes of a cut are kept in memory at most. A length of more than 18 digits could not be read again.
+const LONGEST: usize = 999_999_999_999_999_999;
 
 /// Runs the filter into memory. Then writes the result with the deletes after its nodes, or the part of this after a
 /// revision. If the filter found a fault, only the last line is written.
@@ -77,11 +80,14 @@ fn send_cut<W: Write>(
 ) -> Answer
     requires waiting { sink.old.waiting ≡ [] }
     requires start { sink.old.out.start ≡ sink.old.out.taken }
-    ensures sent { ((cut sent : List ℕ) × IsTrimmedIf deletes.now filtered.now cut × IsPartIf after cut sent
+    ensures sent { ((cut sent : List ℕ) × (length filtered.now < 10 ^ 18) × IsTrimmedIf deletes.now filtered.now cut × IsPartIf after cut sent
         × ArrivesOrBreaksOff sent (Clean report) sink.old.out.taken sink.new.out.taken result)
         ⊎ (Keeps sink.old.out.taken sink.new.out.taken × FailsFirst result) }
     ensures loan { loan_of sink.new ≡ loan_of sink.old }
 {
+    if filtered.len() > LONGEST {
+        return failed_first(Failure::Memory);
+    }
     let Some(deletes) = deletes else {
         return send_part(alloc, report, filtered, after, sink);
     };

@@ -1,11 +1,11 @@
 //! Reads the changes of a dump into an index, or says why this isn't possible.
 ghost use Rattle.std.specs.Prelude.{◌≡◌, ℕ, Bool, List, true, IfOk, IsTrue, MatchResult, map};
 ghost use Rattle.std.specs.List.{list_all};
-ghost use Rattle.dump_index.specs.InOrder.{are_in_order};
-ghost use Rattle.dump_index.specs.Listed.{listed_of};
-ghost use Rattle.dump_changes.specs.ListedDumps.{without_number};
+ghost use Rattle.dump_index.specs.steps.InOrder.{are_in_order};
+ghost use Rattle.dump_index.specs.steps.Listed.{listed_of};
+ghost use Rattle.dump_changes.specs.steps.ListedDumps.{without_number};
 ghost use Rattle.dump_changes.specs.steps.DumpReading.{IsReadingOfDump};
-ghost use Rattle.dump_cut.specs.NamedPaths.{has_named_paths};
+ghost use Rattle.dump_cut.specs.steps.NamedPaths.{has_named_paths};
 ghost use Rattle.cut_cli.specs.steps.Examined.{IsFrontOf, IsKnownOf, IsUnknownFor, StopsFor};
 
 use dump_changes::{End, Memory, Reading, copies_from_gap, read_changes, with_loaded_source};

@@ -10,7 +10,8 @@ ghost use Rattle.cli_support.specs.steps.LineReading.{ReadsLine};
 ghost use Rattle.cli_support.specs.Arguments.{flag_number};
 ghost use Rattle.cli_support.specs.steps.FilledFlags.{AreFilled};
 ghost use Rattle.dump_pipeline.specs.PlanViews.{worker_count, window_size};
-ghost use Rattle.cut_cli.specs.Words.{TellsCut, are_refused, asked_map, cut_of_words, cut_of_side, cut_meaning, goes_on_wrongly, keeps_wrongly, prefixes_in, targets_in, with_texts_of};
+ghost use Rattle.cut_cli.specs.Words.{are_refused, cut_of_words, cut_of_side, goes_on_wrongly, keeps_wrongly, prefixes_in, targets_in, with_texts_of};
+ghost use Rattle.cut_cli.specs.steps.Words.{TellsCut, asked_map, cut_meaning};
 
 use crate::command::cut_command;
 use crate::mistakes::{Mistake, write_mistake, write_refused_line};

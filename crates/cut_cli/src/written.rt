@@ -1,7 +1,7 @@
 //! Reports copies that are written as additions.
 ghost use Rattle.std.specs.Prelude.{IsTrue, ◌≤◌, length};
 ghost use Rattle.std.specs.List.{list_all};
-ghost use Rattle.dump_cut.specs.NamedPaths.{has_named_paths};
+ghost use Rattle.dump_cut.specs.steps.NamedPaths.{has_named_paths};
 
 use crate::copy_lines::{
     write_kept, write_replaced, write_returns, write_written, write_written_parents,

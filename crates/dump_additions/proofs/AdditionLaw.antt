@@ -5,27 +5,27 @@ use Rattle.std.proofs.lemmas.Simd.{map-map}
 use Rattle.dump_records.specs.RecordText.{DumpRecord}
 use Rattle.dump_filter.specs.FilterLaws.{keep_all}
 use Rattle.dump_trees.specs.Changes.{Change}
-use Rattle.dump_trees.specs.Expansions.{AllRevisionsExpand}
-use Rattle.dump_trees.specs.Looking.{placed_from}
+use Rattle.dump_trees.specs.steps.Expansions.{AllRevisionsExpand}
+use Rattle.dump_trees.specs.steps.Looking.{placed_from}
 use Rattle.dump_trees.specs.Paths.{NodePath}
 use Rattle.dump_trees.specs.Trees.{Tree, root_alone}
 use Rattle.dump_trees.proofs.expansions.FiniteSteps.{AllFinite, IsFinite, finite_root}
 use Rattle.dump_history.specs.CopiesOver.{some_copies_over}
-use Rattle.dump_history.specs.ExpandedDumps.{Stead}
-use Rattle.dump_history.specs.ExpandedText.{made_in_stead}
+use Rattle.dump_history.specs.steps.ExpandedDumps.{Stead}
+use Rattle.dump_history.specs.steps.ExpandedText.{made_in_stead}
 use Rattle.dump_history.specs.RecordChanges.{Patching}
 use Rattle.dump_history.proofs.expanded.ExpandedLaw.{expanded_dump_loads}
 use Rattle.dump_history.proofs.expanded.SteadLemmas.{expansions_are_dumps}
-use Rattle.dump_index.specs.IndexLaws.{AreListed}
-use Rattle.dump_index.specs.Listed.{Listed, listed_of}
+use Rattle.dump_index.specs.steps.IndexLaws.{AreListed}
+use Rattle.dump_index.specs.steps.Listed.{Listed, listed_of}
 use Rattle.dump_index.specs.declared.change.NodeChange.{NodeChange}
-use Rattle.dump_changes.specs.FileTexts.{record_texts}
-use Rattle.dump_changes.specs.NodeProperties.{ListNodes, node_numbers, property_blocks}
+use Rattle.dump_changes.specs.steps.FileTexts.{record_texts}
+use Rattle.dump_changes.specs.steps.NodeProperties.{ListNodes, node_numbers, property_blocks}
 use Rattle.dump_changes.proofs.PropertyLemmas.{nodes_are}
-use Rattle.dump_expansion.specs.ByChanges.{are_given_for, expanded_by, steads_for}
-use Rattle.dump_expansion.specs.GivenSteads.{GivenStead, steads_in}
+use Rattle.dump_expansion.specs.steps.ByChanges.{are_given_for, expanded_by, steads_for}
+use Rattle.dump_expansion.specs.steps.GivenSteads.{GivenStead, steads_in}
 use Rattle.dump_expansion.proofs.ByChanges.{steads_by_changes}
-use Rattle.dump_additions.specs.AdditionLaws.{AdditionsCopyOverNothing, AdditionsExpand, AdditionsLoadTheSame, HasAdditions}
+use Rattle.dump_additions.specs.steps.AdditionLaws.{AdditionsCopyOverNothing, AdditionsExpand, AdditionsLoadTheSame, HasAdditions}
 use Rattle.dump_additions.proofs.AdditionLemmas.{AllRevisionsKnown, AreSteadsFrom, revisions_expand, revisions_known}
 use Rattle.dump_additions.proofs.CopyOverLemmas.{revisions_none}
 use Rattle.dump_additions.proofs.NumberLemmas.{numbers_of, numbers_rise, rise, steads_are}
@@ -38,7 +38,7 @@ module _ (patched : Patching) (dump : List ℕ) (records : List DumpRecord) (cha
       let (placed, nodes, zip) = h.listed patched in
       let same = nodes_are patched records revisions placed h.loads.makes nodes in
       record {
-        make = subst (Rattle.dump_changes.specs.ListedDumps.NodesMake patched None records) same nodes;
+        make = subst (Rattle.dump_changes.specs.steps.ListedDumps.NodesMake patched None records) same nodes;
         listed = subst (AreListed changes) same zip;
         numbers = h.numbers;
       }

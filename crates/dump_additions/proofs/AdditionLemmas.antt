@@ -7,17 +7,18 @@ use Rattle.std.proofs.lemmas.List.{length-append}
 use Rattle.dump_text.specs.PropertyList.{Property}
 use Rattle.dump_records.specs.RecordText.{DumpRecord}
 use Rattle.dump_filter.specs.FilterLaws.{keep_all}
-use Rattle.dump_trees.specs.Branches.{Branch, tree_of}
+use Rattle.dump_trees.specs.steps.Branches.{Branch, tree_of}
 use Rattle.dump_trees.specs.Changes.{Change, History, Made, TextChange, deleted, edited_with, is_copied, is_directory_at, made_in, props_set, step, steps, text_set}
-use Rattle.dump_trees.specs.ComingBack.{properties_of}
-use Rattle.dump_trees.specs.ExpansionCases.{deletion_of}
-use Rattle.dump_trees.specs.Expansions.{AllExpand, AllRevisionsExpand, Expands}
-use Rattle.dump_trees.specs.LoadCheck.{Kinds, delta_applies, is_directory, kind_left, kinds_allow, kinds_before, making_allowed, node_set}
-use Rattle.dump_trees.specs.Looking.{Placed, end_of, look, placed_from}
+use Rattle.dump_trees.specs.steps.ComingBack.{properties_of}
+use Rattle.dump_trees.specs.steps.ExpansionCases.{deletion_of}
+use Rattle.dump_trees.specs.steps.Expansions.{AllExpand, AllRevisionsExpand, Expands}
+use Rattle.dump_trees.specs.steps.LoadCheck.{Kinds, delta_applies, is_directory, kind_left, kinds_allow, kinds_before, making_allowed, node_set}
+use Rattle.dump_trees.specs.steps.Looking.{Placed, end_of, look, placed_from}
 use Rattle.dump_trees.specs.Paths.{NodePath, names_of, parent_of}
 use Rattle.dump_trees.specs.Revisions.{loaded, loaded_over}
-use Rattle.dump_trees.specs.Trees.{HasDirectories, Node, Tree, empty_tree, grafted, root_alone}
-use Rattle.dump_trees.specs.WritingOut.{file_of, directory_of}
+use Rattle.dump_trees.specs.Trees.{Node, Tree, empty_tree, grafted, root_alone}
+use Rattle.dump_trees.specs.steps.Trees.{HasDirectories}
+use Rattle.dump_trees.specs.steps.WritingOut.{file_of, directory_of}
 use Rattle.dump_trees.proofs.cuts.CheckedLoads.{AreFrom, Pushed, all_from, from_append, of_one, one_from, placed_append, placed_cut, pushed, steps_then, one_length}
 use Rattle.dump_trees.proofs.cuts.CheckedSteps.{parent_directory, step_is_allowed}
 use Rattle.dump_trees.proofs.expansions.BranchLemmas.{graft_outside}
@@ -31,29 +32,30 @@ use Rattle.dump_trees.proofs.expansions.StayingLemmas.{copied_same}
 use Rattle.dump_trees.proofs.histories.FrontLemmas.{loaded_behind}
 use Rattle.dump_trees.proofs.histories.KeptNumbers.{length_push}
 use Rattle.dump_history.specs.RecordChanges.{Patching}
-use Rattle.dump_history.specs.WrittenNodes.{WrittenNode, replacing, written_change}
-use Rattle.dump_history.specs.ExpandedDumps.{OwnForm, Stead}
-use Rattle.dump_history.specs.ExpandedText.{changes_for, expanded_changes}
+use Rattle.dump_history.specs.WrittenNodes.{WrittenNode}
+use Rattle.dump_history.specs.steps.WrittenNodes.{replacing, written_change}
+use Rattle.dump_history.specs.steps.ExpandedDumps.{OwnForm, Stead}
+use Rattle.dump_history.specs.steps.ExpandedText.{changes_for, expanded_changes}
 use Rattle.dump_history.proofs.cuts.TrimmedLaw.{each_change_stays}
-use Rattle.dump_index.specs.IndexLaws.{HasText, IsListed}
-use Rattle.dump_index.specs.InOrder.{are_in_order}
-use Rattle.dump_index.specs.Kinds.{kind_look}
-use Rattle.dump_index.specs.Listed.{Listed, all_placed, listed_of}
-use Rattle.dump_index.specs.ToldKinds.{kind_meant}
+use Rattle.dump_index.specs.steps.IndexLaws.{HasText, IsListed}
+use Rattle.dump_index.specs.steps.InOrder.{are_in_order}
+use Rattle.dump_index.specs.steps.Kinds.{kind_look}
+use Rattle.dump_index.specs.steps.Listed.{Listed, all_placed, listed_of}
+use Rattle.dump_index.specs.steps.ToldKinds.{kind_meant}
 use Rattle.dump_index.specs.declared.change.NodeChange.{NodeChange}
 use Rattle.dump_index.specs.declared.change.NodeKind.{NodeKind}
 use Rattle.dump_index.specs.declared.change.Setting.TheVariants.{Keeps}
 use Rattle.dump_index.proofs.LawLemmas.{end_same}
 use Rattle.dump_index.proofs.ToldLemmas.{index_tells_kinds}
-use Rattle.dump_changes.specs.FileTexts.{IsStoredAt, TextStored, ToldText, record_texts}
-use Rattle.dump_changes.specs.NodeProperties.{ArePropertiesAt, ListNodes, property_blocks}
+use Rattle.dump_changes.specs.steps.FileTexts.{IsStoredAt, TextStored, ToldText, record_texts}
+use Rattle.dump_changes.specs.steps.NodeProperties.{ArePropertiesAt, ListNodes, property_blocks}
 use Rattle.dump_changes.proofs.TextLemmas.{whole_is_of_file}
-use Rattle.dump_expansion.specs.ByChanges.{expanded_by}
-use Rattle.dump_expansion.specs.GivenSteads.{GivenStead, left_alone}
-use Rattle.dump_additions.specs.Additions.{AreNodesOf, IsAddition, IsNodeOfForm, MakesRoot, copies_over}
+use Rattle.dump_expansion.specs.steps.ByChanges.{expanded_by}
+use Rattle.dump_expansion.specs.steps.GivenSteads.{GivenStead, left_alone}
+use Rattle.dump_additions.specs.steps.Additions.{AreNodesOf, IsAddition, IsNodeOfForm, MakesRoot, copies_over}
 use Rattle.dump_additions.specs.declared.parts.Form.{Form}
 use Rattle.dump_additions.specs.declared.parts.Form.TheVariants.{Copy, Directory, File}
-use Rattle.dump_additions.specs.Parts.{ArePartsOf, PartMeant}
+use Rattle.dump_additions.specs.steps.Parts.{ArePartsOf, PartMeant}
 use Rattle.dump_additions.specs.steps.WrittenParts.{AreChangesFor, AreEntriesAt, IsChangeOfForm}
 use Rattle.dump_additions.proofs.CopyLemmas.{WritesRoot, copy_expands, early, in_trees}
 use Rattle.dump_additions.proofs.EntryLemmas.{set_again}
@@ -82,7 +84,7 @@ no_text_of None is = refl
 no_text_of (Some change) is = absurd is
 
 some_kind : (o : Option NodeKind) (n : Option Node)
-    → option_map kind_meant o ≡ option_map Rattle.dump_trees.specs.LoadCheck.kind_of_node n → is_some o ≡ is_some n
+    → option_map kind_meant o ≡ option_map Rattle.dump_trees.specs.steps.LoadCheck.kind_of_node n → is_some o ≡ is_some n
 some_kind None None is = refl
 some_kind None (Some node) is = absurd (cc)
 some_kind (Some kind) None is = absurd (cc)

@@ -3,35 +3,35 @@ use Rattle.std.proofs.Common.{◌≡◌, ℕ, true, List, [], ◌∷◌, ◌++�
 use Rattle.std.specs.Prelude.{slice_get}
 use Rattle.dump_text.specs.PropertyList.{Property}
 use Rattle.dump_filter.specs.FilterLaws.{keep_all}
-use Rattle.dump_trees.specs.Branches.{Branch, Branches, HasBranch, is_distinct}
+use Rattle.dump_trees.specs.steps.Branches.{Branch, Branches, HasBranch, is_distinct}
 use Rattle.dump_trees.specs.Changes.{Change, Made, PropertyChange, TextChange, edited_with, new_props, new_text, step}
-use Rattle.dump_trees.specs.ComingBack.{properties_of}
-use Rattle.dump_trees.specs.ExpansionCases.{branch_made, branch_with_props, branch_with_text}
-use Rattle.dump_trees.specs.Expansions.{Expands}
-use Rattle.dump_trees.specs.Looking.{end_of, placed_from}
+use Rattle.dump_trees.specs.steps.ComingBack.{properties_of}
+use Rattle.dump_trees.specs.steps.ExpansionCases.{branch_made, branch_with_props, branch_with_text}
+use Rattle.dump_trees.specs.steps.Expansions.{Expands}
+use Rattle.dump_trees.specs.steps.Looking.{end_of, placed_from}
 use Rattle.dump_trees.specs.Paths.{NodePath}
 use Rattle.dump_trees.specs.Revisions.{loaded_over}
 use Rattle.dump_trees.specs.Trees.{Node, Tree, root_alone}
-use Rattle.dump_trees.specs.WritingOut.{file_of, directory_of}
+use Rattle.dump_trees.specs.steps.WritingOut.{file_of, directory_of}
 use Rattle.dump_trees.proofs.expansions.EveryLemmas.{copies_something}
 use Rattle.dump_trees.proofs.expansions.CaseLemmas.{copy_makes}
 use Rattle.dump_trees.proofs.expansions.FiniteLemmas.{Stands}
 use Rattle.dump_trees.proofs.expansions.FiniteSteps.{AllFinite, IsFinite, finite_directories, finite_stands}
 use Rattle.dump_trees.proofs.expansions.StandingLemmas.{copy_has_tree}
 use Rattle.dump_trees.proofs.histories.KeptNumbers.{get_before}
-use Rattle.dump_history.specs.WrittenNodes.{replacing}
-use Rattle.dump_index.specs.Children.{AreChildren, is_child_named}
-use Rattle.dump_index.specs.IndexLaws.{AreListed}
-use Rattle.dump_index.specs.InOrder.{are_in_order}
-use Rattle.dump_index.specs.Kinds.{kind_look, node_kind}
-use Rattle.dump_index.specs.Listed.{Listed, all_placed, listed_of}
+use Rattle.dump_history.specs.steps.WrittenNodes.{replacing}
+use Rattle.dump_index.specs.steps.Children.{AreChildren, is_child_named}
+use Rattle.dump_index.specs.steps.IndexLaws.{AreListed}
+use Rattle.dump_index.specs.steps.InOrder.{are_in_order}
+use Rattle.dump_index.specs.steps.Kinds.{kind_look, node_kind}
+use Rattle.dump_index.specs.steps.Listed.{Listed, all_placed, listed_of}
 use Rattle.dump_index.specs.declared.change.NodeChange.{NodeChange}
 use Rattle.dump_index.specs.declared.change.NodeKind.TheVariants as kinds
 use Rattle.dump_index.proofs.LawLemmas.{end_same}
 use Rattle.dump_index.proofs.PlainLemmas.{children_of_trees, kinds_of_trees}
 use Rattle.dump_additions.specs.declared.parts.Form.{Form}
 use Rattle.dump_additions.specs.declared.parts.Form.TheVariants.{Copy, Directory, File}
-use Rattle.dump_additions.specs.Parts.{ArePartsOf, PartMeant, kind_in}
+use Rattle.dump_additions.specs.steps.Parts.{ArePartsOf, PartMeant, kind_in}
 use Rattle.dump_additions.specs.steps.WrittenParts.{AreChangesFor, IsDirectoryWritten, props_made}
 use Rattle.dump_additions.proofs.ExpandLemmas.{directory_expands, made_of, written_expands}
 use Rattle.dump_additions.proofs.RootLemmas.{root_made}

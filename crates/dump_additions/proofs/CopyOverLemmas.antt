@@ -10,11 +10,13 @@ use Rattle.std.proofs.lemmas.Option.{same_Some}
 use Rattle.std.proofs.lemmas.Slice.Eq.{bytes_eq-Decides}
 use Rattle.dump_text.specs.PropertyList.{Property}
 use Rattle.dump_trees.specs.Changes.{Change, History, Made, is_copied, step, steps}
-use Rattle.dump_trees.specs.ExpansionCases.{deletion_of}
-use Rattle.dump_trees.specs.LoadCheck.{Kinds, delta_applies, is_directory, is_file, kind_left, kind_made, kinds_allow, kinds_before, making_allowed, node_set, sets_props}
+use Rattle.dump_trees.specs.steps.ExpansionCases.{deletion_of}
+use Rattle.dump_trees.specs.LoadCheck.{sets_props}
+use Rattle.dump_trees.specs.steps.LoadCheck.{Kinds, delta_applies, is_directory, is_file, kind_left, kind_made, kinds_allow, kinds_before, making_allowed, node_set}
 use Rattle.dump_trees.specs.Paths.{NodePath, below, names_of}
 use Rattle.dump_trees.specs.Revisions.{loaded}
-use Rattle.dump_trees.specs.Trees.{HasDirectories, Tree}
+use Rattle.dump_trees.specs.Trees.{Tree}
+use Rattle.dump_trees.specs.steps.Trees.{HasDirectories}
 use Rattle.dump_trees.proofs.changes.TreeLemmas.{below_found, below_rest}
 use Rattle.dump_trees.proofs.cuts.CheckedSteps.{change_leaves, kind_of_left, kind_of_made, kind_some, left_of, made_over, step_is_allowed}
 use Rattle.dump_trees.proofs.cuts.EverSiblings.{file_some}
@@ -22,17 +24,18 @@ use Rattle.dump_trees.proofs.cuts.CoveredPaths.{exists_above}
 use Rattle.dump_trees.proofs.cuts.FollowLemmas.{then_some}
 use Rattle.dump_trees.proofs.quiet.LeavingLemmas.{step_leaves}
 use Rattle.dump_history.specs.CopiesOver.{copies_over_changed, copies_to, is_changed_after, some_copies_over}
-use Rattle.dump_history.specs.ExpandedDumps.{Stead}
-use Rattle.dump_history.specs.ExpandedText.{changes_for, expanded_changes}
-use Rattle.dump_history.specs.WrittenNodes.{WrittenNode, written_change}
-use Rattle.dump_index.specs.Children.{is_child_named}
-use Rattle.dump_index.specs.Kinds.{kind_look}
-use Rattle.dump_index.specs.Listed.{Listed}
-use Rattle.dump_changes.specs.FileTexts.{ToldText}
-use Rattle.dump_expansion.specs.ByChanges.{expanded_by}
-use Rattle.dump_expansion.specs.GivenSteads.{GivenStead}
-use Rattle.dump_additions.specs.Additions.{AreNodesOf, IsAddition, IsNodeOfForm, MakesRoot, copies_over}
-use Rattle.dump_additions.specs.Parts.{ArePartsIn, ArePartsOf, Copied, Named, NoName, NoPart, Opened, PartMeant, WrittenFile}
+use Rattle.dump_history.specs.steps.ExpandedDumps.{Stead}
+use Rattle.dump_history.specs.steps.ExpandedText.{changes_for, expanded_changes}
+use Rattle.dump_history.specs.WrittenNodes.{WrittenNode}
+use Rattle.dump_history.specs.steps.WrittenNodes.{written_change}
+use Rattle.dump_index.specs.steps.Children.{is_child_named}
+use Rattle.dump_index.specs.steps.Kinds.{kind_look}
+use Rattle.dump_index.specs.steps.Listed.{Listed}
+use Rattle.dump_changes.specs.steps.FileTexts.{ToldText}
+use Rattle.dump_expansion.specs.steps.ByChanges.{expanded_by}
+use Rattle.dump_expansion.specs.steps.GivenSteads.{GivenStead}
+use Rattle.dump_additions.specs.steps.Additions.{AreNodesOf, IsAddition, IsNodeOfForm, MakesRoot, copies_over}
+use Rattle.dump_additions.specs.steps.Parts.{Copied, Named, NoName, NoPart, Opened, WrittenFile, ArePartsIn, ArePartsOf, PartMeant}
 use Rattle.dump_additions.specs.declared.parts.Form.{Form}
 use Rattle.dump_additions.specs.declared.parts.Form.TheVariants.{Copy, Directory, File}
 use Rattle.dump_additions.proofs.AdditionLemmas.{AllKnown, AllRevisionsKnown, ClearedFirst, InPlace, IsKnown, IsSteadAt, LeftAlone}

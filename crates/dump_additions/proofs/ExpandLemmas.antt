@@ -3,14 +3,15 @@ use Rattle.std.proofs.Common.{◌≡◌, ℕ, true, false, List, [], ◌∷◌, 
 use Rattle.std.specs.Prelude.{if◌then◌else◌}
 use Rattle.dump_text.specs.PropertyList.{Property}
 use Rattle.dump_filter.specs.FilterLaws.{keep_all}
-use Rattle.dump_trees.specs.Branches.{Branch, Branches, HasBranch, is_distinct}
+use Rattle.dump_trees.specs.steps.Branches.{Branch, Branches, HasBranch, is_distinct}
 use Rattle.dump_trees.specs.Changes.{Change, History, Made, PropertyChange, edited_with}
-use Rattle.dump_trees.specs.ExpansionCases.{branch_made, branch_with_props, branch_with_text, deletion_of}
-use Rattle.dump_trees.specs.Expansions.{Expands}
+use Rattle.dump_trees.specs.steps.ExpansionCases.{branch_made, branch_with_props, branch_with_text, deletion_of}
+use Rattle.dump_trees.specs.steps.Expansions.{Expands}
 use Rattle.dump_trees.specs.Paths.{NodePath}
-use Rattle.dump_trees.specs.Trees.{HasDirectories, Node, Tree}
-use Rattle.dump_trees.specs.WritingOut.{WritesOut, directory_of}
-use Rattle.dump_history.specs.WrittenNodes.{replacing}
+use Rattle.dump_trees.specs.Trees.{Node, Tree}
+use Rattle.dump_trees.specs.steps.Trees.{HasDirectories}
+use Rattle.dump_trees.specs.steps.WritingOut.{WritesOut, directory_of}
+use Rattle.dump_history.specs.steps.WrittenNodes.{replacing}
 use Rattle.dump_history.proofs.expanded.ReplacingLemmas.{kept_copy_replaces}
 use Rattle.dump_trees.proofs.expansions.CaseLemmas.{kept_copy}
 use Rattle.dump_additions.specs.steps.WrittenParts.{IsDirectoryWritten, props_made}

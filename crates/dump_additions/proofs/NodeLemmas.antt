@@ -6,31 +6,30 @@ use Rattle.std.proofs.lemmas.List.{get_or-map, length-map, map-append, take_all,
 use Rattle.std.proofs.lemmas.List.Elements.{Contains-get_or}
 use Rattle.dump_trees.specs.Paths.{NodePath, names_of, path_of}
 use Rattle.dump_trees.specs.Changes.{Made}
-use Rattle.dump_trees.specs.ExpansionCases.{deletion_of}
+use Rattle.dump_trees.specs.steps.ExpansionCases.{deletion_of}
 use Rattle.dump_trees.specs.Siblings.{has_node_names}
 use Rattle.dump_trees.proofs.paths.SiblingLemmas.{both_names}
 use Rattle.dump_history.specs.WrittenNodes.{WrittenNode, can_be_written}
-use Rattle.dump_index.specs.Listed.{Listed}
+use Rattle.dump_index.specs.steps.Listed.{Listed}
 use Rattle.dump_index.specs.declared.change.NodeKind.{NodeKind}
 use Rattle.dump_index.specs.declared.change.NodeKind.TheVariants as kinds
-use Rattle.dump_changes.specs.FileTexts.{ToldText}
-use Rattle.dump_index.specs.InOrder.{ends_in_slash}
+use Rattle.dump_changes.specs.steps.FileTexts.{ToldText}
+use Rattle.dump_index.specs.steps.InOrder.{ends_in_slash}
 use Rattle.dump_index.specs.steps.Touching.{joined_text}
 use Rattle.dump_index.proofs.SlashLemmas.{names_joined}
 use Rattle.dump_cut.proofs.ParentLemmas.{ends_named}
-use Rattle.dump_expansion.specs.GivenSteads.{GivenStead}
+use Rattle.dump_expansion.specs.steps.GivenSteads.{GivenStead}
 use Rattle.dump_expansion.specs.steps.NewNodes.{written_kind}
 use Rattle.dump_expansion.specs.declared.expanding.Stead as code
-use Rattle.dump_additions.specs.Additions.{AreNodesOf, BringsNone, IsAddition, IsCleared, IsNodeOf, IsRootOf, SaysKind, copies_over}
-use Rattle.dump_additions.specs.FirstNotAdded.{BringsSome, CannotBeAdded, HasDelta, IsReason}
+use Rattle.dump_additions.specs.steps.Additions.{AreNodesOf, BringsNone, IsAddition, IsCleared, IsNodeOf, IsRootOf, SaysKind, copies_over}
+use Rattle.dump_additions.specs.steps.FirstNotAdded.{BringsSome, CannotBeAdded, HasDelta, IsReason}
 use Rattle.dump_additions.specs.steps.Nodes.{AddsNodes, IsAdditionOr, IsClearingOr, IsNodeOrDelta, IsRootOr, IsSteadFor, IsSteadOr}
 use Rattle.dump_additions.specs.declared.not_added.Reason.{Reason}
 use Rattle.dump_additions.specs.declared.not_added.Reason.TheVariants.{Delta, NoLoad, NotWritable}
 use Rattle.dump_additions.specs.declared.parts.Form.{Form}
 use Rattle.dump_additions.specs.declared.parts.Form.TheVariants.{Copy, Directory, File}
 use Rattle.dump_additions.specs.declared.parts.Part.{Part}
-use Rattle.dump_additions.specs.steps.Parts.{part_meant}
-use Rattle.dump_additions.specs.Parts.{ArePartsOf, IsFormAt, PartMeant, TakesSomeBack, kind_in}
+use Rattle.dump_additions.specs.steps.Parts.{part_meant, ArePartsOf, IsFormAt, PartMeant, TakesSomeBack, kind_in}
 use Rattle.dump_additions.proofs.TopLemmas.{first_form}
 use Rattle.dump_cut.proofs.FoundDeletes.{named_bare}
 

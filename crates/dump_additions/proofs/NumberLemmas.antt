@@ -6,13 +6,13 @@ use Rattle.std.proofs.lemmas.Bool.{and_from, and_parts, eq-eqb, eqb-true, false_
 use Rattle.dump_records.specs.RecordText.{DumpRecord}
 use Rattle.dump_digest.specs.RecordParts.{is_node}
 use Rattle.dump_trees.specs.Paths.{NodePath}
-use Rattle.dump_history.specs.ExpandedDumps.{Stead}
-use Rattle.dump_index.specs.Listed.{Listed}
-use Rattle.dump_changes.specs.FileTexts.{ToldText}
-use Rattle.dump_changes.specs.NodeProperties.{node_numbers}
-use Rattle.dump_expansion.specs.ByChanges.{are_given_for, steads_for}
-use Rattle.dump_expansion.specs.GivenSteads.{GivenStead, left_alone, own_form}
-use Rattle.dump_additions.specs.Additions.{Added, AreAdditionsFrom, Cleared, Kept, NoChange, copies_over}
+use Rattle.dump_history.specs.steps.ExpandedDumps.{Stead}
+use Rattle.dump_index.specs.steps.Listed.{Listed}
+use Rattle.dump_changes.specs.steps.FileTexts.{ToldText}
+use Rattle.dump_changes.specs.steps.NodeProperties.{node_numbers}
+use Rattle.dump_expansion.specs.steps.ByChanges.{are_given_for, steads_for}
+use Rattle.dump_expansion.specs.steps.GivenSteads.{GivenStead, left_alone, own_form}
+use Rattle.dump_additions.specs.steps.Additions.{Added, Cleared, Kept, NoChange, AreAdditionsFrom, copies_over}
 use Rattle.dump_additions.proofs.AdditionLemmas.{AreSteadsFrom, ClearedFirst, InPlace, IsSteadAt, LeftAlone}
 
 -- whether each number is greater than those before it

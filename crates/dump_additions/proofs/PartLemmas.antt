@@ -7,26 +7,26 @@ use Rattle.std.proofs.lemmas.Bool.{and_from, and_parts, eqb-true, or_left, or_ri
 use Rattle.std.proofs.lemmas.List.{map-append, reverse-append}
 use Rattle.std.proofs.lemmas.List.Folds.{list_all-append}
 use Rattle.std.proofs.lemmas.Slice.Eq.{bytes_eq-Decides}
-use Rattle.dump_trees.specs.Following.{Way, followed_told}
-use Rattle.dump_trees.specs.Looking.{Placed, end_of}
+use Rattle.dump_trees.specs.Following.{Way}
+use Rattle.dump_trees.specs.steps.Following.{followed_told}
+use Rattle.dump_trees.specs.steps.Looking.{Placed, end_of}
 use Rattle.dump_trees.specs.Paths.{NodePath, is_name, names_of}
 use Rattle.dump_trees.specs.Siblings.{has_node_names, is_node_name}
 use Rattle.dump_trees.proofs.paths.SiblingLemmas.{both_names}
-use Rattle.dump_index.specs.Children.{AreChildren, is_child_named, stands_in}
-use Rattle.dump_index.specs.IndexLaws.{IsListed}
-use Rattle.dump_index.specs.Kinds.{kind_look}
-use Rattle.dump_index.specs.Listed.{Listed, all_placed}
-use Rattle.dump_index.specs.ToldKinds.{kinds_told_by}
+use Rattle.dump_index.specs.steps.Children.{AreChildren, is_child_named, stands_in}
+use Rattle.dump_index.specs.steps.IndexLaws.{IsListed}
+use Rattle.dump_index.specs.steps.Kinds.{kind_look}
+use Rattle.dump_index.specs.steps.Listed.{Listed, all_placed}
+use Rattle.dump_index.specs.steps.ToldKinds.{kinds_told_by}
 use Rattle.dump_index.specs.declared.change.NodeKind.{NodeKind}
 use Rattle.dump_index.specs.declared.change.NodeKind.TheVariants as kinds
 use Rattle.dump_index.specs.steps.Names.{texts_of}
 use Rattle.dump_index.proofs.NameLemmas.{names_of_name}
-use Rattle.dump_cut.specs.NamedPaths.{has_named_paths}
+use Rattle.dump_cut.specs.steps.NamedPaths.{has_named_paths}
 use Rattle.dump_cut.proofs.NodeNames.{look_named}
 use Rattle.dump_additions.specs.declared.parts.Form.{Form}
 use Rattle.dump_additions.specs.declared.parts.Form.TheVariants.{Copy, Directory, File}
-use Rattle.dump_additions.specs.steps.Parts.{AddsInside, AreAllParts, children_of, form_of, pending}
-use Rattle.dump_additions.specs.Parts.{ArePartsIn, ArePartsOf, Copied, IsFormAt, NoName, NoPart, Named, Opened, PartMeant, TakesSomeBack, kind_in, WrittenFile}
+use Rattle.dump_additions.specs.steps.Parts.{AddsInside, AreAllParts, children_of, form_of, pending, Copied, NoName, NoPart, Named, Opened, WrittenFile, ArePartsIn, ArePartsOf, IsFormAt, PartMeant, TakesSomeBack, kind_in}
 
 -- the remaining rests, with one more
 pub pending_pushed : (left : List (Vec ℕ)) (rest : Vec ℕ) → pending (left ++ rest ∷ []) ≡ names_of rest.items ∷ pending left

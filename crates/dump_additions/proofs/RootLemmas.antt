@@ -1,9 +1,9 @@
 -- What a copy leaves at its own path.
 use Rattle.std.proofs.Common.{◌≡◌, ℕ, [], ◌++◌, Option, Some, None, List, option_map, option_and_then, refl, sym, ap, ◌∙◌}
-use Rattle.dump_trees.specs.Branches.{Branch, HasBranch, tree_of}
+use Rattle.dump_trees.specs.steps.Branches.{Branch, HasBranch, tree_of}
 use Rattle.dump_trees.specs.Changes.{Change, History, Made, PropertyChange, TextChange, new_text, step}
-use Rattle.dump_trees.specs.ExpansionCases.{branch_made, branch_with_props, branch_with_text}
-use Rattle.dump_trees.specs.Looking.{node_with_props, node_with_text, origin_of, set_by}
+use Rattle.dump_trees.specs.steps.ExpansionCases.{branch_made, branch_with_props, branch_with_text}
+use Rattle.dump_trees.specs.steps.Looking.{node_with_props, node_with_text, origin_of, set_by}
 use Rattle.dump_trees.specs.Paths.{NodePath}
 use Rattle.dump_trees.specs.Trees.{Node, Tree}
 use Rattle.dump_trees.proofs.changes.TreeLemmas.{below_top}

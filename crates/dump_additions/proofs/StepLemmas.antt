@@ -8,16 +8,16 @@ use Rattle.std.proofs.lemmas.List.Folds.{list_all-append}
 use Rattle.dump_trees.specs.Changes.{Made, is_copied}
 use Rattle.dump_trees.specs.Paths.{NodePath, names_of}
 use Rattle.dump_history.specs.WrittenNodes.{can_be_written}
-use Rattle.dump_index.specs.Listed.{Listed, listed_of}
+use Rattle.dump_index.specs.steps.Listed.{Listed, listed_of}
 use Rattle.dump_index.specs.declared.change.NodeChange.{NodeChange}
 use Rattle.dump_index.specs.declared.change.Setting.TheVariants.{Keeps}
 use Rattle.dump_index.proofs.KeyLemmas.{listed_at}
-use Rattle.dump_changes.specs.FileTexts.{ToldText}
-use Rattle.dump_expansion.specs.GivenSteads.{GivenStead}
+use Rattle.dump_changes.specs.steps.FileTexts.{ToldText}
+use Rattle.dump_expansion.specs.steps.GivenSteads.{GivenStead}
 use Rattle.dump_expansion.specs.steps.Given.{given_of}
 use Rattle.dump_expansion.specs.declared.expanding.Stead as code
-use Rattle.dump_additions.specs.Additions.{Added, AreAdditionsFrom, BringsNone, Cleared, Kept, NoChange, copies_over}
-use Rattle.dump_additions.specs.FirstNotAdded.{CannotStay, IsFirstNotAdded}
+use Rattle.dump_additions.specs.steps.Additions.{Added, Cleared, Kept, NoChange, AreAdditionsFrom, BringsNone, copies_over}
+use Rattle.dump_additions.specs.steps.FirstNotAdded.{CannotStay, IsFirstNotAdded}
 use Rattle.dump_additions.specs.steps.Nodes.{IsAdditionOr}
 use Rattle.dump_additions.specs.declared.not_added.Reason.{Reason}
 

@@ -1,11 +1,11 @@
 -- The first part of what a copy takes: all of it.
 use Rattle.std.proofs.Common.{◌≡◌, ℕ, Bool, true, false, drop, List, [], ◌∷◌, ◌++◌, Some, Option, sym, ap, subst, refl}
 use Rattle.dump_trees.specs.Paths.{NodePath}
-use Rattle.dump_index.specs.Listed.{Listed}
+use Rattle.dump_index.specs.steps.Listed.{Listed}
 use Rattle.dump_index.specs.declared.change.NodeKind.TheVariants as kinds
 use Rattle.dump_additions.specs.declared.parts.Form.{Form}
 use Rattle.dump_additions.specs.declared.parts.Form.TheVariants.{Copy, Directory, File}
-use Rattle.dump_additions.specs.Parts.{ArePartsOf, Copied, IsFormAt, NoPart, Opened, PartMeant, WrittenFile, kind_in}
+use Rattle.dump_additions.specs.steps.Parts.{Copied, NoPart, Opened, WrittenFile, ArePartsOf, IsFormAt, PartMeant, kind_in}
 
 -- whether the first part is a file
 abbrev is_file_form : Form → Bool

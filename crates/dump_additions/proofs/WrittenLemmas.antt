@@ -10,23 +10,24 @@ use Rattle.std.proofs.lemmas.Bool.{and_from, or_left, or_right}
 use Rattle.std.proofs.lemmas.Slice.Eq.{bytes_eq-Decides}
 use Rattle.dump_text.specs.PropertyList.{Property}
 use Rattle.dump_filter.specs.FilterLaws.{keep_all}
-use Rattle.dump_trees.specs.Branches.{Branch, Branches, HasBranch, are_distinct, found, has_name, tree_of}
+use Rattle.dump_trees.specs.steps.Branches.{Branch, Branches, HasBranch, are_distinct, found, has_name, tree_of}
 use Rattle.dump_trees.specs.Changes.{Change, History}
-use Rattle.dump_trees.specs.Looking.{end_of}
+use Rattle.dump_trees.specs.steps.Looking.{end_of}
 use Rattle.dump_trees.specs.Paths.{NodePath}
-use Rattle.dump_trees.specs.Trees.{HasDirectories, Node, Tree}
-use Rattle.dump_trees.specs.WritingOut.{IsCopied, WritesInside, WritesOut, copy_of, file_of, directory_of}
+use Rattle.dump_trees.specs.Trees.{Node, Tree}
+use Rattle.dump_trees.specs.steps.Trees.{HasDirectories}
+use Rattle.dump_trees.specs.steps.WritingOut.{IsCopied, WritesInside, WritesOut, copy_of, file_of, directory_of}
 use Rattle.dump_trees.proofs.expansions.BranchLemmas.{not_found}
 use Rattle.dump_trees.proofs.expansions.FiniteLemmas.{Stands}
 use Rattle.dump_trees.proofs.expansions.FiniteSteps.{IsFinite, finite_directories, finite_stands}
 use Rattle.dump_history.proofs.cuts.TrimmedLaw.{each_branch_is_cut_alike}
-use Rattle.dump_index.specs.Children.{AreChildren, is_child_named}
-use Rattle.dump_index.specs.Kinds.{kind_look, node_kind}
-use Rattle.dump_index.specs.Listed.{Listed, all_placed}
+use Rattle.dump_index.specs.steps.Children.{AreChildren, is_child_named}
+use Rattle.dump_index.specs.steps.Kinds.{kind_look, node_kind}
+use Rattle.dump_index.specs.steps.Listed.{Listed, all_placed}
 use Rattle.dump_index.specs.declared.change.NodeKind.TheVariants as kinds
 use Rattle.dump_additions.specs.declared.parts.Form.{Form}
 use Rattle.dump_additions.specs.declared.parts.Form.TheVariants.{Copy, Directory, File}
-use Rattle.dump_additions.specs.Parts.{ArePartsIn, ArePartsOf, Copied, NoName, NoPart, Named, Opened, PartMeant, WrittenFile}
+use Rattle.dump_additions.specs.steps.Parts.{Copied, NoName, NoPart, Named, Opened, WrittenFile, ArePartsIn, ArePartsOf, PartMeant}
 use Rattle.dump_additions.specs.steps.WrittenParts.{AreChangesFor, AreEntriesAt, IsDirectoryWritten, IsPartWritten}
 use Rattle.dump_trees.proofs.changes.TreeLemmas.{none_of}
 

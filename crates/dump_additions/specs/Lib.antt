@@ -1,5 +1,1 @@
-pub mod AdditionLaws
-pub mod Additions
-pub mod FirstNotAdded
-pub mod Parts
 pub mod steps

@@ -3,10 +3,9 @@ ghost use Rattle.std.specs.Prelude.{◌≡◌, ◌++◌, [], IfOk, IsTrue, OnOk,
 ghost use Rattle.std.specs.List.{list_all};
 ghost use Rattle.dump_trees.specs.Paths.{names_of};
 ghost use Rattle.dump_trees.specs.Siblings.{has_node_names};
-ghost use Rattle.dump_cut.specs.NamedPaths.{has_named_paths};
+ghost use Rattle.dump_cut.specs.steps.NamedPaths.{has_named_paths};
 ghost use Rattle.dump_cut.specs.steps.ExcludedPaths.{paths_of};
-ghost use Rattle.dump_additions.specs.steps.Parts.{AddsInside, children_of, form_of, part_meant, pending};
-ghost use Rattle.dump_additions.specs.Parts.{ArePartsOf, IsFormAt};
+ghost use Rattle.dump_additions.specs.steps.Parts.{AddsInside, children_of, form_of, part_meant, pending, ArePartsOf, IsFormAt};
 
 use dump_cut::{Excluded, Way, followed_rests};
 use dump_index::{ChangeIndex, NodeKind, Source, joined};

@@ -7,7 +7,7 @@ use Rattle.dump_text.specs.HeaderLine.{has_header}
 use Rattle.dump_records.specs.RecordText.{DumpRecord, has_prop_delta}
 use Rattle.dump_trees.specs.Changes.{PropertyChange, edited_with, with_entry}
 use Rattle.dump_history.specs.RecordChanges.{property_change_of}
-use Rattle.dump_index.specs.IndexLaws.{HasProps, props_by}
+use Rattle.dump_index.specs.steps.IndexLaws.{HasProps, props_by}
 use Rattle.dump_index.specs.declared.change.Setting.TheVariants.{Replaces}
 use Rattle.dump_changes.specs.declared.property_edit.NodeProperty.{NodeProperty}
 use Rattle.dump_changes.specs.steps.ChangedProperties.{as_property}

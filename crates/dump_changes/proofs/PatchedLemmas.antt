@@ -8,18 +8,18 @@ use Rattle.svndiff.specs.Svndiff.{patch}
 use Rattle.dump_digest.specs.RecordParts.{has_text}
 use Rattle.dump_records.specs.RecordText.{has_text_delta}
 use Rattle.dump_trees.specs.Changes.{TextChange}
-use Rattle.dump_trees.specs.Looking.{Placed}
+use Rattle.dump_trees.specs.steps.Looking.{Placed}
 use Rattle.dump_trees.specs.Trees.{Node}
 use Rattle.dump_history.specs.RecordChanges.{text_change_of}
-use Rattle.dump_index.specs.IndexLaws.{HasText, text_after, text_by, text_there}
-use Rattle.dump_index.specs.Listed.{Listed, listed_of}
+use Rattle.dump_index.specs.steps.IndexLaws.{HasText, text_after, text_by, text_there}
+use Rattle.dump_index.specs.steps.Listed.{Listed, listed_of}
 use Rattle.dump_index.specs.declared.change.NodeChange.{NodeChange}
 use Rattle.dump_index.specs.declared.change.Setting.{Setting}
 use Rattle.dump_index.specs.declared.change.Setting.TheVariants.{Keeps, Replaces, Edits, EditsNothing}
 use Rattle.dump_index.proofs.PartLemmas.{texts_found}
-use Rattle.dump_changes.specs.FileTexts.{ToldText, no_text, record_texts, told_text}
-use Rattle.dump_changes.specs.NodeProperties.{ListNodes, node_numbers}
-use Rattle.dump_changes.specs.PatchedTexts.{AgreesWithSvndiff, PatchedTextsAreFound, text_patched, text_left, text_set_by}
+use Rattle.dump_changes.specs.steps.FileTexts.{ToldText, no_text, record_texts, told_text}
+use Rattle.dump_changes.specs.steps.NodeProperties.{ListNodes, node_numbers}
+use Rattle.dump_changes.specs.steps.PatchedTexts.{AgreesWithSvndiff, PatchedTextsAreFound, text_patched, text_left, text_set_by}
 use Rattle.dump_changes.proofs.PropertyLemmas.{made_by, none_placed}
 use Rattle.dump_changes.proofs.TextLemmas.{its_text, whole_set}
 

@@ -4,28 +4,26 @@ use Rattle.std.proofs.Common.{get_or, reverse, slice_get, drop, unwrap_or, optio
 use Rattle.std.proofs.lemmas.List.{reverse-append}
 use Rattle.std.proofs.lemmas.Simd.{map-map}
 use Rattle.std.proofs.lemmas.Option.{slice_get-map}
-use Rattle.dump_filter.specs.Groups.{revision_number}
+use Rattle.dump_filter.specs.Groups.{revision_number, group_of, groups}
 use Rattle.dump_trees.specs.Changes.{Change, PropertyChange}
-use Rattle.dump_trees.specs.Looking.{Placed}
+use Rattle.dump_trees.specs.steps.Looking.{Placed, end_of, look, placed_from}
 use Rattle.dump_history.specs.RecordChanges.{change_of, has_known_action, has_undefined_delta, property_change_of}
-use Rattle.dump_index.specs.IndexLaws.{HasProps, IsListed, props_after, props_by, props_there}
-use Rattle.dump_index.specs.Listed.{Listed, listed_of}
+use Rattle.dump_index.specs.steps.IndexLaws.{HasProps, IsListed, props_after, props_by, props_there}
+use Rattle.dump_index.specs.steps.Listed.{Listed, listed_of}
 use Rattle.dump_index.specs.declared.change.NodeChange.{NodeChange}
 use Rattle.dump_index.specs.declared.change.Setting.{Setting}
-use Rattle.dump_index.specs.Settings.{IsTrail}
+use Rattle.dump_index.specs.steps.Settings.{IsTrail}
 use Rattle.dump_index.specs.declared.trail.Part.TheVariants.{Props}
 use Rattle.dump_index.proofs.PartLemmas.{props_found}
-use Rattle.dump_changes.specs.ListedDumps.{NodesMake, NoRecord, RevisionRecord, NodeRecord, OtherRecord}
-use Rattle.dump_changes.specs.NodeProperties.{PropertiesAreOfTrees, ArePropertiesAt, ListNodes, node_numbers, property_blocks}
+use Rattle.dump_changes.specs.steps.ListedDumps.{NoRecord, RevisionRecord, NodeRecord, OtherRecord, NodesMake}
+use Rattle.dump_changes.specs.steps.NodeProperties.{PropertiesAreOfTrees, ArePropertiesAt, ListNodes, node_numbers, property_blocks}
 use Rattle.dump_changes.specs.steps.ChangedProperties.{AreMadeOnTrail, AreChangedBy}
 use Rattle.dump_changes.proofs.ChangeLemmas.{told_change}
 use Rattle.dump_changes.proofs.ReadLemmas.{nodes_read, reads_revisions}
 use Rattle.std.proofs.lemmas.Bool.{cases_Bool, or_parts}
 use Rattle.std.specs.List.{list_any}
-use Rattle.dump_filter.specs.Groups.{group_of, groups}
 use Rattle.dump_history.specs.DumpChanges.{MakeChanges, MakeRevisions}
 use Rattle.dump_history.proofs.restricted.LoadsOnce.{later_once}
-use Rattle.dump_trees.specs.Looking.{end_of, look, placed_from}
 use Rattle.dump_trees.specs.Trees.{root_alone}
 use Rattle.dump_trees.proofs.expansions.LookLemmas.{look_finds_each}
 use Rattle.dump_index.proofs.LawLemmas.{end_same}

@@ -9,13 +9,14 @@ use Rattle.dump_records.specs.RecordText.{DumpRecord}
 use Rattle.dump_digest.specs.RecordParts.{is_revision_record, is_node}
 use Rattle.dump_filter.specs.Groups.{Group, group_of, groups, group_number, revision_number, revision_numbers}
 use Rattle.dump_trees.specs.Changes.{Change}
-use Rattle.dump_trees.specs.Looking.{Placed, placed_from}
+use Rattle.dump_trees.specs.steps.Looking.{Placed, placed_from}
 use Rattle.dump_history.specs.RecordChanges.{Patching, MakesChange}
 use Rattle.dump_history.specs.DumpChanges.{counts_from, has_ordered_nodes, MakeChanges, MakeRevisions}
-use Rattle.dump_index.specs.IndexLaws.{AreListed, IsListed}
-use Rattle.dump_index.specs.Listed.{listed_of}
+use Rattle.dump_index.specs.steps.IndexLaws.{AreListed, IsListed}
+use Rattle.dump_index.specs.steps.Listed.{listed_of}
 use Rattle.dump_index.specs.declared.change.NodeChange.{NodeChange}
-use Rattle.dump_changes.specs.ListedDumps.{AreListedIn, are_numbered, rise_from, NodesMake, NoRecord, RevisionRecord, NodeRecord, OtherRecord}
+use Rattle.dump_changes.specs.ListedDumps.{rise_from}
+use Rattle.dump_changes.specs.steps.ListedDumps.{NoRecord, RevisionRecord, NodeRecord, OtherRecord, AreListedIn, NodesMake, are_numbered}
 use Rattle.dump_changes.specs.steps.Reading.{Reads, NoMore, Revision, Node, Other}
 
 abbrev of_one : ℕ → List Change → List Placed

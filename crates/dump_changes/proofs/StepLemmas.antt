@@ -5,14 +5,15 @@ use Rattle.dump_records.proofs.CutterLemmas as cutters
 use Rattle.dump_records.specs.declared.cutter.Cut.TheVariants as cuts
 use Rattle.std.proofs.lemmas.List.{map-append}
 use Rattle.dump_trees.specs.Changes.{Change}
-use Rattle.dump_trees.specs.Looking.{Placed}
-use Rattle.dump_index.specs.Listed.{Listed, listed_of}
-use Rattle.dump_index.specs.IndexLaws.{IsListed}
+use Rattle.dump_trees.specs.steps.Looking.{Placed}
+use Rattle.dump_index.specs.steps.Listed.{Listed, listed_of}
+use Rattle.dump_index.specs.steps.IndexLaws.{IsListed}
 use Rattle.dump_index.specs.declared.change.NodeChange.{NodeChange}
 use Rattle.dump_changes.specs.declared.read.Position.{Position}
 use Rattle.dump_changes.specs.declared.read.Step.TheVariants as steps
-use Rattle.dump_changes.specs.ListedDumps.{AreListedIn, IsOutOfPlace, NodesMake, NoRecord, RevisionRecord, NodeRecord, are_numbered, revision_behind, present_behind, rise_from, takes_nodes}
-use Rattle.dump_changes.specs.NodeProperties.{node_numbers}
+use Rattle.dump_changes.specs.ListedDumps.{rise_from}
+use Rattle.dump_changes.specs.steps.ListedDumps.{NoRecord, RevisionRecord, NodeRecord, AreListedIn, NodesMake, IsOutOfPlace, are_numbered, revision_behind, present_behind, takes_nodes}
+use Rattle.dump_changes.specs.steps.NodeProperties.{node_numbers}
 use Rattle.dump_changes.specs.declared.read.End.{End}
 use Rattle.dump_changes.specs.declared.read.Reading.{Reading}
 use Rattle.dump_changes.specs.steps.DumpReading.{EndsReading, IsNext, IsReadingOfDump}

@@ -7,20 +7,20 @@ use Rattle.std.proofs.lemmas.Option.{slice_get-get_or, slice_get-map}
 use Rattle.dump_digest.specs.RecordParts.{has_text}
 use Rattle.dump_records.specs.RecordText.{has_text_delta}
 use Rattle.dump_trees.specs.Changes.{Change, TextChange}
-use Rattle.dump_trees.specs.Looking.{Placed, end_of, look}
+use Rattle.dump_trees.specs.steps.Looking.{Placed, end_of, look}
 use Rattle.dump_trees.specs.Trees.{Node, root_alone}
 use Rattle.dump_trees.proofs.expansions.LookLemmas.{look_finds_each}
 use Rattle.dump_history.specs.RecordChanges.{has_known_action, has_undefined_delta, text_change_of}
-use Rattle.dump_index.specs.IndexLaws.{HasText, text_after, text_by, text_there}
-use Rattle.dump_index.specs.Listed.{Listed, listed_of}
-use Rattle.dump_index.specs.Settings.{Copied, Edited, IsTrail, NewMade, Unset, Whole, is_replacing, own_place, sets_at, sets_there}
+use Rattle.dump_index.specs.steps.IndexLaws.{HasText, text_after, text_by, text_there}
+use Rattle.dump_index.specs.steps.Listed.{Listed, listed_of}
+use Rattle.dump_index.specs.steps.Settings.{Copied, Edited, NewMade, Unset, Whole, IsTrail, is_replacing, own_place, sets_at, sets_there}
 use Rattle.dump_index.specs.declared.change.Setting.{Setting}
 use Rattle.dump_index.specs.declared.change.Setting.TheVariants.{Keeps, Replaces, Edits, EditsNothing}
 use Rattle.dump_index.specs.declared.trail.Part.TheVariants.{Text}
 use Rattle.dump_index.proofs.LawLemmas.{end_same}
 use Rattle.dump_index.proofs.PartLemmas.{texts_found}
-use Rattle.dump_changes.specs.FileTexts.{IsStoredAt, IsStoredBy, TextStored, TextsAreOfTrees, ToldText, WholeTextsAreFound, no_text, told_text}
-use Rattle.dump_changes.specs.NodeProperties.{node_numbers}
+use Rattle.dump_changes.specs.steps.FileTexts.{IsStoredAt, IsStoredBy, TextStored, TextsAreOfTrees, ToldText, WholeTextsAreFound, no_text, told_text}
+use Rattle.dump_changes.specs.steps.NodeProperties.{node_numbers}
 use Rattle.dump_changes.specs.steps.StoredTexts.{IsTextIfWhole}
 use Rattle.dump_changes.proofs.ChangeLemmas.{told_change}
 use Rattle.dump_changes.proofs.PropertyLemmas.{made_by, nodes_are}

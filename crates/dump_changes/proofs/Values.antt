@@ -2,14 +2,14 @@
 use Rattle.dump_changes.proofs.Prelude.{◌≡◌, ℕ, false, List, [], ◌∷◌, ◌++◌, Option, Some, None, inr, refl, codes, DumpRecord, Patching}
 use Rattle.svndiff.specs.Svndiff.{patch}
 use Rattle.dump_trees.specs.Changes.{Made}
-use Rattle.dump_index.specs.Listed.{Listed}
-use Rattle.dump_index.specs.Settings.{Edited, IsTrail, Whole}
+use Rattle.dump_index.specs.steps.Listed.{Listed}
+use Rattle.dump_index.specs.steps.Settings.{Edited, Whole, IsTrail}
 use Rattle.dump_index.specs.declared.change.Setting.{Setting}
 use Rattle.dump_index.specs.declared.change.Setting.TheVariants.{Edits, Keeps, Replaces}
 use Rattle.dump_index.specs.declared.trail.Part.TheVariants.{Text}
-use Rattle.dump_changes.specs.FileTexts.{IsStoredAt, TextStored, ToldText, no_text, record_texts}
-use Rattle.dump_changes.specs.NodeProperties.{node_numbers, property_blocks}
-use Rattle.dump_changes.specs.PatchedTexts.{AgreesWithSvndiff, text_patched}
+use Rattle.dump_changes.specs.steps.FileTexts.{IsStoredAt, TextStored, ToldText, no_text, record_texts}
+use Rattle.dump_changes.specs.steps.NodeProperties.{node_numbers, property_blocks}
+use Rattle.dump_changes.specs.steps.PatchedTexts.{AgreesWithSvndiff, text_patched}
 
 abbrev one_header : List ℕ → List ℕ → List ℕ → DumpRecord
 one_header name value props = record {

@@ -1,6 +1,10 @@
 pub mod ChangedProperties
 pub mod DumpReading
+pub mod FileTexts
+pub mod ListedDumps
+pub mod MadeTexts
+pub mod NodeProperties
 pub mod Nodes
+pub mod PatchedTexts
 pub mod Reading
 pub mod StoredTexts
-pub mod MadeTexts

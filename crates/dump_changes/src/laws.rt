@@ -1,7 +1,7 @@
 //! Laws of what is read from a dump. Each law is the contract of a function that does nothing.
-ghost use Rattle.dump_changes.specs.FileTexts.{TextsAreOfTrees, WholeTextsAreFound};
-ghost use Rattle.dump_changes.specs.NodeProperties.{PropertiesAreOfTrees};
-ghost use Rattle.dump_changes.specs.PatchedTexts.{PatchedTextsAreFound};
+ghost use Rattle.dump_changes.specs.steps.FileTexts.{TextsAreOfTrees, WholeTextsAreFound};
+ghost use Rattle.dump_changes.specs.steps.NodeProperties.{PropertiesAreOfTrees};
+ghost use Rattle.dump_changes.specs.steps.PatchedTexts.{PatchedTextsAreFound};
 
 /// If the dump loads, the properties that are found at a path after the changes of a revision are those of the node in the
 /// tree of the revision.

@@ -13,8 +13,8 @@ ghost use Rattle.dump_digest.specs.steps.ContentViews.{ArePropertiesOf};
 ghost use Rattle.dump_trees.specs.Changes.{PropertyChange};
 ghost use Rattle.dump_history.specs.RecordChanges.{Patching, copy_path, loads_as_written, made_by_kind, made_of, property_change_of, text_change_of};
 ghost use Rattle.dump_history.specs.Findings.{IsReadBlock};
-ghost use Rattle.dump_index.specs.Listed.{listed_made, listed_of};
-ghost use Rattle.dump_index.specs.IndexLaws.{HasProps, HasText};
+ghost use Rattle.dump_index.specs.steps.Listed.{listed_made, listed_of};
+ghost use Rattle.dump_index.specs.steps.IndexLaws.{HasProps, HasText};
 ghost use Rattle.dump_nodes.specs.steps.Actions.{IsActionOf};
 ghost use Rattle.dump_changes.specs.steps.Nodes.{IsChangeOf, has_entry, is_told};
 

@@ -1,7 +1,7 @@
 //! The revisions from which a load takes copies, if those of a dump aren't numbered 0, 1, 2 and so on.
 ghost use Rattle.std.specs.Prelude.{◌≡◌, Some, true, MatchOption};
-ghost use Rattle.dump_index.specs.Listed.{listed_of};
-ghost use Rattle.dump_changes.specs.ListedDumps.{is_listed_copy, without_number};
+ghost use Rattle.dump_index.specs.steps.Listed.{listed_of};
+ghost use Rattle.dump_changes.specs.steps.ListedDumps.{is_listed_copy, without_number};
 
 use dump_index::{NodeChange, NodeMade, Source};
 

@@ -1,8 +1,8 @@
 //! The text of the file at a path, also where the dump has deltas of it.
 ghost use Rattle.std.specs.Prelude.{◌≡◌, false, IfOk, MatchResult, Some, slice_get};
 ghost use Rattle.svndiff.specs.steps.Readings.{Says};
-ghost use Rattle.dump_index.specs.InOrder.{ends_in_slash};
-ghost use Rattle.dump_changes.specs.PatchedTexts.{text_set_by};
+ghost use Rattle.dump_index.specs.steps.InOrder.{ends_in_slash};
+ghost use Rattle.dump_changes.specs.steps.PatchedTexts.{text_set_by};
 ghost use Rattle.dump_changes.specs.steps.MadeTexts.{HasTextOfTrail, file_bytes};
 
 use crate::text_table::TextTable;

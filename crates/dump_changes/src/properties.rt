@@ -1,8 +1,8 @@
 //! The properties of the node at a path, after some of a dump's changes.
 ghost use Rattle.std.specs.Prelude.{◌≡◌, false, IfOk, OnOk, map};
-ghost use Rattle.dump_index.specs.InOrder.{ends_in_slash};
-ghost use Rattle.dump_index.specs.Listed.{listed_of};
-ghost use Rattle.dump_changes.specs.NodeProperties.{ArePropertiesAt};
+ghost use Rattle.dump_index.specs.steps.InOrder.{ends_in_slash};
+ghost use Rattle.dump_index.specs.steps.Listed.{listed_of};
+ghost use Rattle.dump_changes.specs.steps.NodeProperties.{ArePropertiesAt};
 ghost use Rattle.dump_changes.specs.steps.ChangedProperties.{AreMadeOnTrail, as_property, AreChangedBy};
 
 use crate::property_edit::{NodeProperty, apply_block};

@@ -5,7 +5,7 @@ ghost use Rattle.dump_text.specs.steps.PropertyViews.{entry_property, props_byte
 ghost use Rattle.dump_records.specs.RecordText.{DumpRecord};
 ghost use Rattle.dump_trees.specs.Changes.{edited_with, with_entry};
 ghost use Rattle.dump_history.specs.RecordChanges.{property_change_of};
-ghost use Rattle.dump_index.specs.IndexLaws.{HasProps, props_by};
+ghost use Rattle.dump_index.specs.steps.IndexLaws.{HasProps, props_by};
 ghost use Rattle.dump_changes.specs.steps.ChangedProperties.{as_property};
 
 use dump_index::Setting;

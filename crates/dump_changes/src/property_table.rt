@@ -2,7 +2,7 @@
 ghost use Rattle.std.specs.Prelude.{◌≡◌, List, IfOk, option_copied, slice_get};
 ghost use Rattle.dump_records.specs.RecordText.{DumpRecord};
 ghost use Rattle.dump_records.specs.DumpText.{Ending, HasRecords};
-ghost use Rattle.dump_changes.specs.NodeProperties.{property_blocks};
+ghost use Rattle.dump_changes.specs.steps.NodeProperties.{property_blocks};
 
 use dump_records::{Cut, Cutter};
 use dump_rules::Memory;

@@ -1,8 +1,8 @@
 //! The text of the file at a path, after some of a dump's changes.
 ghost use Rattle.std.specs.Prelude.{◌≡◌, false, IfOk, Some, slice_get};
-ghost use Rattle.dump_index.specs.InOrder.{ends_in_slash};
-ghost use Rattle.dump_index.specs.Listed.{Listed};
-ghost use Rattle.dump_changes.specs.FileTexts.{IsStoredAt, IsStoredBy};
+ghost use Rattle.dump_index.specs.steps.InOrder.{ends_in_slash};
+ghost use Rattle.dump_index.specs.steps.Listed.{Listed};
+ghost use Rattle.dump_changes.specs.steps.FileTexts.{IsStoredAt, IsStoredBy};
 ghost use Rattle.dump_changes.specs.steps.StoredTexts.{IsTextIfWhole, stored_of};
 
 use crate::node_text::{NodeText, StoredText};

@@ -16,10 +16,11 @@ use Rattle.dump_filter.specs.WholeText.{IsCleanText}
 use Rattle.dump_trees.specs.CanonicalPaths.{canonical_path}
 use Rattle.dump_trees.specs.Changes.{Change}
 use Rattle.dump_trees.specs.EverSiblings.{does_something}
-use Rattle.dump_trees.specs.Following.{ExistsOnce}
+use Rattle.dump_trees.specs.steps.Following.{ExistsOnce}
 use Rattle.dump_trees.specs.Paths.{NodePath, is_short, path_of}
 use Rattle.dump_trees.specs.Returns.{is_covered}
-use Rattle.dump_trees.specs.Siblings.{ExcludesPaths, has_node_names}
+use Rattle.dump_trees.specs.Siblings.{has_node_names}
+use Rattle.dump_trees.specs.steps.Siblings.{ExcludesPaths}
 use Rattle.dump_trees.specs.Trees.{Tree, root_alone}
 use Rattle.dump_trees.proofs.cuts.CoveredPaths.{all_has, contains_cases, contains_first, contains_later, contains_none, covered_by, covered_more, exists_above, filter_has}
 use Rattle.dump_trees.proofs.cuts.EverSiblings.{changed_paths_exist, copied_paths_exist}
@@ -32,11 +33,11 @@ use Rattle.dump_history.specs.DumpChanges.{LoadsAs, MakeChanges, MakeRevisions, 
 use Rattle.dump_history.specs.RecordChanges.{MakesChange, Patching, copied_from, copy_path, copy_revision, made_by_kind, makes}
 use Rattle.dump_history.proofs.again.NodeChanges.{change_is, change_path}
 use Rattle.dump_history.proofs.restricted.LoadsOnce.{whole_records_once}
-use Rattle.dump_index.specs.ExistsEver.{exists_ever}
-use Rattle.dump_index.specs.Listed.{Listed, listed_of}
+use Rattle.dump_index.specs.steps.ExistsEver.{exists_ever}
+use Rattle.dump_index.specs.steps.Listed.{Listed, listed_of}
 use Rattle.dump_index.proofs.ExistsLemmas.{existing_is_found}
-use Rattle.dump_cut.specs.CutAlike.{covered_alone, is_alone, is_covered_by_one}
-use Rattle.dump_cut.specs.FilteredAlike.{AlikeCutsAreFilteredAlike, AlikeCutsCoverTheSame, AreFilteredAlike, FirstPartsGoOn, HaveMadeCopies, HaveShortLines}
+use Rattle.dump_cut.specs.steps.CutAlike.{covered_alone, is_alone, is_covered_by_one}
+use Rattle.dump_cut.specs.steps.FilteredAlike.{AlikeCutsAreFilteredAlike, AlikeCutsCoverTheSame, AreFilteredAlike, FirstPartsGoOn, HaveMadeCopies, HaveShortLines}
 use Rattle.dump_cut.proofs.AlikeLaw.{filters_alike}
 use Rattle.dump_cut.proofs.FirstLaw.{first_parts_are_filtered}
 use Rattle.dump_cut.proofs.NamedSiblings.{line_named}

@@ -25,7 +25,7 @@ use Rattle.dump_filter.specs.NewHeaders.{IsNewCopy, IsWrittenCopyNumber, becomes
 use Rattle.dump_filter.specs.RecordFaults.{HoldsOfRecord, present_number}
 use Rattle.dump_filter.specs.RecordOutput.{IsNodeOutput, IsOutput, IsRevisionOutput, revision_text, whole_text}
 use Rattle.dump_filter.specs.Written.{AreOutputs, is_written}
-use Rattle.dump_cut.specs.FilteredAlike.{AreFilteredAlike, FiltersWriteAlike}
+use Rattle.dump_cut.specs.steps.FilteredAlike.{AreFilteredAlike, FiltersWriteAlike}
 
 -- tests that agree at each element of a list find and keep the same of it
 

@@ -2,16 +2,16 @@
 use Rattle.std.proofs.Common.{◌≡◌, ℕ, zero, suc, ◌<◌, true, List, [], ◌∷◌, length, map, get_or, Option, Some, None, refl, sym, ap, ◌∙◌, subst, arith}
 use Rattle.std.proofs.lemmas.Bool.{and_parts}
 use Rattle.std.specs.List.{AllZip, list_all, slice_get}
-use Rattle.dump_trees.specs.LoadCheck.{ToldKinds, kinds_told}
-use Rattle.dump_trees.specs.Looking.{Placed}
-use Rattle.dump_index.specs.IndexLaws.{IsListed}
-use Rattle.dump_index.specs.Listed.{Listed, listed_of}
+use Rattle.dump_trees.specs.steps.LoadCheck.{ToldKinds, kinds_told}
+use Rattle.dump_trees.specs.steps.Looking.{Placed}
+use Rattle.dump_index.specs.steps.IndexLaws.{IsListed}
+use Rattle.dump_index.specs.steps.Listed.{Listed, listed_of}
 use Rattle.dump_index.specs.declared.change.NodeChange.{NodeChange}
 use Rattle.dump_index.proofs.KeyLemmas.{listed_at}
 use Rattle.dump_index.proofs.LawLemmas.{Both, both_at}
-use Rattle.dump_cut.specs.LoadChecks.{reason_there}
-use Rattle.dump_cut.specs.NamedPaths.{has_named_paths}
-use Rattle.dump_cut.specs.Rejections.{rejected_for}
+use Rattle.dump_cut.specs.steps.LoadChecks.{reason_there}
+use Rattle.dump_cut.specs.steps.NamedPaths.{has_named_paths}
+use Rattle.dump_cut.specs.steps.Rejections.{rejected_for}
 use Rattle.dump_cut.specs.steps.KindViews.{kinds_meant}
 use Rattle.dump_cut.specs.declared.kinds.Kinds.{Kinds}
 use Rattle.dump_cut.specs.declared.rejection.Rejection.{Rejection}

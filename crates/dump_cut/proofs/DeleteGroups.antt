@@ -12,7 +12,7 @@ use Rattle.dump_filter.proofs.knowing.Answered.{AllLawful}
 use Rattle.dump_trees.specs.Changes.{Change}
 use Rattle.dump_history.specs.DumpChanges.{has_ordered_nodes, MakeChanges}
 use Rattle.dump_history.specs.RecordChanges.{Patching, MakesChange}
-use Rattle.dump_history.specs.TrimmedDumps.{node_parts, part_groups}
+use Rattle.dump_history.specs.steps.TrimmedDumps.{node_parts, part_groups}
 use Rattle.dump_history.specs.WrittenNodes.{WrittenNode}
 use Rattle.dump_cut.specs.TrimmedCopies.{delete_nodes, deletes_behind}
 

@@ -4,7 +4,7 @@ use Rattle.std.specs.List.{list_all}
 use Rattle.std.proofs.lemmas.Bool.{and_parts}
 use Rattle.dump_trees.specs.Paths.{names_of}
 use Rattle.dump_trees.specs.Siblings.{has_node_names}
-use Rattle.dump_index.specs.InOrder.{ends_in_slash}
+use Rattle.dump_index.specs.steps.InOrder.{ends_in_slash}
 use Rattle.dump_cut.specs.steps.ExcludedPaths.{paths_of}
 use Rattle.dump_cut.proofs.ParentLemmas.{ends_named}
 use Rattle.dump_cut.proofs.RangeLemmas.{shown_twice}

@@ -10,8 +10,8 @@ use Rattle.std.proofs.lemmas.Bool.{and_parts, and_from, cases_lt, eq-eqb, eqb-tr
 use Rattle.std.proofs.lemmas.Slice.Eq.{bytes_eq-Decides}
 use Rattle.dump_trees.specs.Paths.{below, names_of}
 use Rattle.dump_trees.specs.Restriction.{is_root}
-use Rattle.dump_trees.specs.Siblings.{has_name_behind, is_above_included}
-use Rattle.dump_index.specs.Effects.{goes_on, stands_over}
+use Rattle.dump_trees.specs.steps.Siblings.{has_name_behind, is_above_included}
+use Rattle.dump_index.specs.steps.Effects.{goes_on, stands_over}
 use Rattle.dump_index.specs.steps.Touching.{rest_text}
 use Rattle.dump_index.specs.steps.Names.{texts_of}
 use Rattle.dump_index.proofs.ChildLemmas.{same_texts, strict_texts}

@@ -10,7 +10,7 @@ use Rattle.std.specs.BTreeMap.{is_at}
 use Rattle.dump_trees.specs.Paths.{names_of}
 use Rattle.dump_trees.specs.Returns.{is_covered}
 use Rattle.dump_trees.specs.Siblings.{is_within}
-use Rattle.dump_index.specs.Effects.{goes_on, stands_over}
+use Rattle.dump_index.specs.steps.Effects.{goes_on, stands_over}
 use Rattle.dump_index.proofs.FrontLemmas.{cut_goes_on, goes_on_cut}
 use Rattle.dump_index.proofs.RestLemmas.{rest_same, rest_over, rest_none}
 use Rattle.dump_cut.specs.steps.ExcludedPaths.{paths_of}

@@ -11,12 +11,12 @@ use Rattle.dump_records.specs.DumpText.{Ending}
 use Rattle.dump_records.specs.RecordText.{DumpRecord}
 use Rattle.dump_trees.specs.CanonicalPaths.{canonical_path}
 use Rattle.dump_trees.specs.Changes.{Change}
-use Rattle.dump_trees.specs.EverSiblings.{AreEverSiblings}
-use Rattle.dump_trees.specs.Following.{ExistsOnce}
-use Rattle.dump_trees.specs.Looking.{Placed, end_of, placed_from}
+use Rattle.dump_trees.specs.steps.EverSiblings.{AreEverSiblings}
+use Rattle.dump_trees.specs.steps.Following.{ExistsOnce}
+use Rattle.dump_trees.specs.steps.Looking.{Placed, end_of, placed_from}
 use Rattle.dump_trees.specs.Paths.{NodePath}
 use Rattle.dump_trees.specs.Returns.{is_covered}
-use Rattle.dump_trees.specs.Siblings.{is_in_cut, is_sibling}
+use Rattle.dump_trees.specs.steps.Siblings.{is_in_cut, is_sibling}
 use Rattle.dump_trees.specs.Trees.{root_alone}
 use Rattle.dump_trees.proofs.cuts.CheckedLoads.{AreFrom, all_from, of_one, placed_append, one_up_to}
 use Rattle.dump_trees.proofs.cuts.CoveredPaths.{all_has, covered_by, covered_from}
@@ -26,13 +26,13 @@ use Rattle.dump_trees.proofs.paths.SiblingLemmas.{cut_above, sibling_names}
 use Rattle.dump_trees.proofs.quiet.QuietLemmas.{same_answer}
 use Rattle.dump_history.specs.DumpChanges.{LoadsAs}
 use Rattle.dump_history.proofs.restricted.LoadsOnce.{whole_records_once}
-use Rattle.dump_index.specs.IndexLaws.{AreListed, IsListed}
-use Rattle.dump_index.specs.Listed.{Listed, listed_of}
+use Rattle.dump_index.specs.steps.IndexLaws.{AreListed, IsListed}
+use Rattle.dump_index.specs.steps.Listed.{Listed, listed_of}
 use Rattle.dump_index.specs.declared.change.NodeChange.{NodeChange}
-use Rattle.dump_cut.specs.FilteredAlike.{FirstSiblingsCoverTheSame, FirstSiblingsFilterAlike}
-use Rattle.dump_cut.specs.FoundSiblings.{AreFoundSiblings}
+use Rattle.dump_cut.specs.steps.FilteredAlike.{FirstSiblingsCoverTheSame, FirstSiblingsFilterAlike}
+use Rattle.dump_cut.specs.steps.FoundSiblings.{AreFoundSiblings}
 use Rattle.dump_cut.specs.LaterParts.{is_later_revision}
-use Rattle.dump_cut.specs.NamedLines.{is_left_by}
+use Rattle.dump_cut.specs.steps.NamedLines.{is_left_by}
 use Rattle.dump_cut.proofs.AlikeCuts.{covers_filter_alike, once_above}
 use Rattle.dump_cut.proofs.FoundSiblings.{found_siblings_are_all, sibling_outside}
 use Rattle.dump_cut.proofs.LaterLaw.{loads_first}

@@ -6,7 +6,7 @@ use Rattle.dump_records.specs.DumpText.{Ending, IsCutInto, line_feeds}
 use Rattle.dump_records.specs.RecordText.{DumpRecord}
 use Rattle.dump_records.proofs.Unique.{records_once}
 use Rattle.dump_digest.specs.RecordParts.{is_node}
-use Rattle.dump_history.specs.ExpandedDumps.{IsSameRecord}
+use Rattle.dump_history.specs.steps.ExpandedDumps.{IsSameRecord}
 use Rattle.dump_history.specs.ExpandedText.{AreRecordTexts}
 use Rattle.dump_history.specs.TrimmedDumps.{IsTrimmedText, may_stand_behind, records_behind}
 use Rattle.dump_history.specs.WrittenNodes.{WrittenNode, node_record}

@@ -8,12 +8,14 @@ use Rattle.std.proofs.lemmas.List.Folds.{list_all-append}
 use Rattle.std.proofs.lemmas.Option.{slice_get_within}
 use Rattle.std.proofs.lemmas.List.Elements.{All-append, All-cons, All-nil, Contains-append_left, Contains-append_right}
 use Rattle.dump_trees.specs.Changes.{Made, Change}
-use Rattle.dump_trees.specs.Following.{Way, from_of, to_of, followed_told, IsFollowed, IsGrown, AreFollowed}
-use Rattle.dump_trees.specs.FollowedRests.{PlacedRest, all_rests, rests_at, rests_made}
-use Rattle.dump_trees.specs.LoadCheck.{ToldKinds}
-use Rattle.dump_trees.specs.Looking.{Placed, end_of, placed_from}
+use Rattle.dump_trees.specs.Following.{Way, from_of, to_of}
+use Rattle.dump_trees.specs.steps.Following.{followed_told, IsFollowed, IsGrown, AreFollowed}
+use Rattle.dump_trees.specs.steps.FollowedRests.{PlacedRest, all_rests, rests_at, rests_made}
+use Rattle.dump_trees.specs.steps.LoadCheck.{ToldKinds}
+use Rattle.dump_trees.specs.steps.Looking.{Placed, end_of, placed_from}
 use Rattle.dump_trees.specs.Paths.{NodePath, names_of, below}
-use Rattle.dump_trees.specs.Returns.{is_covered, named_rest, rests_below, rests_covered}
+use Rattle.dump_trees.specs.Returns.{is_covered}
+use Rattle.dump_trees.specs.steps.Returns.{named_rest, rests_below, rests_covered}
 use Rattle.dump_trees.specs.Siblings.{has_node_names}
 use Rattle.dump_trees.specs.Trees.{Tree}
 use Rattle.dump_trees.proofs.changes.TreeLemmas.{below_rest}
@@ -23,13 +25,13 @@ use Rattle.dump_trees.proofs.cuts.CoveredPaths.{contains_cases, contains_first, 
 use Rattle.dump_trees.proofs.cuts.FollowLemmas.{listed_are_followed}
 use Rattle.dump_trees.proofs.cuts.PlacedCopies.{copies_are_placed}
 use Rattle.dump_trees.proofs.cuts.RestLemmas.{all_rests_are_listed, none_at_any_place}
-use Rattle.dump_index.specs.IndexLaws.{IsListed}
-use Rattle.dump_index.specs.Listed.{Listed}
-use Rattle.dump_index.specs.ToldKinds.{kinds_told_by}
+use Rattle.dump_index.specs.steps.IndexLaws.{IsListed}
+use Rattle.dump_index.specs.steps.Listed.{Listed}
+use Rattle.dump_index.specs.steps.ToldKinds.{kinds_told_by}
 use Rattle.dump_index.proofs.LawLemmas.{Both, both_at}
 use Rattle.dump_cut.specs.steps.ExcludedPaths.{IsGrownIf}
 use Rattle.dump_cut.specs.declared.followed.Addition.{Addition}
-use Rattle.dump_cut.specs.FollowedCopies.{ComeByFollowing, IsIndexOf}
+use Rattle.dump_cut.specs.steps.FollowedCopies.{ComeByFollowing, IsIndexOf}
 use Rattle.dump_cut.specs.steps.FollowedPaths.{AddsOne, AddsPath, AreFollowedTo, ArePlaced, IsFollowedTo, IsIdle, KeepsFollowing, LeadsTo, paths_made, place_at_turn}
 use Rattle.dump_cut.proofs.GrowingLemmas.{added_covers}
 
@@ -94,7 +96,7 @@ followed_at way tops listed place l number source revisions trees rest there mad
         (slice_get (placed_from 1 revisions) place)) rest =
         subst (λ rests. Contains rests rest)
         (sym (ap (rests_at way tops (kinds_told_by listed) (placed_from 1 revisions)) at
-        ∙ ap₂ (λ path m. Rattle.dump_trees.specs.FollowedRests.rests_made way tops (kinds_told_by listed) (placed_from 1 revisions) path m)
+        ∙ ap₂ (λ path m. Rattle.dump_trees.specs.steps.FollowedRests.rests_made way tops (kinds_told_by listed) (placed_from 1 revisions) path m)
         its.path (its.made ∙ made))) among in
         let (path, from, old, copy, its_rest) =
         (all_rests_are_listed way tops (kinds_told_by listed) revisions trees (placed_from 1 revisions) refl index.tells

@@ -8,15 +8,15 @@ use Rattle.std.proofs.lemmas.List.{map-append}
 use Rattle.std.proofs.lemmas.List.Elements.{filter-append}
 use Rattle.std.proofs.lemmas.List.Folds.{list_all-append}
 use Rattle.dump_trees.specs.Changes.{Made}
-use Rattle.dump_trees.specs.FollowedRests.{rests_made}
+use Rattle.dump_trees.specs.steps.FollowedRests.{rests_made}
 use Rattle.dump_trees.specs.Following.{Way}
-use Rattle.dump_trees.specs.LoadCheck.{ToldKinds}
-use Rattle.dump_trees.specs.Looking.{Placed}
+use Rattle.dump_trees.specs.steps.LoadCheck.{ToldKinds}
+use Rattle.dump_trees.specs.steps.Looking.{Placed}
 use Rattle.dump_trees.specs.Paths.{NodePath, names_of, path_of}
 use Rattle.dump_trees.specs.Returns.{is_covered}
 use Rattle.dump_trees.specs.Siblings.{has_node_names}
 use Rattle.dump_history.specs.WrittenNodes.{is_plain_path}
-use Rattle.dump_cut.specs.TrimmedCopies.{are_plain, AreDeletes, kept_changes, lost_paths}
+use Rattle.dump_cut.specs.steps.TrimmedCopies.{are_plain, AreDeletes, kept_changes, lost_paths}
 use Rattle.dump_cut.specs.steps.Deletes.{delete_texts_of}
 
 -- a path with names of nodes has no leading slash

@@ -8,30 +8,32 @@ use Rattle.std.proofs.lemmas.List.{length-map, take_more}
 use Rattle.std.proofs.lemmas.Slice.Eq.{bytes_eq-Decides}
 use Rattle.std.proofs.lemmas.Slice.Zip.{AllZip-long}
 use Rattle.dump_rules.specs.Prefix.{bare_path}
-use Rattle.dump_trees.specs.Listing.{names_look}
-use Rattle.dump_trees.specs.Looking.{placed_from}
+use Rattle.dump_trees.specs.steps.Listing.{names_look}
+use Rattle.dump_trees.specs.steps.Looking.{placed_from}
 use Rattle.dump_trees.specs.Paths.{NodePath, below, is_name, names_of, parent_of, path_text}
 use Rattle.dump_trees.specs.Restriction.{is_root}
-use Rattle.dump_trees.specs.Returns.{is_covered, named_rest, rests_below}
-use Rattle.dump_trees.specs.Siblings.{has_name_behind, has_node_names, is_above_included, is_in_cut, is_node_name, is_parent_above, is_sibling, is_within}
+use Rattle.dump_trees.specs.Returns.{is_covered}
+use Rattle.dump_trees.specs.steps.Returns.{named_rest, rests_below}
+use Rattle.dump_trees.specs.Siblings.{has_node_names, is_node_name, is_within}
+use Rattle.dump_trees.specs.steps.Siblings.{has_name_behind, is_above_included, is_in_cut, is_parent_above, is_sibling}
 use Rattle.dump_trees.proofs.changes.TreeLemmas.{parent_rest}
 use Rattle.dump_trees.proofs.cuts.CoveredPaths.{covered_by, filter_there, list_all_of, all_has, within_itself}
 use Rattle.dump_trees.proofs.cuts.EverSiblings.{ever_siblings_are_found}
 use Rattle.dump_trees.proofs.paths.PathNames.{text_read}
 use Rattle.dump_trees.proofs.paths.SiblingLemmas.{are_names, both_names, cut_above, front_names, higher_rest}
-use Rattle.dump_index.specs.Children.{is_child_named}
-use Rattle.dump_index.specs.NamesEver.{AreNamesEver}
+use Rattle.dump_index.specs.steps.Children.{is_child_named}
+use Rattle.dump_index.specs.steps.NamesEver.{AreNamesEver}
 use Rattle.dump_index.specs.steps.Names.{texts_of}
 use Rattle.dump_index.specs.steps.Touching.{joined_text}
 use Rattle.dump_index.proofs.ChildLemmas.{pushed_named}
 use Rattle.dump_index.proofs.NameLemmas.{names_of_name}
 use Rattle.dump_index.proofs.SlashLemmas.{names_joined}
-use Rattle.dump_index.specs.IndexLaws.{IsListed}
-use Rattle.dump_index.specs.Listed.{Listed, listed_of, all_placed}
+use Rattle.dump_index.specs.steps.IndexLaws.{IsListed}
+use Rattle.dump_index.specs.steps.Listed.{Listed, listed_of, all_placed}
 use Rattle.dump_index.proofs.RestLemmas.{split_some}
 use Rattle.dump_index.proofs.SameNames.{names_same}
-use Rattle.dump_cut.specs.FoundSiblings.{FoundSiblingsAreAll}
-use Rattle.dump_cut.specs.NamedPaths.{has_named_paths}
+use Rattle.dump_cut.specs.steps.FoundSiblings.{FoundSiblingsAreAll}
+use Rattle.dump_cut.specs.steps.NamedPaths.{has_named_paths}
 use Rattle.dump_cut.proofs.GrowingLemmas.{added_covers}
 use Rattle.dump_cut.proofs.NodeNames.{look_named}
 use Rattle.dump_cut.specs.steps.ExcludedPaths.{IsGrownIf, paths_of}

@@ -10,14 +10,14 @@ use Rattle.std.specs.Ordering.{is_eq, match_ordering, nat_cmp}
 use Rattle.std.specs.declared.cmp.Ordering.{Ordering}
 use Rattle.std.specs.declared.cmp.Ordering.TheVariants.{Less, Equal, Greater}
 use Rattle.dump_trees.specs.Paths.{NodePath, names_of}
-use Rattle.dump_trees.specs.Following.{IsGrown}
+use Rattle.dump_trees.specs.steps.Following.{IsGrown}
 use Rattle.dump_trees.specs.Returns.{is_covered}
 use Rattle.dump_trees.specs.Siblings.{has_node_names, is_within}
 use Rattle.dump_trees.specs.CanonicalPaths.{canonical_path, canonical_paths}
 use Rattle.dump_trees.proofs.paths.CanonicalLemmas.{canonical_have_names}
 use Rattle.dump_trees.proofs.cuts.CoveredPaths.{covered_more}
 use Rattle.dump_trees.proofs.cuts.FollowLemmas.{grown_paths_cover}
-use Rattle.dump_index.specs.Effects.{stands_over}
+use Rattle.dump_index.specs.steps.Effects.{stands_over}
 use Rattle.dump_index.specs.steps.Touching.{rest_text}
 use Rattle.dump_cut.specs.steps.ExcludedPaths.{IsGrownIf, paths_of}
 use Rattle.dump_cut.specs.steps.ExcludedTexts.{AreExcluded, is_text_below, texts_below}

@@ -18,14 +18,15 @@ use Rattle.dump_trees.specs.Trees.{Tree, root_alone}
 use Rattle.dump_trees.proofs.histories.FrontLemmas.{loaded_behind, loaded_length}
 use Rattle.dump_trees.proofs.histories.KeptNumbers.{get_last, length_push}
 use Rattle.dump_history.specs.DumpChanges.{HaveRevisionProperties, LoadsAs, MakeChanges, counts_from, has_ordered_nodes}
-use Rattle.dump_history.specs.ExpandedDumps.{IsSameRecord}
+use Rattle.dump_history.specs.steps.ExpandedDumps.{IsSameRecord}
 use Rattle.dump_history.specs.ExpandedText.{AreRecordTexts}
 use Rattle.dump_history.specs.RecordChanges.{Patching}
 use Rattle.dump_history.proofs.cuts.TrimmedTexts.{same_group_revisions, same_groups_make, same_ordered}
 use Rattle.dump_history.proofs.expanded.FormLemmas.{AllFit, all_fit}
 use Rattle.dump_history.proofs.expanded.StandLemmas.{HaveSameRevisions, same_numbers, same_properties}
 use Rattle.dump_history.proofs.expanded.TextLemmas.{both_fit, texts_grow}
-use Rattle.dump_cut.specs.LaterParts.{DumpsLoadInParts, KeepsVersion, LoadsInParts, LoadsOn, head_part, is_later_revision, part_from, part_up_to}
+use Rattle.dump_cut.specs.LaterParts.{KeepsVersion, LoadsInParts, LoadsOn, head_part, is_later_revision, part_from, part_up_to}
+use Rattle.dump_cut.specs.steps.LaterParts.{DumpsLoadInParts}
 use Rattle.dump_cut.proofs.TrimmedTextLemmas.{cut_texts}
 use Rattle.dump_cut.proofs.LaterRecords.{BeginsGroup, CutBefore, before_first, begins_group, both_parts, counted_parts, cut_at, cut_before, first_is_dump, first_no_revision, fit_parts, from_first, groups_join, groups_up_to, later_revision, no_groups_before, ordered_join, texts_are_dump, version_before, versions_rest, zip_parts}
 

@@ -15,7 +15,7 @@ use Rattle.dump_records.proofs.ListLaw.{each_dump_has_one_list}
 use Rattle.dump_digest.specs.RecordParts.{is_revision_record}
 use Rattle.dump_filter.specs.Groups.{revision_number, revision_numbers}
 use Rattle.dump_history.specs.DumpChanges.{counts_from}
-use Rattle.dump_changes.specs.ListedDumps.{are_numbered}
+use Rattle.dump_changes.specs.steps.ListedDumps.{are_numbered}
 use Rattle.dump_cut.specs.LaterParts.{place_of_first}
 use Rattle.dump_cut.specs.steps.CountedRevisions.{counted_from}
 use Rattle.dump_records.proofs.CutterLemmas.{ReadSoFar, goes_on, none_read, not_broken, read_ends, read_more}

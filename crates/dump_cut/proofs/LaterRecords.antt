@@ -20,7 +20,7 @@ use Rattle.dump_filter.proofs.again.Headers.{no_others}
 use Rattle.dump_filter.proofs.groups.GroupLemmas.{groups_before}
 use Rattle.dump_filter.proofs.groups.KindLemmas.{alone}
 use Rattle.dump_history.specs.DumpChanges.{counts_from, has_ordered_nodes}
-use Rattle.dump_history.specs.ExpandedDumps.{IsSameRecord}
+use Rattle.dump_history.specs.steps.ExpandedDumps.{IsSameRecord}
 use Rattle.dump_history.specs.ExpandedText.{AreRecordTexts}
 use Rattle.dump_history.proofs.expanded.FormLemmas.{AllFit, Fits}
 use Rattle.dump_history.proofs.expanded.TextLemmas.{joins_behind, put_one, some_same}

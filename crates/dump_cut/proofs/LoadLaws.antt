@@ -3,17 +3,18 @@ use Rattle.std.proofs.Common.{◌≡◌, ℕ, zero, suc, ◌<◌, Bool, true, fa
 use Rattle.std.proofs.lemmas.Bool.{and_from}
 use Rattle.std.specs.List.{slice_get}
 use Rattle.dump_trees.specs.Changes.{Made}
-use Rattle.dump_trees.specs.LoadCheck.{Kind, Kinds, ToldKinds, kind_left, kind_made, kinds_told, deletion_allowed, making_allowed, is_directory, is_file, sets_props, allowed_there, all_allowed, all_apply}
-use Rattle.dump_trees.specs.Looking.{Placed, placed_from}
+use Rattle.dump_trees.specs.LoadCheck.{sets_props}
+use Rattle.dump_trees.specs.steps.LoadCheck.{Kind, Kinds, ToldKinds, kind_left, kind_made, kinds_told, deletion_allowed, making_allowed, is_directory, is_file, allowed_there, all_allowed, all_apply}
+use Rattle.dump_trees.specs.steps.Looking.{Placed, placed_from}
 use Rattle.dump_trees.specs.Paths.{NodePath, parent_of}
 use Rattle.dump_trees.specs.Restriction.{is_root}
 use Rattle.dump_trees.specs.Trees.{root_alone}
 use Rattle.dump_trees.proofs.cuts.CheckedLoads.{dump_is_allowed, first_rejection_is_there, get_some}
 use Rattle.dump_index.proofs.ToldLemmas.{index_tells_kinds}
-use Rattle.dump_index.specs.Listed.{listed_of}
-use Rattle.dump_index.specs.ToldKinds.{kinds_told_by}
-use Rattle.dump_cut.specs.LoadChecks.{NoneRejected, reason_there, RejectedIsFirst, UnrejectedLoads}
-use Rattle.dump_cut.specs.Rejections.{first_reason, deletion_rejected, parent_rejected, new_rejected, copying_rejected, making_rejected, props_rejected, text_rejected, RejectedIsNotAllowed}
+use Rattle.dump_index.specs.steps.Listed.{listed_of}
+use Rattle.dump_index.specs.steps.ToldKinds.{kinds_told_by}
+use Rattle.dump_cut.specs.steps.LoadChecks.{NoneRejected, reason_there, RejectedIsFirst, UnrejectedLoads}
+use Rattle.dump_cut.specs.steps.Rejections.{first_reason, deletion_rejected, parent_rejected, new_rejected, copying_rejected, making_rejected, props_rejected, text_rejected, RejectedIsNotAllowed}
 use Rattle.dump_cut.specs.declared.rejection.Rejection.{Rejection}
 use Rattle.std.proofs.Math.Bool.{and-false}
 use Rattle.std.proofs.lemmas.Option.{slice_get_within}

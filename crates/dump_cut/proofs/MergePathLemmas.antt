@@ -30,7 +30,7 @@ use Rattle.dump_trees.specs.CanonicalPaths.{canonical_path}
 use Rattle.dump_trees.specs.Paths.{NodePath, names_of}
 use Rattle.dump_trees.specs.Siblings.{has_node_names}
 use Rattle.dump_trees.proofs.cuts.CoveredPaths.{contains_cases, contains_none, contains_first, contains_later, list_all_of}
-use Rattle.dump_cut.specs.NamedLines.{AreMergePaths}
+use Rattle.dump_cut.specs.steps.NamedLines.{AreMergePaths}
 use Rattle.dump_cut.specs.steps.MergePaths.{AddsPaths, IsInLine, IsInLines, IsInProperties, IsInRecord, IsInValue}
 use Rattle.dump_cut.proofs.ColonLemmas.{last_colon, path_of_parted}
 use Rattle.dump_records.proofs.CutterLemmas.{ReadSoFar, read_ends}

@@ -8,16 +8,16 @@ use Rattle.dump_text.specs.Names.{node_kind_name}
 use Rattle.dump_records.specs.RecordText.{DumpRecord}
 use Rattle.dump_digest.specs.RecordParts.{is_copy, node_path}
 use Rattle.dump_trees.specs.Changes.{Made, Change}
-use Rattle.dump_trees.specs.Looking.{Placed}
+use Rattle.dump_trees.specs.steps.Looking.{Placed}
 use Rattle.dump_trees.specs.Paths.{is_short, names_of}
 use Rattle.dump_trees.specs.Siblings.{has_node_names}
 use Rattle.dump_trees.proofs.paths.SiblingLemmas.{short_names}
 use Rattle.dump_history.specs.RecordChanges.{Patching, MakesChange, copied_from, copy_path, has_known_action, has_undefined_delta, is_plain_line, made_by_kind, made_of, makes, says, property_change_of, text_change_of, deletes}
-use Rattle.dump_index.specs.IndexLaws.{IsListed}
-use Rattle.dump_index.specs.Listed.{Listed, listed_of}
+use Rattle.dump_index.specs.steps.IndexLaws.{IsListed}
+use Rattle.dump_index.specs.steps.Listed.{Listed, listed_of}
 use Rattle.dump_index.specs.declared.change.NodeChange.{NodeChange}
-use Rattle.dump_changes.specs.ListedDumps.{AreListedIn, NodesMake, NoRecord, RevisionRecord, NodeRecord, OtherRecord, without_number}
-use Rattle.dump_cut.specs.NamedPaths.{has_named_paths, has_named_source}
+use Rattle.dump_changes.specs.steps.ListedDumps.{NoRecord, RevisionRecord, NodeRecord, OtherRecord, AreListedIn, NodesMake, without_number}
+use Rattle.dump_cut.specs.steps.NamedPaths.{has_named_paths, has_named_source}
 
 -- the same for a change of the repository
 abbrev is_named : Change → Bool

@@ -14,12 +14,13 @@ use Rattle.dump_digest.specs.RecordParts.{value_of, HasPropertyList, is_mergeinf
 use Rattle.dump_trees.specs.CanonicalPaths.{canonical_path}
 use Rattle.dump_trees.specs.Paths.{NodePath, names_of}
 use Rattle.dump_trees.specs.Returns.{is_covered}
-use Rattle.dump_trees.specs.Siblings.{has_node_names, is_in_cut, is_node_name, is_sibling}
+use Rattle.dump_trees.specs.Siblings.{has_node_names, is_node_name}
+use Rattle.dump_trees.specs.steps.Siblings.{is_in_cut, is_sibling}
 use Rattle.dump_trees.proofs.cuts.CoveredPaths.{contains_cases, contains_none, contains_first, contains_later, covered_itself, covered_more}
 use Rattle.dump_trees.proofs.paths.SiblingLemmas.{both_names, above_there}
-use Rattle.dump_index.specs.Listed.{Listed}
-use Rattle.dump_cut.specs.FoundSiblings.{AreFoundSiblings}
-use Rattle.dump_cut.specs.NamedLines.{AreMergePaths, CoverMergeinfo, is_left_by, NamesPath}
+use Rattle.dump_index.specs.steps.Listed.{Listed}
+use Rattle.dump_cut.specs.steps.FoundSiblings.{AreFoundSiblings}
+use Rattle.dump_cut.specs.steps.NamedLines.{AreMergePaths, CoverMergeinfo, is_left_by, NamesPath}
 use Rattle.dump_cut.specs.steps.ExcludedPaths.{IsGrownIf}
 use Rattle.dump_cut.specs.steps.MoreSiblings.{AreMore}
 use Rattle.dump_cut.proofs.FoundSiblings.{adds_sibling, sibling_covered, sibling_in}

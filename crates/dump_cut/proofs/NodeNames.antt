@@ -6,16 +6,16 @@ use Rattle.std.proofs.lemmas.Bool.{and_parts, and_from, or_cases}
 use Rattle.std.proofs.lemmas.List.Folds.{list_all-append}
 use Rattle.std.proofs.lemmas.Slice.Eq.{bytes_eq-Decides}
 use Rattle.dump_trees.specs.Changes.{Made, Change}
-use Rattle.dump_trees.specs.Listing.{name_made, name_below, names_made, names_from, names_left, names_there, names_behind, names_within, names_look}
-use Rattle.dump_trees.specs.Looking.{Placed, Origin, end_of, latest, origin_of, touches_path}
+use Rattle.dump_trees.specs.steps.Listing.{name_made, name_below, names_made, names_from, names_left, names_there, names_behind, names_within, names_look}
+use Rattle.dump_trees.specs.steps.Looking.{Placed, Origin, end_of, latest, origin_of, touches_path}
 use Rattle.dump_trees.specs.Paths.{NodePath, below, names_of}
 use Rattle.dump_trees.specs.Siblings.{has_node_names, is_node_name}
 use Rattle.dump_trees.proofs.changes.TreeLemmas.{below_rest}
 use Rattle.dump_trees.proofs.paths.SiblingLemmas.{rest_names}
-use Rattle.dump_index.specs.Children.{is_child_named}
-use Rattle.dump_index.specs.Listed.{Listed, all_placed, placed_of}
+use Rattle.dump_index.specs.steps.Children.{is_child_named}
+use Rattle.dump_index.specs.steps.Listed.{Listed, all_placed, placed_of}
 use Rattle.dump_index.proofs.KeyLemmas.{get-map}
-use Rattle.dump_cut.specs.NamedPaths.{has_named_paths}
+use Rattle.dump_cut.specs.steps.NamedPaths.{has_named_paths}
 
 -- what follows the top has names of the path
 rest_named : (top path rest : NodePath) → below top path ≡ Some rest → has_node_names path ≡ true → has_node_names rest ≡ true

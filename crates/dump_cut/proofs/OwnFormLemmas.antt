@@ -9,13 +9,14 @@ use Rattle.dump_digest.specs.RecordParts.{is_node, is_revision_record}
 use Rattle.dump_filter.specs.Groups.{Group, groups, group_of}
 use Rattle.dump_trees.specs.Changes.{Change}
 use Rattle.dump_trees.specs.Trees.{root_alone}
-use Rattle.dump_trees.specs.Expansions.{AllRevisionsExpand}
+use Rattle.dump_trees.specs.steps.Expansions.{AllRevisionsExpand}
 use Rattle.dump_trees.proofs.expansions.StayingLemmas.{separated_revisions_expand}
 use Rattle.dump_history.specs.RecordChanges.{Patching, MakesChange}
 use Rattle.dump_history.specs.DumpChanges.{MakeChanges}
-use Rattle.dump_history.specs.ExpandedDumps.{OwnForm, Stead, may_stand, expanded_records}
-use Rattle.dump_history.specs.ExpandedText.{AreRecordTexts, expanded_changes, expanded_revisions, node_steads, stead_groups, made_in_stead}
-use Rattle.dump_cut.specs.TakenCopies.{SeparatedDumpIsItsExpansion}
+use Rattle.dump_history.specs.steps.ExpandedDumps.{OwnForm, Stead, may_stand, expanded_records}
+use Rattle.dump_history.specs.ExpandedText.{AreRecordTexts}
+use Rattle.dump_history.specs.steps.ExpandedText.{expanded_changes, expanded_revisions, node_steads, stead_groups, made_in_stead}
+use Rattle.dump_cut.specs.steps.TakenCopies.{SeparatedDumpIsItsExpansion}
 use Rattle.dump_cut.proofs.TrimmedTextLemmas.{cut_texts}
 
 -- each record is in its own place

@@ -10,7 +10,7 @@ use Rattle.dump_trees.proofs.paths.CanonicalLemmas.{split_joined, split_name}
 use Rattle.dump_trees.proofs.paths.PathNames.{split}
 use Rattle.dump_trees.proofs.paths.PrefixPaths.{has_no_slash}
 use Rattle.dump_trees.proofs.paths.SiblingLemmas.{front_names, rest_names}
-use Rattle.dump_index.specs.InOrder.{ends_in_slash}
+use Rattle.dump_index.specs.steps.InOrder.{ends_in_slash}
 use Rattle.dump_cut.specs.steps.ParentTexts.{after_slash, parent_text}
 
 -- a text has no slash, or it is the part before its last slash, the slash, and a name

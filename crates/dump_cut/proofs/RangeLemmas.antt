@@ -8,10 +8,10 @@ use Rattle.std.specs.Cmp.{both_ways}
 use Rattle.std.specs.Ordering.{ordering_then, is_gt, is_le, nat_cmp}
 use Rattle.std.specs.declared.cmp.Ordering.{Ordering}
 use Rattle.dump_trees.specs.Paths.{names_of, below, path_text}
-use Rattle.dump_trees.specs.Returns.{rests_below, named_rest}
+use Rattle.dump_trees.specs.steps.Returns.{rests_below, named_rest}
 use Rattle.dump_trees.specs.Siblings.{has_node_names}
-use Rattle.dump_index.specs.InOrder.{ends_in_slash}
-use Rattle.dump_index.specs.Effects.{goes_on, stands_over}
+use Rattle.dump_index.specs.steps.InOrder.{ends_in_slash}
+use Rattle.dump_index.specs.steps.Effects.{goes_on, stands_over}
 use Rattle.dump_index.specs.steps.Touching.{rest_text}
 use Rattle.dump_trees.proofs.paths.PathNames.{split_text}
 use Rattle.dump_index.proofs.BelowLemmas.{Sides, sides}

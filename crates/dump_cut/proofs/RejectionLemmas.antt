@@ -1,15 +1,16 @@
 -- Why a load rejects a change, as determined by what an index says of it.
 use Rattle.std.proofs.Common.{◌≡◌, Option, Some, None, is_some, refl, [], ◌∷◌, Result, Ok, Err, IfOk}
 use Rattle.dump_trees.specs.Changes.{PropertyChange, TextChange}
-use Rattle.dump_trees.specs.LoadCheck.{Kinds, kind_left, kind_made, sets_props}
-use Rattle.dump_trees.specs.Looking.{Placed}
+use Rattle.dump_trees.specs.LoadCheck.{sets_props}
+use Rattle.dump_trees.specs.steps.LoadCheck.{Kinds, kind_left, kind_made}
+use Rattle.dump_trees.specs.steps.Looking.{Placed}
 use Rattle.dump_trees.specs.Paths.{names_of}
 use Rattle.dump_trees.specs.Restriction.{is_root}
-use Rattle.dump_index.specs.IndexLaws.{HasProps, HasText, IsListed}
-use Rattle.dump_index.specs.Listed.{Listed}
+use Rattle.dump_index.specs.steps.IndexLaws.{HasProps, HasText, IsListed}
+use Rattle.dump_index.specs.steps.Listed.{Listed}
 use Rattle.dump_index.specs.declared.change.Setting.{Setting}
 use Rattle.dump_index.specs.declared.change.Setting.TheVariants.{Keeps, Replaces, Edits, EditsNothing}
-use Rattle.dump_cut.specs.Rejections.{first_reason, deletion_rejected, making_rejected, setting_rejected, rejected_for}
+use Rattle.dump_cut.specs.steps.Rejections.{first_reason, deletion_rejected, making_rejected, setting_rejected, rejected_for}
 use Rattle.dump_cut.specs.steps.KindViews.{sets_some}
 use Rattle.dump_cut.specs.declared.rejection.Rejection.{Rejection}
 

@@ -5,15 +5,15 @@ use Rattle.std.specs.List.{list_all, slice_get}
 use Rattle.dump_trees.specs.Paths.{NodePath, names_of}
 use Rattle.dump_trees.specs.Changes.{Made}
 use Rattle.dump_trees.specs.Following.{Way}
-use Rattle.dump_trees.specs.FollowedRests as FollowedRests
-use Rattle.dump_trees.specs.FollowedRests.{all_rests, rests_at, rests_made}
-use Rattle.dump_trees.specs.LoadCheck.{ToldKinds}
-use Rattle.dump_trees.specs.Looking.{Placed}
-use Rattle.dump_index.specs.InOrder.{ends_in_slash}
-use Rattle.dump_index.specs.ToldKinds.{kind_meant}
+use Rattle.dump_trees.specs.steps.FollowedRests as FollowedRests
+use Rattle.dump_trees.specs.steps.FollowedRests.{all_rests, rests_at, rests_made}
+use Rattle.dump_trees.specs.steps.LoadCheck.{ToldKinds}
+use Rattle.dump_trees.specs.steps.Looking.{Placed}
+use Rattle.dump_index.specs.steps.InOrder.{ends_in_slash}
+use Rattle.dump_index.specs.steps.ToldKinds.{kind_meant}
 use Rattle.dump_index.specs.declared.change.NodeKind.{NodeKind}
 use Rattle.dump_cut.specs.steps.Returned.{placed_rests}
-use Rattle.dump_cut.specs.TakenCopies.{is_made_taken, is_taken_at}
+use Rattle.dump_cut.specs.steps.TakenCopies.{is_made_taken, is_taken_at}
 use Rattle.dump_cut.proofs.RangeLemmas.{shown_twice}
 
 -- two clauses of one result

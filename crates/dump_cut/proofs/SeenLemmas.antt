@@ -5,23 +5,23 @@ use Rattle.std.specs.List.{AllZip}
 use Rattle.std.proofs.lemmas.Bool.{and_parts}
 use Rattle.std.proofs.lemmas.List.{length-reverse}
 use Rattle.dump_trees.specs.Changes.{Made}
-use Rattle.dump_trees.specs.LoadCheck.{Kind, kinds_told, source_told}
-use Rattle.dump_trees.specs.LoadCheck as LoadCheck
-use Rattle.dump_trees.specs.Looking.{Placed, end_of}
+use Rattle.dump_trees.specs.steps.LoadCheck.{Kind, kinds_told, source_told}
+use Rattle.dump_trees.specs.steps.LoadCheck as LoadCheck
+use Rattle.dump_trees.specs.steps.Looking.{Placed, end_of}
 use Rattle.dump_trees.specs.Paths.{NodePath, names_of, parent_of}
 use Rattle.dump_trees.specs.Restriction.{is_root}
 use Rattle.dump_trees.specs.Siblings.{has_node_names}
-use Rattle.dump_index.specs.IndexLaws.{IsListed}
-use Rattle.dump_index.specs.Kinds.{kind_look}
-use Rattle.dump_index.specs.Listed.{Listed, listed_made, listed_of, all_placed}
-use Rattle.dump_index.specs.ToldKinds.{kind_meant, kinds_told_by}
+use Rattle.dump_index.specs.steps.IndexLaws.{IsListed}
+use Rattle.dump_index.specs.steps.Kinds.{kind_look}
+use Rattle.dump_index.specs.steps.Listed.{Listed, listed_made, listed_of, all_placed}
+use Rattle.dump_index.specs.steps.ToldKinds.{kind_meant, kinds_told_by}
 use Rattle.dump_index.specs.steps.KnownKinds.{AreKindsBehind, source_look}
 use Rattle.dump_index.specs.declared.change.NodeChange.{NodeChange}
 use Rattle.dump_index.specs.declared.change.NodeKind.{NodeKind}
 use Rattle.dump_index.proofs.KeyLemmas.{listed_at}
 use Rattle.dump_index.proofs.KnownLemmas.{known_more}
 use Rattle.dump_index.proofs.LawLemmas.{end_same}
-use Rattle.dump_cut.specs.NamedPaths.{has_named_paths, has_named_source}
+use Rattle.dump_cut.specs.steps.NamedPaths.{has_named_paths, has_named_source}
 use Rattle.dump_cut.specs.declared.kinds.Kinds.{Kinds}
 use Rattle.dump_cut.specs.declared.seen_parent.Seen.{Seen}
 use Rattle.dump_cut.specs.declared.seen_parent.SeenParent.{SeenParent}

@@ -4,7 +4,7 @@ use Rattle.std.proofs.lemmas.Bool.{and_parts}
 use Rattle.dump_trees.specs.Paths.{NodePath}
 use Rattle.dump_trees.specs.Trees.{Tree}
 use Rattle.dump_trees.specs.Changes.{Made, Change, History, step}
-use Rattle.dump_trees.specs.LoadCheck.{Kinds, kinds_before, kinds_allow, deletion_allowed, making_allowed, kind_left, kind_at, source_kind, is_directory, delta_applies, node_set}
+use Rattle.dump_trees.specs.steps.LoadCheck.{Kinds, kinds_before, kinds_allow, deletion_allowed, making_allowed, kind_left, kind_at, source_kind, is_directory, delta_applies, node_set}
 use Rattle.dump_trees.proofs.cuts.CheckedSteps.{kind_some, step_is_allowed}
 
 pub source_exists : (history : History) (before after : Tree) (c : Change) (number : ℕ) (source : NodePath) (old : Tree)

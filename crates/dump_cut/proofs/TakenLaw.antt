@@ -5,15 +5,16 @@ use Rattle.std.proofs.lemmas.List.Folds.{list_all-append, list_all-map}
 use Rattle.std.specs.List.{AllZip, list_all}
 use Rattle.dump_trees.specs.Changes.{Change}
 use Rattle.dump_trees.specs.Paths.{names_of}
-use Rattle.dump_trees.specs.Looking.{Placed, placed_from}
-use Rattle.dump_trees.specs.Siblings.{has_node_names, have_node_names}
+use Rattle.dump_trees.specs.steps.Looking.{Placed, placed_from}
+use Rattle.dump_trees.specs.Siblings.{has_node_names}
+use Rattle.dump_trees.specs.steps.Siblings.{have_node_names}
 use Rattle.dump_history.proofs.cuts.CutLaws.{excluded_dump_loads_numbered}
-use Rattle.dump_index.specs.IndexLaws.{IsListed}
-use Rattle.dump_index.specs.Listed.{Listed, listed_of}
-use Rattle.dump_index.specs.ToldKinds.{kinds_told_by}
+use Rattle.dump_index.specs.steps.IndexLaws.{IsListed}
+use Rattle.dump_index.specs.steps.Listed.{Listed, listed_of}
+use Rattle.dump_index.specs.steps.ToldKinds.{kinds_told_by}
 use Rattle.dump_index.proofs.ToldLemmas.{index_tells_kinds}
-use Rattle.dump_cut.specs.NamedPaths.{has_named_paths, has_named_source}
-use Rattle.dump_cut.specs.TakenCopies.{TakenDumpLoads}
+use Rattle.dump_cut.specs.steps.NamedPaths.{has_named_paths, has_named_source}
+use Rattle.dump_cut.specs.steps.TakenCopies.{TakenDumpLoads}
 use Rattle.dump_cut.proofs.OwnFormLemmas.{own_expansion}
 use Rattle.dump_cut.proofs.TakenLemmas.{taken_revisions_separate}
 

@@ -6,15 +6,19 @@ use Rattle.std.proofs.lemmas.Bool.{and_parts, and_from, not_from_false, not-true
 use Rattle.std.proofs.lemmas.Option.{slice_get_within}
 use Rattle.dump_rules.specs.Settings.{Settings}
 use Rattle.dump_trees.specs.Paths.{NodePath, keeps}
-use Rattle.dump_trees.specs.Trees.{Tree, HasDirectories, root_alone}
+use Rattle.dump_trees.specs.Trees.{Tree, root_alone}
+use Rattle.dump_trees.specs.steps.Trees.{HasDirectories}
 use Rattle.dump_trees.specs.Changes.{Made, Change, step}
 use Rattle.dump_trees.specs.Separation.{Separates}
 use Rattle.dump_trees.specs.Revisions.{loaded, loaded_over, AllSeparate, AllRevisionsSeparate}
-use Rattle.dump_trees.specs.Looking.{Placed, placed_from}
-use Rattle.dump_trees.specs.LoadCheck.{ToldKinds, TellsKinds}
-use Rattle.dump_trees.specs.Siblings.{has_node_names, have_node_names, ExcludesPaths}
-use Rattle.dump_trees.specs.Returns.{is_covered, rests_covered, IsCopyOver}
-use Rattle.dump_trees.specs.Following.{Way, from_of, to_of, Copies, followed, followed_told}
+use Rattle.dump_trees.specs.steps.Looking.{Placed, placed_from}
+use Rattle.dump_trees.specs.steps.LoadCheck.{ToldKinds, TellsKinds}
+use Rattle.dump_trees.specs.Siblings.{has_node_names}
+use Rattle.dump_trees.specs.steps.Siblings.{have_node_names, ExcludesPaths}
+use Rattle.dump_trees.specs.Returns.{is_covered}
+use Rattle.dump_trees.specs.steps.Returns.{rests_covered, IsCopyOver}
+use Rattle.dump_trees.specs.Following.{Way, from_of, to_of, Copies}
+use Rattle.dump_trees.specs.steps.Following.{followed, followed_told}
 use Rattle.dump_trees.proofs.paths.SiblingLemmas.{rest_names, both_names, excluded_match}
 use Rattle.dump_trees.proofs.histories.KeptNumbers.{get_before}
 use Rattle.dump_trees.proofs.histories.FrontLemmas.{loaded_behind}
@@ -24,7 +28,7 @@ use Rattle.dump_trees.proofs.cuts.CoveredPaths.{contains_first, contains_later, 
 use Rattle.dump_trees.proofs.cuts.FollowLemmas.{each_copy_is_over}
 use Rattle.dump_trees.proofs.cuts.PlacedCopies.{copies_are_placed, followed_is_told}
 use Rattle.dump_cut.proofs.SourceLemmas.{source_exists}
-use Rattle.dump_cut.specs.TakenCopies.{is_copy_taken, is_made_taken, is_taken_at, AllTaken, TakenRevisionsSeparate}
+use Rattle.dump_cut.specs.steps.TakenCopies.{is_copy_taken, is_made_taken, is_taken_at, AllTaken, TakenRevisionsSeparate}
 use Rattle.dump_cut.proofs.RangeLemmas.{empty_list}
 
 -- if a copy isn't followed anywhere, the paths cover what it would be followed to

@@ -10,22 +10,24 @@ use Rattle.dump_filter.specs.NewContent.{IsNewProperty}
 use Rattle.dump_filter.proofs.knowing.Answered.{all_lawful}
 use Rattle.dump_records.specs.RecordText.{DumpRecord}
 use Rattle.dump_trees.specs.Changes.{Change}
-use Rattle.dump_trees.specs.Looking.{placed_from}
+use Rattle.dump_trees.specs.steps.Looking.{placed_from}
 use Rattle.dump_trees.specs.Paths.{NodePath, keeps, path_of}
-use Rattle.dump_trees.specs.Revisions.{IsWrittenNumber, keeps_revision, kept_of}
-use Rattle.dump_trees.specs.Siblings.{have_node_names}
+use Rattle.dump_trees.specs.Revisions.{IsWrittenNumber}
+use Rattle.dump_trees.specs.steps.Revisions.{keeps_revision, kept_of}
+use Rattle.dump_trees.specs.steps.Siblings.{have_node_names}
 use Rattle.dump_trees.specs.Trees.{Tree, root_alone}
-use Rattle.dump_history.specs.CutDumps.{leaves_no_gap}
+use Rattle.dump_history.specs.steps.CutDumps.{leaves_no_gap}
 use Rattle.dump_history.specs.RecordChanges.{Patching}
-use Rattle.dump_history.specs.TrimmedDumps.{AreAllTrimming, AreFilteredTrimming, FiltersRenumbered, FiltersTrimmed, part_groups, stays_empty}
+use Rattle.dump_history.specs.steps.TrimmedDumps.{AreAllTrimming, AreFilteredTrimming, FiltersRenumbered, FiltersTrimmed, part_groups, stays_empty}
 use Rattle.dump_history.specs.WrittenNodes.{WrittenNode}
 use Rattle.dump_history.proofs.restricted.FilteredLaw.{IsLeft, is_left}
 use Rattle.dump_history.proofs.cuts.OwnNumbers.{numbers_are_kept}
-use Rattle.dump_index.specs.Listed.{listed_of}
-use Rattle.dump_index.specs.ToldKinds.{kinds_told_by}
+use Rattle.dump_index.specs.steps.Listed.{listed_of}
+use Rattle.dump_index.specs.steps.ToldKinds.{kinds_told_by}
 use Rattle.dump_index.specs.declared.change.NodeChange.{NodeChange}
 use Rattle.dump_index.proofs.ToldLemmas.{index_tells_kinds}
-use Rattle.dump_cut.specs.TrimmedCopies.{deletes_behind, delete_nodes, TrimmedCopiesLoad, TrimsDump}
+use Rattle.dump_cut.specs.TrimmedCopies.{deletes_behind, delete_nodes}
+use Rattle.dump_cut.specs.steps.TrimmedCopies.{TrimmedCopiesLoad, TrimsDump}
 use Rattle.dump_cut.proofs.DeleteGroups.{all_sizes, front_nodes, group_sizes, grouped_parts, none_first, parts_of, sizes_made}
 use Rattle.dump_cut.proofs.TakenLaw.{placed_named, revisions_named}
 use Rattle.dump_cut.proofs.TrimLemmas as trims

@@ -10,18 +10,22 @@ use Rattle.dump_rules.specs.Settings.{Settings}
 use Rattle.dump_trees.specs.Paths.{NodePath, keeps, path_of}
 use Rattle.dump_trees.specs.Trees.{Tree, root_alone}
 use Rattle.dump_trees.specs.Changes.{Made, Change, step, steps}
-use Rattle.dump_trees.specs.ComingBack.{ComesBack}
-use Rattle.dump_trees.specs.ExpansionCases.{deletion_of, deletions}
-use Rattle.dump_trees.specs.FollowedRests.{all_rests, rests_made}
-use Rattle.dump_trees.specs.Following.{Way, Copies, followed, AddsNothing}
-use Rattle.dump_trees.specs.LoadCheck.{ToldKinds, TellsKinds}
-use Rattle.dump_trees.specs.Looking.{Placed, placed_from}
-use Rattle.dump_trees.specs.Returns.{is_covered, lie_apart, IsCopyOver}
+use Rattle.dump_trees.specs.steps.ComingBack.{ComesBack}
+use Rattle.dump_trees.specs.steps.ExpansionCases.{deletion_of, deletions}
+use Rattle.dump_trees.specs.steps.FollowedRests.{all_rests, rests_made}
+use Rattle.dump_trees.specs.Following.{Way, Copies}
+use Rattle.dump_trees.specs.steps.Following.{followed, AddsNothing}
+use Rattle.dump_trees.specs.steps.LoadCheck.{ToldKinds, TellsKinds}
+use Rattle.dump_trees.specs.steps.Looking.{Placed, placed_from}
+use Rattle.dump_trees.specs.Returns.{is_covered}
+use Rattle.dump_trees.specs.steps.Returns.{lie_apart, IsCopyOver}
 use Rattle.dump_trees.specs.Restriction.{NewNumber, NewProperty}
-use Rattle.dump_trees.specs.Revisions.{AreNewChanges, AreNewRevisions, keeps_revision, loaded, loaded_over}
+use Rattle.dump_trees.specs.Revisions.{loaded, loaded_over}
+use Rattle.dump_trees.specs.steps.Revisions.{AreNewChanges, AreNewRevisions, keeps_revision}
 use Rattle.dump_trees.specs.Separation.{Separates}
-use Rattle.dump_trees.specs.Siblings.{has_node_names, have_node_names, ExcludesPaths}
-use Rattle.dump_trees.specs.Trimming.{CoverTaken, IsTrimmed}
+use Rattle.dump_trees.specs.Siblings.{has_node_names}
+use Rattle.dump_trees.specs.steps.Siblings.{have_node_names, ExcludesPaths}
+use Rattle.dump_trees.specs.steps.Trimming.{CoverTaken, IsTrimmed}
 use Rattle.dump_trees.proofs.cuts.CoveredPaths.{contains_first, contains_later}
 use Rattle.dump_trees.proofs.cuts.DeleteLemmas.{deletes_are_found}
 use Rattle.dump_trees.proofs.cuts.FollowLemmas.{each_copy_is_over}
@@ -32,9 +36,10 @@ use Rattle.dump_trees.proofs.expansions.StandingLemmas.{copy_has_tree}
 use Rattle.dump_trees.proofs.histories.FrontLemmas.{loaded_behind}
 use Rattle.dump_trees.proofs.histories.KeptNumbers.{get_before}
 use Rattle.dump_trees.proofs.paths.SiblingLemmas.{excluded_match}
-use Rattle.dump_history.specs.TrimmedDumps.{AreFilteredTrimming, AreTrimming, stays_empty}
-use Rattle.dump_history.specs.WrittenNodes.{written_change}
-use Rattle.dump_cut.specs.TrimmedCopies.{delete_nodes, kept_changes, lost_paths}
+use Rattle.dump_history.specs.steps.TrimmedDumps.{AreFilteredTrimming, AreTrimming, stays_empty}
+use Rattle.dump_history.specs.steps.WrittenNodes.{written_change}
+use Rattle.dump_cut.specs.TrimmedCopies.{delete_nodes}
+use Rattle.dump_cut.specs.steps.TrimmedCopies.{kept_changes, lost_paths}
 use Rattle.dump_cut.proofs.DeleteGroups.{all_sizes, parts_of}
 use Rattle.dump_trees.proofs.expansions.TrimmedNumbers.{at_true, at_false}
 

@@ -22,7 +22,8 @@ use Rattle.dump_records.proofs.Unique.{records_once}
 use Rattle.dump_digest.specs.RecordParts.{is_node}
 use Rattle.dump_history.specs.ExpandedText.{AreRecordTexts}
 use Rattle.dump_history.specs.TrimmedDumps.{records_behind, may_stand_behind, IsTrimmedText}
-use Rattle.dump_history.specs.WrittenNodes.{WrittenNode, can_be_written, is_plain_path, node_bytes, node_lines, node_record}
+use Rattle.dump_history.specs.WrittenNodes.{WrittenNode, can_be_written, is_plain_path, node_lines, node_record}
+use Rattle.dump_history.specs.steps.WrittenNodes.{node_bytes}
 use Rattle.dump_cut.specs.TrimmedCopies.{delete_nodes, deletes_behind}
 use Rattle.dump_cut.specs.steps.TrimmedTexts.{delete_texts}
 

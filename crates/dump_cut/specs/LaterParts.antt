@@ -1,5 +1,5 @@
 -- The part of a dump after a revision. If a repository has the revisions up to there, a load of the part adds the others.
-use Rattle.std.specs.Prelude.{◌≡◌, ℕ, suc, ◌<◌, ◌≤◌, Bool, true, false, ◌&&◌, nat_lt, List, [], ◌∷◌, ◌++◌, length, take, drop, Option, Some, None, slice_get, if◌then◌else◌, IsTrue}
+use Rattle.std.specs.Prelude.{◌≡◌, ℕ, suc, Bool, false, ◌&&◌, nat_lt, List, [], ◌∷◌, ◌++◌, length, take, drop, Some, slice_get, if◌then◌else◌, IsTrue}
 use Rattle.std.specs.List.{AllZip}
 use Rattle.dump_text.specs.PropertyList.{Property}
 use Rattle.dump_records.specs.DumpText.{Ending, HasRecords}
@@ -11,9 +11,6 @@ use Rattle.dump_trees.specs.Revisions.{loaded}
 use Rattle.dump_trees.specs.Trees.{Tree, root_alone}
 use Rattle.dump_history.specs.DumpChanges.{HaveRevisionProperties, LoadsAs, MakeChanges, counts_from, has_ordered_nodes}
 use Rattle.dump_history.specs.RecordChanges.{Patching}
-use Rattle.dump_changes.specs.ListedDumps.{are_numbered}
-use Rattle.dump_cut.specs.declared.later.NoPart.{NoPart}
-use Rattle.dump_cut.specs.declared.later.NoPart.TheVariants.{NotNumbered, NoRevision}
 
 -- the byte at which the first such record begins; the given end, if there is none
 abbrev pub place_of_first : (DumpRecord → Bool) → ℕ → List DumpRecord → ℕ
@@ -45,14 +42,6 @@ IsFirstPart number dump part = (records : List DumpRecord) → HasRecords dump r
 abbrev pub IsLaterPart : ℕ → List ℕ → List ℕ → Type 0
 IsLaterPart number dump part = (records : List DumpRecord) → HasRecords dump records Ending.Whole
     → part ≡ head_part dump records ++ part_from number dump records
-
--- why a dump with these records has no part after this revision, if it has none: its revisions aren't numbered 0, 1, 2 and so
--- on, or this isn't one of them
-abbrev pub IsWhyNoPart : ℕ → List DumpRecord → Option NoPart → Type 0
-IsWhyNoPart number records None = (are_numbered records ≡ true) × (number < length (revision_numbers records))
-IsWhyNoPart number records (Some NotNumbered) = are_numbered records ≡ false
-IsWhyNoPart number records (Some NoRevision) =
-    (are_numbered records ≡ true) × (length (revision_numbers records) ≤ number)
 
 -- the records are loaded into a repository that has these trees: their revisions are numbered on from there and make these
 -- changes, and then these are the repository's trees
@@ -90,12 +79,3 @@ pub record LoadsInParts (patched : Patching) (number : ℕ) (records : List Dump
   pub loads_later : LoadsOn patched (take (suc number) trees) others (drop number revisions) trees
   pub properties : (props : List (List Property)) → HaveRevisionProperties records props
       → HaveRevisionProperties firsts (take (suc number) props) × HaveRevisionProperties others (drop (suc number) props)
-
--- each dump that loads and has this revision loads in parts, if the format version after it is that before the first one;
--- else a node of the later part could be read under another version
-abbrev pub DumpsLoadInParts : Type 0
-DumpsLoadInParts = (patched : Patching) (number : ℕ) (dump first later : List ℕ) (records : List DumpRecord)
-    (revisions : List (List Change)) (trees : List Tree) →
-    HasRecords dump records Ending.Whole → LoadsAs patched root_alone records revisions trees → number < length trees
-    → KeepsVersion number records → IsFirstPart number dump first → IsLaterPart number dump later
-    → LoadsInParts patched number records revisions trees first later

@@ -1,14 +1,5 @@
-pub mod CutAlike
-pub mod FilteredAlike
 pub mod FirstParts
-pub mod FollowedCopies
-pub mod FoundSiblings
 pub mod LaterParts
-pub mod LoadChecks
-pub mod NamedLines
-pub mod NamedPaths
-pub mod Rejections
 pub mod RevisionFates
-pub mod TakenCopies
 pub mod TrimmedCopies
 pub mod steps

@@ -1,7 +1,7 @@
 //! The changes that make copies.
 ghost use Rattle.std.specs.Prelude.{◌≡◌, IfSome, IsFalse, IsNone, Some, option_map};
 ghost use Rattle.dump_trees.specs.Changes.{is_copied};
-ghost use Rattle.dump_index.specs.Listed.{listed_made};
+ghost use Rattle.dump_index.specs.steps.Listed.{listed_made};
 ghost use Rattle.dump_index.specs.declared.change.NodeMade.TheVariants.{CopyOf};
 
 use dump_index::{NodeChange, NodeMade, Source};

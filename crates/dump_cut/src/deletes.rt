@@ -2,15 +2,15 @@
 ghost use Rattle.std.specs.Prelude.{◌≡◌, ◌++◌, IfOk, IsTrue, List, map, option_map};
 ghost use Rattle.std.specs.List.{AllZip, list_all};
 ghost use Rattle.dump_history.specs.WrittenNodes.{is_plain_path};
-ghost use Rattle.dump_index.specs.IndexLaws.{IsListed};
-ghost use Rattle.dump_index.specs.Listed.{listed_made, listed_of};
-ghost use Rattle.dump_index.specs.ToldKinds.{kinds_told_by};
-ghost use Rattle.dump_trees.specs.FollowedRests.{rests_made};
+ghost use Rattle.dump_index.specs.steps.IndexLaws.{IsListed};
+ghost use Rattle.dump_index.specs.steps.Listed.{listed_made, listed_of};
+ghost use Rattle.dump_index.specs.steps.ToldKinds.{kinds_told_by};
+ghost use Rattle.dump_trees.specs.steps.FollowedRests.{rests_made};
 ghost use Rattle.dump_trees.specs.Following as Following;
-ghost use Rattle.dump_trees.specs.Looking.{Placed};
+ghost use Rattle.dump_trees.specs.steps.Looking.{Placed};
 ghost use Rattle.dump_trees.specs.Paths.{names_of};
 ghost use Rattle.dump_trees.specs.Siblings.{has_node_names};
-ghost use Rattle.dump_cut.specs.NamedPaths.{has_named_paths};
+ghost use Rattle.dump_cut.specs.steps.NamedPaths.{has_named_paths};
 ghost use Rattle.dump_cut.specs.TrimmedCopies.{IsTrimmedBy};
 ghost use Rattle.dump_cut.specs.steps.Deletes.{AreFoundDeletes, delete_texts_of};
 ghost use Rattle.dump_cut.specs.steps.ExcludedPaths.{paths_of};
@@ -76,7 +76,7 @@ pub struct Deletes {
 
 impl Model for Deletes {
     ghost use Rattle.std.specs.Prelude.{ℕ, List, IsTrue};
-    ghost use Rattle.dump_cut.specs.TrimmedCopies.{are_plain};
+    ghost use Rattle.dump_cut.specs.steps.TrimmedCopies.{are_plain};
     ghost use Rattle.dump_cut.specs.steps.Deletes.{delete_texts_of};
 
     ghost Value = { List (List (List ℕ)) };

@@ -2,7 +2,7 @@
 ghost use Rattle.std.specs.Prelude.{◌≡◌, ◌++◌, IfOk, IsTrue, List, OnOk, filter, map};
 ghost use Rattle.std.specs.List.{list_all};
 ghost use Rattle.dump_trees.specs.Paths.{names_of};
-ghost use Rattle.dump_cut.specs.CutAlike.{AreDifferences, covered_alone, is_covered_by_one};
+ghost use Rattle.dump_cut.specs.steps.CutAlike.{AreDifferences, covered_alone, is_covered_by_one};
 ghost use Rattle.dump_cut.specs.steps.ExcludedPaths.{paths_of};
 
 use crate::excluded::Excluded;

@@ -1,20 +1,19 @@
 //! The paths that are excluded too, because copies are followed from excluded paths.
 ghost use Rattle.std.specs.Prelude.{◌≡◌, ◌<◌, ◌≤◌, [], ℕ, List, IfOk, IsTrue, OnOk, Some, length, map, option_map, slice_get};
 ghost use Rattle.std.specs.List.{AllZip, list_all};
-ghost use Rattle.dump_trees.specs.FollowedRests.{all_rests};
+ghost use Rattle.dump_trees.specs.steps.FollowedRests.{all_rests};
 ghost use Rattle.dump_trees.specs.Following as Following;
-ghost use Rattle.dump_trees.specs.Looking.{Placed};
+ghost use Rattle.dump_trees.specs.steps.Looking.{Placed};
 ghost use Rattle.dump_trees.specs.Paths.{names_of};
 ghost use Rattle.dump_trees.specs.Siblings.{has_node_names};
-ghost use Rattle.dump_index.specs.IndexLaws.{IsListed};
-ghost use Rattle.dump_index.specs.Listed.{Listed, listed_made, listed_of};
-ghost use Rattle.dump_index.specs.ToldKinds.{kinds_told_by};
+ghost use Rattle.dump_index.specs.steps.IndexLaws.{IsListed};
+ghost use Rattle.dump_index.specs.steps.Listed.{Listed, listed_made, listed_of};
+ghost use Rattle.dump_index.specs.steps.ToldKinds.{kinds_told_by};
 ghost use Rattle.dump_cut.specs.steps.ExcludedPaths.{paths_of};
-ghost use Rattle.dump_cut.specs.FollowedCopies.{ComeByFollowing};
-ghost use Rattle.dump_cut.specs.steps.FollowedPaths.{added_paths};
+ghost use Rattle.dump_cut.specs.steps.FollowedCopies.{ComeByFollowing};
+ghost use Rattle.dump_cut.specs.steps.FollowedPaths.{added_paths, AddsOne, AddsPath, AreFollowedTo, ArePlaced, IsIdle, IsIdleAt, KeepsFollowing, paths_made};
 ghost use Rattle.dump_cut.specs.steps.Returned.{way_meant};
-ghost use Rattle.dump_cut.specs.steps.FollowedPaths.{AddsOne, AddsPath, AreFollowedTo, ArePlaced, IsIdle, IsIdleAt, KeepsFollowing, paths_made};
-ghost use Rattle.dump_cut.specs.NamedPaths.{has_named_paths};
+ghost use Rattle.dump_cut.specs.steps.NamedPaths.{has_named_paths};
 
 use crate::copies::source_of;
 use crate::excluded::Excluded;

@@ -4,7 +4,8 @@ ghost use Rattle.dump_records.specs.DumpText.{Ending, HasRecords};
 ghost use Rattle.dump_records.specs.RecordText.{DumpRecord};
 ghost use Rattle.dump_records.specs.steps.RecordViews.{record_item};
 ghost use Rattle.dump_filter.specs.Groups.{revision_numbers};
-ghost use Rattle.dump_cut.specs.LaterParts.{IsFirstPart, IsLaterPart, IsWhyNoPart, head_part, place_of_first};
+ghost use Rattle.dump_cut.specs.LaterParts.{IsFirstPart, IsLaterPart, head_part, place_of_first};
+ghost use Rattle.dump_cut.specs.steps.LaterParts.{IsWhyNoPart};
 ghost use Rattle.dump_cut.specs.steps.CountedRevisions.{counted_from, is_after};
 
 use dump_records::{Cut, Cutter, Record};

@@ -1,13 +1,13 @@
 //! Laws of what a cut finds. Each law is the contract of a function that does nothing.
-ghost use Rattle.dump_cut.specs.FilteredAlike.{AlikeCutsAreFilteredAlike, AlikeCutsCoverTheSame, FiltersWriteAlike, FirstPartsGoOn, FirstSiblingsCoverTheSame, FirstSiblingsFilterAlike};
+ghost use Rattle.dump_cut.specs.steps.FilteredAlike.{AlikeCutsAreFilteredAlike, AlikeCutsCoverTheSame, FiltersWriteAlike, FirstPartsGoOn, FirstSiblingsCoverTheSame, FirstSiblingsFilterAlike};
 ghost use Rattle.dump_cut.specs.FirstParts.{FirstPartsAreFiltered, FirstPartsAreTrimmed};
-ghost use Rattle.dump_cut.specs.FollowedCopies.{FollowedIsLeast};
-ghost use Rattle.dump_cut.specs.FoundSiblings.{FoundSiblingsAreAll};
-ghost use Rattle.dump_cut.specs.LaterParts.{DumpsLoadInParts};
-ghost use Rattle.dump_cut.specs.LoadChecks.{RejectedIsFirst, UnrejectedLoads};
-ghost use Rattle.dump_cut.specs.Rejections.{RejectedIsNotAllowed};
-ghost use Rattle.dump_cut.specs.TakenCopies.{SeparatedDumpIsItsExpansion, TakenDumpLoads, TakenRevisionsSeparate};
-ghost use Rattle.dump_cut.specs.TrimmedCopies.{TrimmedCopiesLoad};
+ghost use Rattle.dump_cut.specs.steps.FollowedCopies.{FollowedIsLeast};
+ghost use Rattle.dump_cut.specs.steps.FoundSiblings.{FoundSiblingsAreAll};
+ghost use Rattle.dump_cut.specs.steps.LaterParts.{DumpsLoadInParts};
+ghost use Rattle.dump_cut.specs.steps.LoadChecks.{RejectedIsFirst, UnrejectedLoads};
+ghost use Rattle.dump_cut.specs.steps.Rejections.{RejectedIsNotAllowed};
+ghost use Rattle.dump_cut.specs.steps.TakenCopies.{SeparatedDumpIsItsExpansion, TakenDumpLoads, TakenRevisionsSeparate};
+ghost use Rattle.dump_cut.specs.steps.TrimmedCopies.{TrimmedCopiesLoad};
 
 /// If the load check rejects no change, a dump whose text deltas apply loads into an empty repository. If it rejects
 /// one, a load accepts the changes before this one, and stops there.

@@ -3,11 +3,11 @@ ghost use Rattle.std.specs.Prelude.{◌≡◌, IfOk, IsTrue, length, option_and_
 ghost use Rattle.std.specs.List.{list_all};
 ghost use Rattle.dump_trees.specs.Paths.{names_of, parent_of};
 ghost use Rattle.dump_trees.specs.Siblings.{has_node_names};
-ghost use Rattle.dump_index.specs.Kinds.{kind_look};
-ghost use Rattle.dump_index.specs.Listed.{listed_made, listed_of};
+ghost use Rattle.dump_index.specs.steps.Kinds.{kind_look};
+ghost use Rattle.dump_index.specs.steps.Listed.{listed_made, listed_of};
 ghost use Rattle.dump_index.specs.steps.KnownKinds.{AreKindsBehind, source_look};
-ghost use Rattle.dump_cut.specs.LoadChecks.{IsFirstRejected};
-ghost use Rattle.dump_cut.specs.NamedPaths.{has_named_paths};
+ghost use Rattle.dump_cut.specs.steps.LoadChecks.{IsFirstRejected};
+ghost use Rattle.dump_cut.specs.steps.NamedPaths.{has_named_paths};
 ghost use Rattle.dump_cut.specs.steps.KindsBefore.{AreKindsBefore, AreSeen};
 
 use crate::copies::source_of;

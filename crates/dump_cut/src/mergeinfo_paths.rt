@@ -6,7 +6,7 @@ ghost use Rattle.dump_text.specs.steps.PropertyViews.{props_bytes};
 ghost use Rattle.dump_records.specs.steps.RecordViews.{record_item};
 ghost use Rattle.dump_trees.specs.Paths.{names_of};
 ghost use Rattle.dump_trees.specs.Siblings.{has_node_names};
-ghost use Rattle.dump_cut.specs.NamedLines.{AreMergePaths};
+ghost use Rattle.dump_cut.specs.steps.NamedLines.{AreMergePaths};
 ghost use Rattle.dump_cut.specs.steps.MergePaths.{AddsPaths, IsInProperties, IsInRecord, IsInValue};
 
 use crate::canonical::canonical_prefix;

@@ -1,7 +1,7 @@
 //! The siblings of included paths that mergeinfo names, whether something exists there or not.
 ghost use Rattle.std.specs.Prelude.{◌≡◌, ◌||◌, IsTrue, OnOk};
 ghost use Rattle.dump_trees.specs.CanonicalPaths.{canonical_path};
-ghost use Rattle.dump_cut.specs.NamedLines.{CoverMergeinfo, is_left_by};
+ghost use Rattle.dump_cut.specs.steps.NamedLines.{CoverMergeinfo, is_left_by};
 ghost use Rattle.dump_cut.specs.steps.ExcludedPaths.{paths_of};
 ghost use Rattle.dump_cut.specs.steps.MoreSiblings.{AreMore};
 

@@ -1,13 +1,13 @@
 //! Why a load would reject a change.
 ghost use Rattle.std.specs.Prelude.{◌≡◌, Bool, option_map};
-ghost use Rattle.dump_trees.specs.Looking.{Placed};
-ghost use Rattle.dump_trees.specs.LoadCheck.{kind_left, kind_made};
+ghost use Rattle.dump_trees.specs.steps.Looking.{Placed};
+ghost use Rattle.dump_trees.specs.steps.LoadCheck.{kind_left, kind_made};
 ghost use Rattle.dump_trees.specs.Paths.{names_of};
 ghost use Rattle.dump_trees.specs.Restriction.{is_root};
-ghost use Rattle.dump_index.specs.IndexLaws.{IsListed};
-ghost use Rattle.dump_index.specs.Listed.{listed_made, listed_of};
-ghost use Rattle.dump_index.specs.ToldKinds.{kind_meant};
-ghost use Rattle.dump_cut.specs.Rejections.{copying_rejected, deletion_rejected, making_rejected, new_rejected, parent_rejected, props_rejected, rejected_for, setting_rejected, text_rejected};
+ghost use Rattle.dump_index.specs.steps.IndexLaws.{IsListed};
+ghost use Rattle.dump_index.specs.steps.Listed.{listed_made, listed_of};
+ghost use Rattle.dump_index.specs.steps.ToldKinds.{kind_meant};
+ghost use Rattle.dump_cut.specs.steps.Rejections.{copying_rejected, deletion_rejected, making_rejected, new_rejected, parent_rejected, props_rejected, rejected_for, setting_rejected, text_rejected};
 ghost use Rattle.dump_cut.specs.steps.KindViews.{kinds_meant, sets_some};
 
 use crate::kinds::Kinds;

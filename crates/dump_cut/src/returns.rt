@@ -1,20 +1,21 @@
 //! What copies bring back of excluded paths, and to which paths they would be followed.
 ghost use Rattle.std.specs.Prelude.{◌≡◌, ◌<◌, ◌++◌, ◌&&◌, not, false, is_some, length, map, List, IfOk, IsTrue, OnOk, option_map};
 ghost use Rattle.std.specs.List.{AllZip, list_all};
-ghost use Rattle.dump_trees.specs.Following.{followed_told, from_of, to_of};
-ghost use Rattle.dump_trees.specs.FollowedRests.{all_rests, rests_made};
-ghost use Rattle.dump_trees.specs.Looking.{Placed};
+ghost use Rattle.dump_trees.specs.Following.{from_of, to_of};
+ghost use Rattle.dump_trees.specs.steps.Following.{followed_told};
+ghost use Rattle.dump_trees.specs.steps.FollowedRests.{all_rests, rests_made};
+ghost use Rattle.dump_trees.specs.steps.Looking.{Placed};
 ghost use Rattle.dump_trees.specs.Paths.{names_of};
 ghost use Rattle.dump_trees.specs.Returns.{is_covered};
 ghost use Rattle.dump_trees.specs.Siblings.{has_node_names};
-ghost use Rattle.dump_index.specs.InOrder.{ends_in_slash};
-ghost use Rattle.dump_index.specs.IndexLaws.{IsListed};
-ghost use Rattle.dump_index.specs.Listed.{listed_made, listed_of};
-ghost use Rattle.dump_index.specs.ToldKinds.{kinds_told_by};
+ghost use Rattle.dump_index.specs.steps.InOrder.{ends_in_slash};
+ghost use Rattle.dump_index.specs.steps.IndexLaws.{IsListed};
+ghost use Rattle.dump_index.specs.steps.Listed.{listed_made, listed_of};
+ghost use Rattle.dump_index.specs.steps.ToldKinds.{kinds_told_by};
 ghost use Rattle.dump_cut.specs.steps.FollowedPaths.{place_at_turn};
 ghost use Rattle.dump_cut.specs.steps.Returned.{placed_rests, rest_meant, way_meant};
 ghost use Rattle.dump_cut.specs.steps.ExcludedPaths.{paths_of};
-ghost use Rattle.dump_cut.specs.NamedPaths.{has_named_paths};
+ghost use Rattle.dump_cut.specs.steps.NamedPaths.{has_named_paths};
 
 use crate::copies::source_of;
 use crate::excluded::Excluded;

@@ -2,8 +2,8 @@
 ghost use Rattle.std.specs.Prelude.{◌≡◌, ◌<◌, ℕ, IfSome, List, MatchOption, length, true};
 ghost use Rattle.dump_trees.specs.Paths.{names_of};
 ghost use Rattle.dump_trees.specs.Restriction.{is_root};
-ghost use Rattle.dump_index.specs.Kinds.{kind_look};
-ghost use Rattle.dump_index.specs.Listed.{Listed};
+ghost use Rattle.dump_index.specs.steps.Kinds.{kind_look};
+ghost use Rattle.dump_index.specs.steps.Listed.{Listed};
 ghost use Rattle.dump_cut.specs.steps.KindsBefore.{AreSeen, IsParentOf, IsSeen};
 
 use crate::parent_path::{is_root, parent_text};

@@ -2,9 +2,10 @@
 ghost use Rattle.std.specs.Prelude.{◌≡◌, ◌++◌, ◌∷◌, [], ℕ, List, IfOk, IsTrue, OnOk, map};
 ghost use Rattle.std.specs.List.{list_all};
 ghost use Rattle.dump_trees.specs.Paths.{names_of};
-ghost use Rattle.dump_trees.specs.Siblings.{has_node_names, is_above_included, is_in_cut};
-ghost use Rattle.dump_cut.specs.FoundSiblings.{AreFoundSiblings};
-ghost use Rattle.dump_cut.specs.NamedPaths.{has_named_paths};
+ghost use Rattle.dump_trees.specs.Siblings.{has_node_names};
+ghost use Rattle.dump_trees.specs.steps.Siblings.{is_above_included, is_in_cut};
+ghost use Rattle.dump_cut.specs.steps.FoundSiblings.{AreFoundSiblings};
+ghost use Rattle.dump_cut.specs.steps.NamedPaths.{has_named_paths};
 ghost use Rattle.dump_cut.specs.steps.ExcludedPaths.{paths_of};
 ghost use Rattle.dump_cut.specs.steps.MoreSiblings.{AreMore, CoversSiblingsIn};
 

@@ -1,15 +1,15 @@
 //! Which changes the filter takes as they are: it drops the change, or it can write the change unchanged.
 ghost use Rattle.std.specs.Prelude.{◌≡◌, List, IfOk, IsTrue, option_map};
 ghost use Rattle.std.specs.List.{AllZip, list_all};
-ghost use Rattle.dump_trees.specs.Looking.{Placed};
+ghost use Rattle.dump_trees.specs.steps.Looking.{Placed};
 ghost use Rattle.dump_trees.specs.Paths.{names_of};
 ghost use Rattle.dump_trees.specs.Siblings.{has_node_names};
-ghost use Rattle.dump_index.specs.IndexLaws.{IsListed};
-ghost use Rattle.dump_index.specs.Listed.{listed_made, listed_of};
-ghost use Rattle.dump_index.specs.ToldKinds.{kinds_told_by};
+ghost use Rattle.dump_index.specs.steps.IndexLaws.{IsListed};
+ghost use Rattle.dump_index.specs.steps.Listed.{listed_made, listed_of};
+ghost use Rattle.dump_index.specs.steps.ToldKinds.{kinds_told_by};
 ghost use Rattle.dump_cut.specs.steps.ExcludedPaths.{paths_of};
-ghost use Rattle.dump_cut.specs.TakenCopies.{IsFirstNotTaken, is_copy_taken, is_made_taken};
-ghost use Rattle.dump_cut.specs.NamedPaths.{has_named_paths};
+ghost use Rattle.dump_cut.specs.steps.TakenCopies.{IsFirstNotTaken, is_copy_taken, is_made_taken};
+ghost use Rattle.dump_cut.specs.steps.NamedPaths.{has_named_paths};
 
 use crate::copies::source_of;
 use crate::excluded::Excluded;

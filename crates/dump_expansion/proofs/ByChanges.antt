@@ -11,12 +11,12 @@ use Rattle.dump_filter.proofs.groups.KindLemmas.{alone}
 use Rattle.dump_filter.proofs.knowing.Answered.{AllLawful, all_lawful}
 use Rattle.dump_trees.specs.Changes.{Change}
 use Rattle.dump_history.specs.DumpChanges.{MakeChanges, has_ordered_nodes}
-use Rattle.dump_history.specs.ExpandedDumps.{Stead}
-use Rattle.dump_history.specs.ExpandedText.{expanded_changes, expanded_revisions, node_steads, stead_groups}
+use Rattle.dump_history.specs.steps.ExpandedDumps.{Stead}
+use Rattle.dump_history.specs.steps.ExpandedText.{expanded_changes, expanded_revisions, node_steads, stead_groups}
 use Rattle.dump_history.specs.RecordChanges.{MakesChange, Patching}
-use Rattle.dump_changes.specs.NodeProperties.{node_numbers}
-use Rattle.dump_expansion.specs.ByChanges.{SteadsAreByChanges, are_given_for, expanded_by, steads_for}
-use Rattle.dump_expansion.specs.GivenSteads.{GivenStead, left_alone, own_form, stead_at, steads_in}
+use Rattle.dump_changes.specs.steps.NodeProperties.{node_numbers}
+use Rattle.dump_expansion.specs.steps.ByChanges.{SteadsAreByChanges, are_given_for, expanded_by, steads_for}
+use Rattle.dump_expansion.specs.steps.GivenSteads.{GivenStead, left_alone, own_form, stead_at, steads_in}
 
 -- the number of the next record, as the definitions write it
 next_is : (number : ℕ) → suc number ≡ number + 1

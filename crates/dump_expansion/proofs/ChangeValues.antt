@@ -1,10 +1,11 @@
 -- Examples for the definitions of what is in place of the changes of a dump.
 use Rattle.std.proofs.Common.{◌≡◌, ℕ, true, false, [], ◌∷◌, codes, refl}
 use Rattle.dump_trees.specs.Changes.{Change}
-use Rattle.dump_history.specs.ExpandedDumps.{OwnForm, Stead}
-use Rattle.dump_history.specs.WrittenNodes.{WrittenNode, written_change}
-use Rattle.dump_expansion.specs.ByChanges.{are_given_for, expanded_by, steads_for}
-use Rattle.dump_expansion.specs.GivenSteads.{GivenStead, left_alone}
+use Rattle.dump_history.specs.steps.ExpandedDumps.{OwnForm, Stead}
+use Rattle.dump_history.specs.WrittenNodes.{WrittenNode}
+use Rattle.dump_history.specs.steps.WrittenNodes.{written_change}
+use Rattle.dump_expansion.specs.steps.ByChanges.{are_given_for, expanded_by, steads_for}
+use Rattle.dump_expansion.specs.steps.GivenSteads.{GivenStead, left_alone}
 
 abbrev deletes_trunk : WrittenNode
 deletes_trunk = WrittenNode.Deletion (codes "trunk")

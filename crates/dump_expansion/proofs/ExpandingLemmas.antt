@@ -16,9 +16,9 @@ use Rattle.dump_records.proofs.CutLemmas.{count_fits}
 use Rattle.dump_records.proofs.ListLaw.{each_dump_has_one_list}
 use Rattle.dump_records.proofs.Prefixes.{is_front}
 use Rattle.dump_records.proofs.Unique.{records_once}
-use Rattle.dump_history.specs.ExpandedDumps.{own_records}
+use Rattle.dump_history.specs.steps.ExpandedDumps.{own_records}
 use Rattle.dump_history.specs.WrittenNodes.{WrittenNode}
-use Rattle.dump_expansion.specs.GivenSteads.{GivenStead, IsExpandedBy, own_form, steads_in}
+use Rattle.dump_expansion.specs.steps.GivenSteads.{GivenStead, IsExpandedBy, own_form, steads_in}
 use Rattle.dump_expansion.specs.steps.ExpandedBytes.{IsExactlyExpandedBy, expanded_bytes, first_lfs, lfs_behind, stead_bytes, unread_bytes}
 use Rattle.dump_expansion.specs.steps.Given.{can_all_be_written}
 use Rattle.dump_expansion.specs.steps.LeftParts.{IsLeftFrom}

@@ -3,9 +3,10 @@ use Rattle.std.proofs.Common.{◌≡◌, ℕ, ◌+◌, List, [], ◌∷◌, ◌+
 use Rattle.std.proofs.lemmas.List.{replicate-append-replicate}
 use Rattle.dump_records.specs.DumpText.{Ending, line_feeds}
 use Rattle.dump_records.specs.RecordText.{DumpRecord, record_text}
-use Rattle.dump_history.specs.ExpandedDumps.{Stead, expanded_records, own_records}
+use Rattle.dump_history.specs.steps.ExpandedDumps.{Stead, expanded_records, own_records}
 use Rattle.dump_history.specs.ExpandedText.{AreRecordTexts}
-use Rattle.dump_history.specs.WrittenNodes.{WrittenNode, node_bytes, node_record}
+use Rattle.dump_history.specs.WrittenNodes.{WrittenNode, node_record}
+use Rattle.dump_history.specs.steps.WrittenNodes.{node_bytes}
 use Rattle.dump_expansion.specs.steps.ExpandedBytes.{expanded_bytes, first_lfs, lfs_behind, stead_bytes, steads_bytes}
 use Rattle.dump_expansion.specs.steps.NodeTexts.{lfs_after, nodes_text}
 use Rattle.dump_expansion.proofs.ByteLemmas.{lfs_are}

@@ -4,9 +4,9 @@ use Rattle.std.proofs.lemmas.Bool.{and_from, and_parts}
 use Rattle.std.specs.List.{AllZip, list_all}
 use Rattle.dump_records.specs.RecordText.{DumpRecord, record_text}
 use Rattle.dump_digest.specs.RecordParts.{is_node}
-use Rattle.dump_history.specs.ExpandedDumps.{may_stand}
+use Rattle.dump_history.specs.steps.ExpandedDumps.{may_stand}
 use Rattle.dump_history.specs.WrittenNodes.{WrittenNode, can_be_written}
-use Rattle.dump_expansion.specs.GivenSteads.{GivenStead, left_alone, own_form, stead_at, steads_in}
+use Rattle.dump_expansion.specs.steps.GivenSteads.{GivenStead, left_alone, own_form, stead_at, steads_in}
 use Rattle.dump_expansion.specs.steps.ExpandedBytes.{lfs_behind, stead_bytes, steads_bytes}
 use Rattle.dump_expansion.specs.steps.Given.{can_all_be_written}
 use Rattle.dump_expansion.proofs.ByteLemmas.{own_bytes}

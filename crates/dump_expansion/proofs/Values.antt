@@ -4,14 +4,14 @@ use Rattle.dump_text.specs.declared.fault.FaultKind.TheVariants.{HeaderCut}
 use Rattle.dump_records.specs.DumpText.{Ending}
 use Rattle.dump_records.specs.RecordText.{DumpRecord}
 use Rattle.dump_records.proofs.ListLaw.{each_dump_has_one_list}
-use Rattle.dump_history.specs.ExpandedDumps.{OwnForm, Stead}
+use Rattle.dump_history.specs.steps.ExpandedDumps.{OwnForm, Stead}
 use Rattle.dump_history.specs.WrittenNodes as format
 use Rattle.dump_index.specs.declared.change.NodeKind.TheVariants as kinds
 use Rattle.dump_expansion.specs.declared.expanding.Stead as code
 use Rattle.dump_expansion.specs.declared.written_node.NewNode.TheVariants as nodes
 use Rattle.dump_changes.specs.declared.property_edit.NodeProperty.{NodeProperty}
 use Rattle.dump_changes.specs.steps.ChangedProperties.{as_property}
-use Rattle.dump_expansion.specs.GivenSteads.{GivenStead, steads_in}
+use Rattle.dump_expansion.specs.steps.GivenSteads.{GivenStead, steads_in}
 use Rattle.dump_expansion.specs.steps.ExpandedBytes.{IsExactlyExpandedBy, expanded_bytes, first_lfs, unread_bytes}
 use Rattle.dump_expansion.specs.steps.Given.{can_all_be_written, given_of}
 use Rattle.dump_expansion.specs.steps.NewNodes.{written_of}

@@ -1,3 +1,1 @@
-pub mod ByChanges
-pub mod GivenSteads
 pub mod steps

@@ -4,7 +4,7 @@ ghost use Rattle.std.specs.List.{list_all};
 ghost use Rattle.dump_records.specs.steps.RecordViews.{record_dump, record_item};
 ghost use Rattle.dump_records.specs.steps.Standing.{IsGap};
 ghost use Rattle.dump_history.specs.WrittenNodes.{can_be_written};
-ghost use Rattle.dump_expansion.specs.GivenSteads.{IsExpandedBy};
+ghost use Rattle.dump_expansion.specs.steps.GivenSteads.{IsExpandedBy};
 ghost use Rattle.dump_expansion.specs.steps.ExpandedBytes.{IsExactlyExpandedBy};
 ghost use Rattle.dump_expansion.specs.steps.Given.{can_all_be_written, given_of};
 ghost use Rattle.dump_expansion.specs.steps.NewNodes.{written_of};

@@ -76,8 +76,10 @@ pub use Rattle.dump_trees.specs.HistoryLaws.{ImagesRestrict}
 pub use Rattle.dump_trees.specs.MovedLaws.{change_behind, made_behind, revisions_behind}
 pub use Rattle.dump_trees.specs.Paths.{NodePath, is_short, keeps, path_of}
 pub use Rattle.dump_trees.specs.Quiet.{are_quiet, cuts_alike, is_quiet, is_quiet_dropped, is_quiet_kept, nowhere_is_over}
-pub use Rattle.dump_trees.specs.Restriction.{AreNewProps, IsNewChange, IsNewMade, IsNewNode, KeepsEntries, NewNumber, NewProperty, edits_props, given, is_above_some, sets_whole, sets_whole_text}
-pub use Rattle.dump_trees.specs.Revisions.{AreNewChanges, AreNewRevisions, EmptyRule, IsWrittenNumber, keeps_revision, kept_from, kept_of, loaded_over, names_kept, names_none, names_none_behind, stays_numbered}
+pub use Rattle.dump_trees.specs.Restriction.{AreNewProps, IsNewNode, NewNumber, NewProperty, given, is_above_some}
+pub use Rattle.dump_trees.specs.steps.Restriction.{IsNewChange, IsNewMade, KeepsEntries, edits_props, sets_whole, sets_whole_text}
+pub use Rattle.dump_trees.specs.Revisions.{IsWrittenNumber, loaded_over}
+pub use Rattle.dump_trees.specs.steps.Revisions.{AreNewChanges, AreNewRevisions, EmptyRule, keeps_revision, kept_from, kept_of, names_kept, names_none, names_none_behind, stays_numbered}
 pub use Rattle.dump_trees.specs.Trees.{Node, Tree, grafted, put, root_alone}
 pub use Rattle.dump_rules.specs.declared.options.Empty.TheVariants.{DropAll, DropEmptied, Pad}
 pub use Rattle.dump_rules.specs.declared.options.Side.{Side}

@@ -1,18 +1,13 @@
 -- The nodes that an expanded dump has in place of others: deletions, copies, and directories and files that are written
 -- as a whole. Which lines a node has, and what follows them (Subversion, notes/dump-load-format.txt).
-use Rattle.std.specs.Prelude.{ℕ, ◌+◌, ◌<◌, ◌^◌, Bool, true, false, not, ◌&&◌, nat_lt, List, [], ◌∷◌, ◌++◌, length, Option, Some, None, codes, IsTrue}
+use Rattle.std.specs.Prelude.{ℕ, ◌+◌, ◌^◌, Bool, true, false, not, ◌&&◌, nat_lt, List, [], ◌∷◌, ◌++◌, length, Option, Some, None, codes}
 use Rattle.std.specs.List.{list_all}
 use Rattle.dump_text.specs.Names.{path_name, node_kind_name, action_name, copy_revision_name, copy_path_name, property_length_name, text_length_name, content_length_name, md5_name, sha1_name}
 use Rattle.dump_text.specs.HeaderLine.{Header, has_byte}
 use Rattle.dump_text.specs.Number.{spelled_number}
 use Rattle.dump_text.specs.PropertyList.{Property, has_deletes, property_block_text}
-use Rattle.dump_text.specs.HeaderBlock.{block_text}
-use Rattle.dump_records.specs.RecordText.{DumpRecord, BeginsWithRecord}
-use Rattle.dump_trees.specs.Paths.{path_of, is_short}
-use Rattle.dump_trees.specs.Changes.{Change}
-use Rattle.dump_trees.specs.WritingOut.{copy_of, directory_of, file_of}
-use Rattle.dump_trees.specs.ExpansionCases.{deletion_of}
-use Rattle.dump_history.specs.RecordChanges.{Patching, MakesChange}
+use Rattle.dump_records.specs.RecordText.{DumpRecord}
+use Rattle.dump_trees.specs.Paths.{is_short}
 
 -- what kind of node a copy says that it is; a load does not look at it
 pub data NodeKind : Type 0 where
@@ -109,30 +104,6 @@ node_record place version w = record {
   text = node_text w;
 }
 
--- the node's bytes
-abbrev pub node_bytes : WrittenNode → List ℕ
-node_bytes w = block_text (node_lines w) ++ node_props w ++ node_text w
-
--- what it means
-
--- the change, which deletes first what is at its path if this says so
-abbrev pub replacing : Bool → Change → Change
-replacing replaces c = record {
-  path = c.path;
-  deletes = replaces;
-  made = c.made;
-  props = c.props;
-  text = c.text;
-}
-
--- the change that the node is written for
-abbrev pub written_change : WrittenNode → Change
-written_change (WrittenNode.Deletion path) = deletion_of (path_of path)
-written_change (WrittenNode.Copy kind number source path) = copy_of number (path_of source) (path_of path)
-written_change (WrittenNode.Directory replaces path entries) = replacing replaces (directory_of (path_of path) entries)
-written_change (WrittenNode.File replaces path entries text md5 sha1) =
-    replacing replaces (file_of (path_of path) entries text)
-
 -- which of them can be written
 
 -- whether the text can be a value that the load reads as it is: it has no LF and no zero byte
@@ -168,16 +139,3 @@ can_be_written (WrittenNode.File replaces path entries text md5 sha1) =
     is_plain_path path && are_plain_entries entries
     && is_readable (length (property_block_text entries) + length text)
     && is_plain_option md5 && is_plain_option sha1
-
--- laws
-
--- wherever such a node is after the first record of a dump, it is one record of it, which breaks no rule
-abbrev pub WrittenNodesAreRecords : Type 0
-WrittenNodesAreRecords = (w : WrittenNode) (number place version : ℕ) (after : List ℕ) →
-    IsTrue (can_be_written w) → 0 < number
-    → BeginsWithRecord number (node_bytes w ++ after) (node_record place version w) after
-
--- and it makes its change
-abbrev pub WrittenNodesMakeChanges : Type 0
-WrittenNodesMakeChanges = (patched : Patching) (w : WrittenNode) (place version : ℕ) →
-    IsTrue (can_be_written w) → MakesChange patched (node_record place version w) (written_change w)

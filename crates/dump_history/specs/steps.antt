@@ -1,2 +1,9 @@
+pub mod CutDumps
+pub mod ExpandedDumps
+pub mod ExpandedText
+pub mod KeptChanges
 pub mod NamingTests
 pub mod NodeReading
+pub mod Replacing
+pub mod TrimmedDumps
+pub mod WrittenNodes

@@ -1,14 +1,14 @@
 //! Laws of dumps and of the repositories that they make; each is the contract of a function that does nothing.
-ghost use Rattle.dump_history.specs.CutDumps.{ExcludedDumpLoads, ExcludedDumpLoadsNumbered, NumbersAreKept};
+ghost use Rattle.dump_history.specs.steps.CutDumps.{ExcludedDumpLoads, ExcludedDumpLoadsNumbered, NumbersAreKept};
 ghost use Rattle.dump_history.specs.DumpLaws.{DumpLoadsOnce, FilteredDumpRestricts, FilteredDumpRestrictsAfterDirectories, NoGapIsNeeded, FilteredDumpFrontRestricts, QuietDumpRestricts, QuietDumpRestrictsAfterDirectories, QuietDumpFrontRestricts};
-ghost use Rattle.dump_history.specs.ExpandedDumps.{ExpandedDumpLoads};
-ghost use Rattle.dump_history.specs.ExpandedText.{ExpansionsAreDumps};
-ghost use Rattle.dump_history.specs.KeptChanges.{FilteredChangesAreKept, RenumberedChangesAreKept, TrimmedChangesAreKept};
+ghost use Rattle.dump_history.specs.steps.ExpandedDumps.{ExpandedDumpLoads};
+ghost use Rattle.dump_history.specs.steps.ExpandedText.{ExpansionsAreDumps};
+ghost use Rattle.dump_history.specs.steps.KeptChanges.{FilteredChangesAreKept, RenumberedChangesAreKept, TrimmedChangesAreKept};
 ghost use Rattle.dump_history.specs.PartLaws.{FilteredPartRestricts, NoGapIsNeededInPart, QuietPartRestricts};
-ghost use Rattle.dump_history.specs.Replacing.{KeptCopyReplaces};
+ghost use Rattle.dump_history.specs.steps.Replacing.{KeptCopyReplaces};
 ghost use Rattle.dump_history.specs.SurveyLaws.{AlarmsAreExact, DumpFindingsAreOnce, FindingsAreOnce, ObstaclesAreExact, SurveyedDumpRestricts, SurveyedDumpFrontRestricts};
-ghost use Rattle.dump_history.specs.TrimmedDumps.{EachBranchIsCutAlike, EachChangeStays, TrimmedDumpLoads, TrimmedDumpLoadsRenumbered, TrimmedTextsAreDumps};
-ghost use Rattle.dump_history.specs.WrittenNodes.{WrittenNodesAreRecords, WrittenNodesMakeChanges};
+ghost use Rattle.dump_history.specs.steps.TrimmedDumps.{EachBranchIsCutAlike, EachChangeStays, TrimmedDumpLoads, TrimmedDumpLoadsRenumbered, TrimmedTextsAreDumps};
+ghost use Rattle.dump_history.specs.steps.WrittenNodes.{WrittenNodesAreRecords, WrittenNodesMakeChanges};
 
 /// Take a dump without a fault, whose changes are separated. What the filter writes of it, loaded over the parent
 /// directories, has the trees of the whole dump, restricted to the kept paths.

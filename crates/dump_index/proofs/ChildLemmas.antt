@@ -14,17 +14,16 @@ use Rattle.std.proofs.lemmas.List.Sorted.{list_any-IsPermutation}
 use Rattle.std.proofs.lemmas.Map.Views.{any-filter_same}
 use Rattle.std.proofs.lemmas.Slice.Eq.{bytes_eq-Decides}
 use Rattle.dump_trees.specs.Paths.{NodePath, names_of, is_name}
-use Rattle.dump_trees.specs.Listing.{names_look}
-use Rattle.dump_index.specs.Listed.{Listed, all_placed}
-use Rattle.dump_index.specs.InOrder.{ends_in_slash}
-use Rattle.dump_index.specs.Kinds.{kind_look}
+use Rattle.dump_trees.specs.steps.Listing.{names_look}
+use Rattle.dump_index.specs.steps.Listed.{Listed, all_placed}
+use Rattle.dump_index.specs.steps.InOrder.{ends_in_slash}
+use Rattle.dump_index.specs.steps.Kinds.{kind_look}
 use Rattle.dump_index.specs.declared.change.NodeKind.{NodeKind}
-use Rattle.dump_index.specs.steps.Names.{AreNames}
+use Rattle.dump_index.specs.steps.Names.{AreNames, texts_of}
 use Rattle.dump_index.specs.steps.Touching.{joined_text}
 use Rattle.dump_index.proofs.SlashLemmas.{ends_joined, names_joined}
 use Rattle.dump_index.proofs.NameLemmas.{no_slash, names_of_name}
-use Rattle.dump_index.specs.Children.{is_child_named, stands_in, AreChildren}
-use Rattle.dump_index.specs.steps.Names.{texts_of}
+use Rattle.dump_index.specs.steps.Children.{is_child_named, stands_in, AreChildren}
 use Rattle.std.proofs.Math.Bool.{and-false, and-true, or-false, and_comm, or_assoc}
 use Rattle.std.proofs.lemmas.List.Elements.{filter-append}
 

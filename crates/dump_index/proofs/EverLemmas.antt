@@ -9,13 +9,13 @@ use Rattle.std.specs.Ordering.{nat_cmp}
 use Rattle.std.proofs.lemmas.Bool.{cases_lt, or_cases, or_left, or_right}
 use Rattle.std.proofs.lemmas.List.Kept.{IsStrictlySortedBy-dedup}
 use Rattle.dump_trees.specs.Paths.{names_of}
-use Rattle.dump_trees.specs.Listing.{names_made, names_behind, names_look}
+use Rattle.dump_trees.specs.steps.Listing.{names_made, names_behind, names_look}
 use Rattle.dump_trees.proofs.expansions.BackLemmas.{LooksBack}
-use Rattle.dump_index.specs.Listed.{Listed, all_placed}
-use Rattle.dump_index.specs.InOrder.{ends_in_slash}
-use Rattle.dump_index.specs.Children.{is_child_named}
+use Rattle.dump_index.specs.steps.Listed.{Listed, all_placed}
+use Rattle.dump_index.specs.steps.InOrder.{ends_in_slash}
+use Rattle.dump_index.specs.steps.Children.{is_child_named}
 use Rattle.dump_index.specs.steps.Names.{texts_of}
-use Rattle.dump_index.specs.NamesEver.{CanStandOnce, AreNamesEver}
+use Rattle.dump_index.specs.steps.NamesEver.{CanStandOnce, AreNamesEver}
 use Rattle.dump_index.specs.steps.Keys.{latest_place}
 use Rattle.dump_index.specs.steps.Touching.{shapes}
 use Rattle.dump_index.proofs.PlaceLemmas.{latest_low, latest_holds}

@@ -7,18 +7,18 @@ use Rattle.dump_trees.specs.Paths.{NodePath}
 use Rattle.dump_trees.specs.Trees.{Node, Tree, root_alone}
 use Rattle.dump_trees.specs.Changes.{Change, steps}
 use Rattle.dump_trees.specs.Revisions.{loaded_over}
-use Rattle.dump_trees.specs.Looking.{Placed, placed_from, touches_path, holds_there, latest, left_there, look}
-use Rattle.dump_trees.specs.LoadCheck.{kind_of_node}
-use Rattle.dump_trees.specs.Following.{ExistsOnce}
+use Rattle.dump_trees.specs.steps.Looking.{Placed, placed_from, touches_path, holds_there, latest, left_there, look}
+use Rattle.dump_trees.specs.steps.LoadCheck.{kind_of_node}
+use Rattle.dump_trees.specs.steps.Following.{ExistsOnce}
 use Rattle.dump_trees.proofs.cuts.FollowLemmas.{map_some, then_some}
 use Rattle.dump_trees.proofs.expansions.BackLemmas.{LooksBack}
 use Rattle.dump_trees.proofs.histories.FrontLemmas.{begun_trees}
 use Rattle.dump_trees.proofs.cuts.CheckedLoads.{of_one, split_at, get_some, steps_then, loaded_push, loaded_size, pushed, one_length}
-use Rattle.dump_index.specs.Listed.{Listed, listed_of, all_placed}
-use Rattle.dump_index.specs.Kinds.{kind_look, node_kind}
-use Rattle.dump_index.specs.IndexLaws.{IsListed, AreListed}
-use Rattle.dump_index.specs.ExistsEver.{exists_within, exists_ever, ExistingIsFound}
-use Rattle.dump_index.specs.ToldKinds.{kind_meant}
+use Rattle.dump_index.specs.steps.Listed.{Listed, listed_of, all_placed}
+use Rattle.dump_index.specs.steps.Kinds.{kind_look, node_kind}
+use Rattle.dump_index.specs.steps.IndexLaws.{IsListed, AreListed}
+use Rattle.dump_index.specs.steps.ExistsEver.{exists_within, exists_ever, ExistingIsFound}
+use Rattle.dump_index.specs.steps.ToldKinds.{kind_meant}
 use Rattle.dump_index.specs.declared.change.NodeChange.{NodeChange}
 use Rattle.dump_index.specs.declared.change.NodeKind.{NodeKind}
 use Rattle.dump_index.proofs.LawLemmas.{look_one_more}

@@ -15,7 +15,7 @@ use Rattle.std.specs.Cmp.Lexicographic.{slice_cmp, nat_list_cmp_total}
 use Rattle.std.specs.Ordering.{ordering_then, ordering_index, is_lt, is_eq, nat_cmp}
 use Rattle.std.specs.declared.cmp.Ordering.{Ordering}
 use Rattle.std.specs.declared.cmp.Ordering.TheVariants.{Less, Equal, Greater}
-use Rattle.dump_index.specs.Listed.{Listed, listed_of}
+use Rattle.dump_index.specs.steps.Listed.{Listed, listed_of}
 use Rattle.dump_index.specs.declared.change.NodeChange.{NodeChange}
 use Rattle.dump_index.specs.declared.order.Key.{Key}
 use Rattle.dump_index.specs.declared.order.Effect.{Effect}

@@ -6,10 +6,10 @@ use Rattle.std.proofs.lemmas.Bool.{le-leb, lt-leb}
 use Rattle.dump_trees.specs.Paths.{NodePath, names_of, below}
 use Rattle.dump_trees.specs.Trees.{Node, root_alone}
 use Rattle.dump_trees.specs.Changes.{Made, is_copied}
-use Rattle.dump_trees.specs.Looking.{touches_path, holds_there, latest, origin_of, node_with_props, node_with_text, set_by, looked_up, left_at, left_there, look_behind, look}
+use Rattle.dump_trees.specs.steps.Looking.{touches_path, holds_there, latest, origin_of, node_with_props, node_with_text, set_by, looked_up, left_at, left_there, look_behind, look}
 use Rattle.dump_trees.proofs.expansions.BackLemmas.{LooksBack, look_back}
-use Rattle.dump_index.specs.Listed.{Listed, placed_of, all_placed, plain_props, plain_text}
-use Rattle.dump_index.specs.Kinds.{node_kind, kind_look}
+use Rattle.dump_index.specs.steps.Listed.{Listed, placed_of, all_placed, plain_props, plain_text}
+use Rattle.dump_index.specs.steps.Kinds.{node_kind, kind_look}
 use Rattle.dump_index.specs.declared.change.NodeKind.{NodeKind}
 use Rattle.dump_index.specs.declared.change.NodeKind.TheVariants.{Directory, File}
 use Rattle.dump_index.specs.declared.change.Setting.{Setting}

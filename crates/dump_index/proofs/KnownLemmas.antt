@@ -9,12 +9,12 @@ use Rattle.std.proofs.lemmas.Slice.Eq.{bytes_eq-Decides}
 use Rattle.dump_trees.specs.Paths.{NodePath, names_of, below}
 use Rattle.dump_trees.specs.Trees.{root_alone}
 use Rattle.dump_trees.specs.Changes.{Made}
-use Rattle.dump_trees.specs.Looking.{touches_rest, end_of, origin_of, looked_up, look}
+use Rattle.dump_trees.specs.steps.Looking.{touches_rest, end_of, origin_of, looked_up, look}
 use Rattle.dump_trees.proofs.expansions.BackLemmas.{LooksBack}
-use Rattle.dump_index.specs.Listed.{Listed, listed_of, listed_made, placed_of, all_placed, plain_props, plain_text}
-use Rattle.dump_index.specs.InOrder.{are_in_order, is_from_before, ends_in_slash}
+use Rattle.dump_index.specs.steps.Listed.{Listed, listed_of, listed_made, placed_of, all_placed, plain_props, plain_text}
+use Rattle.dump_index.specs.steps.InOrder.{are_in_order, is_from_before, ends_in_slash}
 use Rattle.dump_index.specs.declared.change.NodeChange.{NodeChange}
-use Rattle.dump_index.specs.Kinds.{node_kind, kind_look}
+use Rattle.dump_index.specs.steps.Kinds.{node_kind, kind_look}
 use Rattle.dump_index.specs.declared.change.NodeKind.{NodeKind}
 use Rattle.dump_index.specs.declared.change.NodeMade.{NodeMade}
 use Rattle.dump_index.specs.declared.change.NodeMade.TheVariants.{Directory, File, CopyOf}

@@ -3,8 +3,8 @@ use Rattle.std.proofs.Common.{◌≡◌, ℕ, zero, suc, Bool, true, false, ◌&
 use Rattle.std.specs.Prelude.{slice_get}
 use Rattle.dump_trees.specs.Paths.{NodePath, names_of, below}
 use Rattle.dump_trees.specs.Changes.{Made, Change, is_copied}
-use Rattle.dump_trees.specs.Looking.{Placed, touches_rest, touches_path, holds_there, latest}
-use Rattle.dump_index.specs.Listed.{Listed, placed_of, all_placed, plain_props, plain_text}
+use Rattle.dump_trees.specs.steps.Looking.{Placed, touches_rest, touches_path, holds_there, latest}
+use Rattle.dump_index.specs.steps.Listed.{Listed, placed_of, all_placed, plain_props, plain_text}
 use Rattle.dump_index.specs.declared.change.Setting.{Setting}
 use Rattle.dump_index.specs.declared.change.Setting.TheVariants.{Keeps, Replaces, Edits, EditsNothing}
 use Rattle.dump_index.specs.declared.order.Effect.TheVariants.{Shaping, Moving, Props, Texts}

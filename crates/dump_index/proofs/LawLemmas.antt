@@ -7,12 +7,12 @@ use Rattle.dump_text.specs.PropertyList.{Property}
 use Rattle.dump_trees.specs.Paths.{NodePath, names_of, below}
 use Rattle.dump_trees.specs.Trees.{Node, root_alone}
 use Rattle.dump_trees.specs.Changes.{Made, PropertyChange, TextChange, is_copied, new_text}
-use Rattle.dump_trees.specs.Looking.{Placed, end_of, touches_rest, touches_path, holds_there, latest, Origin, origin_of, node_with_props, node_with_text, set_by, looked_up, left_at, left_there, look_behind, look}
+use Rattle.dump_trees.specs.steps.Looking.{Placed, end_of, touches_rest, touches_path, holds_there, latest, Origin, origin_of, node_with_props, node_with_text, set_by, looked_up, left_at, left_there, look_behind, look}
 use Rattle.dump_trees.proofs.expansions.BackLemmas.{LooksBack, look_back}
 use Rattle.dump_trees.proofs.expansions.LookLemmas.{origin_source}
-use Rattle.dump_index.specs.Listed.{Listed, listed_of, placed_of, all_placed, plain_props, plain_text}
-use Rattle.dump_index.specs.Kinds.{node_kind, kind_look}
-use Rattle.dump_index.specs.IndexLaws.{HasProps, HasText, IsListed, KindsAreFound}
+use Rattle.dump_index.specs.steps.Listed.{Listed, listed_of, placed_of, all_placed, plain_props, plain_text}
+use Rattle.dump_index.specs.steps.Kinds.{node_kind, kind_look}
+use Rattle.dump_index.specs.steps.IndexLaws.{HasProps, HasText, IsListed, KindsAreFound}
 use Rattle.dump_index.specs.declared.change.NodeKind.TheVariants.{Directory as ADirectory, File as AFile}
 use Rattle.dump_index.specs.declared.change.Setting.{Setting}
 use Rattle.dump_index.specs.declared.change.Setting.TheVariants.{Keeps, Replaces, Edits, EditsNothing}

@@ -3,12 +3,12 @@ use Rattle.std.proofs.Common.{◌≡◌, ℕ, zero, suc, Bool, true, false, ◌&
 use Rattle.std.specs.Prelude.{slice_get}
 use Rattle.std.proofs.lemmas.List.Folds.{list_any-append}
 use Rattle.dump_trees.specs.Paths.{NodePath, names_of}
-use Rattle.dump_trees.specs.Looking.{touches_path, holds_there, latest, end_of, Origin as LookOrigin, origin_of, left_by}
-use Rattle.dump_trees.specs.Listing.{name_below, names_made, names_from, names_left, names_there, names_behind, names_look}
+use Rattle.dump_trees.specs.steps.Looking.{touches_path, holds_there, latest, end_of, Origin as LookOrigin, origin_of, left_by}
+use Rattle.dump_trees.specs.steps.Listing.{name_below, names_made, names_from, names_left, names_there, names_behind, names_look}
 use Rattle.dump_trees.proofs.expansions.BackLemmas.{LooksBack, names_back}
-use Rattle.dump_index.specs.Listed.{Listed, listed_of, listed_made, placed_of, all_placed}
-use Rattle.dump_index.specs.InOrder.{ends_in_slash, are_in_order}
-use Rattle.dump_index.specs.Children.{is_child_named}
+use Rattle.dump_index.specs.steps.Listed.{Listed, listed_of, listed_made, placed_of, all_placed}
+use Rattle.dump_index.specs.steps.InOrder.{ends_in_slash, are_in_order}
+use Rattle.dump_index.specs.steps.Children.{is_child_named}
 use Rattle.dump_index.specs.declared.change.NodeChange.{NodeChange}
 use Rattle.dump_index.specs.declared.change.NodeMade.{NodeMade}
 use Rattle.dump_index.specs.declared.change.NodeMade.TheVariants.{Directory, File, CopyOf}

@@ -9,12 +9,12 @@ use Rattle.std.proofs.lemmas.List.Folds.{list_any-append, list_any_at, list_any_
 use Rattle.std.proofs.lemmas.Slice.Eq.{bytes_eq-Decides}
 use Rattle.dump_trees.specs.Paths.{NodePath, names_of, below, is_name}
 use Rattle.dump_trees.specs.Changes.{Made}
-use Rattle.dump_trees.specs.Looking.{Placed}
-use Rattle.dump_trees.specs.Listing.{name_made, name_below, names_made}
+use Rattle.dump_trees.specs.steps.Looking.{Placed}
+use Rattle.dump_trees.specs.steps.Listing.{name_made, name_below, names_made}
 use Rattle.dump_trees.proofs.changes.TreeLemmas.{below_found}
-use Rattle.dump_index.specs.Listed.{Listed, placed_of, all_placed}
-use Rattle.dump_index.specs.InOrder.{ends_in_slash}
-use Rattle.dump_index.specs.Children.{is_child_named}
+use Rattle.dump_index.specs.steps.Listed.{Listed, placed_of, all_placed}
+use Rattle.dump_index.specs.steps.InOrder.{ends_in_slash}
+use Rattle.dump_index.specs.steps.Children.{is_child_named}
 use Rattle.dump_index.specs.declared.order.Child.{Child}
 use Rattle.dump_index.specs.declared.order.Effect.TheVariants.{Shaping}
 use Rattle.dump_index.specs.steps.Keys.{PathKey, HasKeys, has_effect_there}

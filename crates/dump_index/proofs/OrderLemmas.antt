@@ -5,11 +5,11 @@ use Rattle.std.proofs.lemmas.Bool.{and_parts, and_from, le-leb, leb-true, not-tr
 use Rattle.std.proofs.lemmas.List.Sums.{sum_by-cons}
 use Rattle.std.specs.List.{list_all}
 use Rattle.std.specs.List.Sorted.{IsPartitionedBy, IsPartitionPoint}
-use Rattle.dump_trees.specs.Looking.{Placed, end_of}
+use Rattle.dump_trees.specs.steps.Looking.{Placed, end_of}
 use Rattle.dump_trees.specs.steps.LookingBack.{is_of_before, copies_back}
 use Rattle.dump_trees.proofs.expansions.BackLemmas.{AreFrom, Rise, from_more, LooksBack, looks_back}
-use Rattle.dump_index.specs.Listed.{Listed, listed_of, listed_made, placed_of, all_placed}
-use Rattle.dump_index.specs.InOrder.{comes_in_order, is_from_before, are_in_order, ends_in_slash}
+use Rattle.dump_index.specs.steps.Listed.{Listed, listed_of, listed_made, placed_of, all_placed}
+use Rattle.dump_index.specs.steps.InOrder.{comes_in_order, is_from_before, are_in_order, ends_in_slash}
 use Rattle.dump_index.specs.declared.change.NodeChange.{NodeChange}
 use Rattle.dump_index.specs.declared.change.NodeMade.{NodeMade}
 use Rattle.dump_index.specs.declared.change.NodeMade.TheVariants.{Directory, File, CopyOf}

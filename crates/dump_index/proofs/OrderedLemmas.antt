@@ -2,7 +2,7 @@
 use Rattle.std.proofs.Common.{Some, take, drop, get_or, ◌≡◌, ◌<◌, ◌≤◌, ◌+◌, ℕ, true, false, ◌&&◌, List, [], ◌∷◌, ◌++◌, length, append-nil, append_assoc, sym, ap, ◌∙◌, arith}
 use Rattle.std.proofs.lemmas.List.{drop_more, take-append-drop, take_all, take_more}
 use Rattle.std.proofs.Math.Seq.{length-take-le}
-use Rattle.dump_index.specs.InOrder.{are_in_order, comes_in_order}
+use Rattle.dump_index.specs.steps.InOrder.{are_in_order, comes_in_order}
 use Rattle.dump_index.specs.steps.OutOfOrder.{IsFirstOutOfOrder}
 use Rattle.dump_index.specs.declared.change.NodeChange.{NodeChange}
 

@@ -7,10 +7,10 @@ use Rattle.std.proofs.lemmas.List.{length-map}
 use Rattle.dump_trees.specs.Paths.{NodePath, names_of, below}
 use Rattle.dump_trees.specs.Trees.{root_alone}
 use Rattle.dump_trees.specs.Changes.{is_copied}
-use Rattle.dump_trees.specs.Looking.{end_of, origin_of, looked_up, look}
-use Rattle.dump_index.specs.Listed.{Listed, listed_of, listed_made, placed_of, all_placed}
-use Rattle.dump_index.specs.InOrder.{ends_in_slash, is_from_before, are_in_order}
-use Rattle.dump_index.specs.Kinds.{node_kind, kind_look}
+use Rattle.dump_trees.specs.steps.Looking.{end_of, origin_of, looked_up, look}
+use Rattle.dump_index.specs.steps.Listed.{Listed, listed_of, listed_made, placed_of, all_placed}
+use Rattle.dump_index.specs.steps.InOrder.{ends_in_slash, is_from_before, are_in_order}
+use Rattle.dump_index.specs.steps.Kinds.{node_kind, kind_look}
 use Rattle.dump_index.specs.declared.change.NodeChange.{NodeChange}
 use Rattle.dump_index.specs.declared.change.NodeKind.{NodeKind}
 use Rattle.dump_index.specs.declared.change.NodeKind.TheVariants.{Directory as ADirectory, File as AFile}

@@ -7,12 +7,12 @@ use Rattle.dump_text.specs.PropertyList.{Property}
 use Rattle.dump_trees.specs.Paths.{NodePath, names_of, below}
 use Rattle.dump_trees.specs.Trees.{Node, root_alone}
 use Rattle.dump_trees.specs.Changes.{Made, Change, PropertyChange, TextChange, is_copied, new_props, new_text}
-use Rattle.dump_trees.specs.Looking.{Placed, end_of, touches_path, holds_there, origin_of, node_with_props, node_with_text, set_by, looked_up, left_at, left_there, look}
+use Rattle.dump_trees.specs.steps.Looking.{Placed, end_of, touches_path, holds_there, origin_of, node_with_props, node_with_text, set_by, looked_up, left_at, left_there, look}
 use Rattle.dump_trees.proofs.expansions.BackLemmas.{LooksBack}
-use Rattle.dump_index.specs.Listed.{Listed, listed_of, placed_of, all_placed}
-use Rattle.dump_index.specs.Settings.{is_replacing, setting_of, sets_there, sets_at, latest_for, own_place, IsTrail, Unset, Whole, Edited, NewMade, Copied}
-use Rattle.dump_trees.specs.ComingBack.{properties_of}
-use Rattle.dump_index.specs.IndexLaws.{HasProps, HasText, IsListed, PropsAreFound, TextsAreFound, listed_text, props_by, text_by, props_there, text_there, props_after, text_after}
+use Rattle.dump_index.specs.steps.Listed.{Listed, listed_of, placed_of, all_placed}
+use Rattle.dump_index.specs.steps.Settings.{Unset, Whole, Edited, NewMade, Copied, is_replacing, setting_of, sets_there, sets_at, latest_for, own_place, IsTrail}
+use Rattle.dump_trees.specs.steps.ComingBack.{properties_of}
+use Rattle.dump_index.specs.steps.IndexLaws.{HasProps, HasText, IsListed, PropsAreFound, TextsAreFound, listed_text, props_by, text_by, props_there, text_there, props_after, text_after}
 use Rattle.dump_index.specs.declared.change.Setting.{Setting}
 use Rattle.dump_index.specs.declared.change.Setting.TheVariants.{Keeps, Replaces, Edits, EditsNothing}
 use Rattle.dump_index.specs.declared.order.Effect.TheVariants.{Shaping, Moving}

@@ -9,16 +9,16 @@ use Rattle.dump_trees.specs.Paths.{NodePath, below, parent_of}
 use Rattle.dump_trees.specs.Trees.{Node, Tree, is_directory_node, at_or_below, grafted, at_top, put, empty_tree, root_alone}
 use Rattle.dump_trees.specs.Changes.{Made, Change, PropertyChange, TextChange, History, is_directory_at, has_directory, deleted, node_put, copied, made_in, with_props, new_text, with_text, props_put, props_set, text_set, step, steps}
 use Rattle.dump_trees.specs.Revisions.{loaded, loaded_over}
-use Rattle.dump_trees.specs.Looking.{Placed, placed_from, end_of, look}
-use Rattle.dump_trees.specs.Listing.{names_look}
+use Rattle.dump_trees.specs.steps.Looking.{Placed, placed_from, end_of, look}
+use Rattle.dump_trees.specs.steps.Listing.{names_look}
 use Rattle.dump_trees.proofs.expansions.LookLemmas.{look_finds_each}
 use Rattle.dump_trees.proofs.expansions.NameLemmas.{names_are_looked}
-use Rattle.dump_index.specs.Listed.{Listed, listed_of, placed_of, all_placed, plain_props, plain_text}
-use Rattle.dump_index.specs.Kinds.{node_kind}
-use Rattle.dump_index.specs.InOrder.{are_in_order}
-use Rattle.dump_index.specs.Children.{is_child_named}
+use Rattle.dump_index.specs.steps.Listed.{Listed, listed_of, placed_of, all_placed, plain_props, plain_text}
+use Rattle.dump_index.specs.steps.Kinds.{node_kind}
+use Rattle.dump_index.specs.steps.InOrder.{are_in_order}
+use Rattle.dump_index.specs.steps.Children.{is_child_named}
 use Rattle.dump_index.specs.declared.change.NodeChange.{NodeChange}
-use Rattle.dump_index.specs.IndexLaws.{HasProps, HasText, IsListed, AreListed, KindsAreOfTrees, ChildrenAreOfTrees}
+use Rattle.dump_index.specs.steps.IndexLaws.{HasProps, HasText, IsListed, AreListed, KindsAreOfTrees, ChildrenAreOfTrees}
 use Rattle.dump_index.specs.declared.change.NodeKind.{NodeKind}
 use Rattle.dump_index.specs.declared.change.NodeKind.TheVariants.{Directory as ADirectory, File as AFile}
 use Rattle.dump_index.specs.declared.change.Setting.{Setting}

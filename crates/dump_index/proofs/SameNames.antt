@@ -5,11 +5,11 @@ use Rattle.std.proofs.lemmas.List.{length-map}
 use Rattle.std.proofs.lemmas.List.Sums.{count_by-le-length}
 use Rattle.std.specs.List.{AllZip}
 use Rattle.dump_trees.specs.Paths.{NodePath, below}
-use Rattle.dump_trees.specs.Looking.{Placed, placed_from, touches_path, holds_there, latest, end_of, Origin, origin_of}
-use Rattle.dump_trees.specs.Listing.{name_made, name_below, names_made, names_from, names_left, names_there, names_behind, names_within, names_look}
-use Rattle.dump_index.specs.Listed.{Listed, listed_of, placed_of, all_placed}
-use Rattle.dump_index.specs.Children.{is_child_named}
-use Rattle.dump_index.specs.IndexLaws.{IsListed, NamesEverAreFound, NamesEverSuffice}
+use Rattle.dump_trees.specs.steps.Looking.{Placed, placed_from, touches_path, holds_there, latest, end_of, Origin, origin_of}
+use Rattle.dump_trees.specs.steps.Listing.{name_made, name_below, names_made, names_from, names_left, names_there, names_behind, names_within, names_look}
+use Rattle.dump_index.specs.steps.Listed.{Listed, listed_of, placed_of, all_placed}
+use Rattle.dump_index.specs.steps.Children.{is_child_named}
+use Rattle.dump_index.specs.steps.IndexLaws.{IsListed, NamesEverAreFound, NamesEverSuffice}
 use Rattle.dump_trees.proofs.expansions.FoundSiblings.{siblings_are_found, above_are_listed}
 use Rattle.dump_index.proofs.KeyLemmas.{get-map}
 use Rattle.dump_index.proofs.LawLemmas.{Both, Neither, One, both_at, end_same, touch_listed}

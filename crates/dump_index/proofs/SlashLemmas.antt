@@ -2,7 +2,7 @@
 use Rattle.std.proofs.Common.{◌≡◌, ◌≤◌, ◌==◌, ◌-◌, ℕ, zero, suc, Bool, true, false, List, [], ◌∷◌, ◌++◌, length, drop, get_or, nat_eq, arith, bytes_eq, append-nil, refl, sym, ap, ◌∙◌, ◌≢◌}
 use Rattle.std.proofs.lemmas.Bool.{and_parts}
 use Rattle.dump_trees.specs.Paths.{names_of}
-use Rattle.dump_index.specs.InOrder.{ends_in_slash}
+use Rattle.dump_index.specs.steps.InOrder.{ends_in_slash}
 use Rattle.dump_index.specs.steps.Touching.{goes_on, stands_over, rest_text, joined_text}
 use Rattle.dump_trees.proofs.paths.CanonicalLemmas.{split_joined}
 

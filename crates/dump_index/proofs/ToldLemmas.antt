@@ -3,13 +3,13 @@ use Rattle.std.proofs.Common.{◌≡◌, true, not, List, [], ◌∷◌, map, Op
 use Rattle.std.specs.List.{AllZip}
 use Rattle.dump_trees.specs.Trees.{Node, root_alone}
 use Rattle.dump_trees.specs.Changes.{PropertyChange, TextChange}
-use Rattle.dump_trees.specs.Looking.{Placed, look}
-use Rattle.dump_trees.specs.LoadCheck.{kind_of_node, patches_text, HasSameKinds}
+use Rattle.dump_trees.specs.steps.Looking.{Placed, look}
+use Rattle.dump_trees.specs.steps.LoadCheck.{kind_of_node, patches_text, HasSameKinds}
 use Rattle.dump_trees.proofs.cuts.PlainLooks.{plain_looks_tell_kinds}
-use Rattle.dump_index.specs.Listed.{Listed, listed_of, placed_of, all_placed, plain_props, plain_text}
-use Rattle.dump_index.specs.Kinds.{node_kind}
-use Rattle.dump_index.specs.IndexLaws.{HasProps, HasText, IsListed}
-use Rattle.dump_index.specs.ToldKinds.{kind_meant, IndexTellsKinds}
+use Rattle.dump_index.specs.steps.Listed.{Listed, listed_of, placed_of, all_placed, plain_props, plain_text}
+use Rattle.dump_index.specs.steps.Kinds.{node_kind}
+use Rattle.dump_index.specs.steps.IndexLaws.{HasProps, HasText, IsListed}
+use Rattle.dump_index.specs.steps.ToldKinds.{kind_meant, IndexTellsKinds}
 use Rattle.dump_index.specs.declared.change.Setting.{Setting}
 use Rattle.dump_index.specs.declared.change.Setting.TheVariants.{Keeps, Replaces, Edits, EditsNothing}
 

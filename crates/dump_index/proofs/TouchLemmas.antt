@@ -1,7 +1,7 @@
 -- Which changes touch a path.
 use Rattle.std.proofs.Common.{◌≡◌, ℕ, ◌+◌, ◌<◌, ◌≤◌, Bool, true, false, ◌&&◌, ◌||◌, List, [], length, take, get_or, Option, Some, None, nat_eq, bytes_eq, refl, sym, ap, ◌∙◌}
 use Rattle.std.specs.Prelude.{slice_get}
-use Rattle.dump_index.specs.Listed.{Listed}
+use Rattle.dump_index.specs.steps.Listed.{Listed}
 use Rattle.dump_index.specs.declared.order.Effect.TheVariants.{Moving}
 use Rattle.dump_index.specs.steps.Keys.{has_effect, has_effect_there, has_effect_at}
 use Rattle.dump_index.specs.steps.Touching.{stands_over, stands_over_within, moves_there, moves_above, moves_within}

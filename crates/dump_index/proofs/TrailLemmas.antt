@@ -6,9 +6,9 @@ use Rattle.std.proofs.lemmas.Bool.{cases_lt}
 use Rattle.std.proofs.lemmas.List.{length-map}
 use Rattle.dump_trees.specs.Paths.{names_of}
 use Rattle.dump_trees.specs.Changes.{is_copied}
-use Rattle.dump_index.specs.Listed.{Listed, listed_of, listed_made}
-use Rattle.dump_index.specs.InOrder.{ends_in_slash, are_in_order}
-use Rattle.dump_index.specs.Settings.{is_replacing, setting_of, sets_there, sets_at, latest_for, own_place, IsTrail, Whole, Edited, NewMade, Copied}
+use Rattle.dump_index.specs.steps.Listed.{Listed, listed_of, listed_made}
+use Rattle.dump_index.specs.steps.InOrder.{ends_in_slash, are_in_order}
+use Rattle.dump_index.specs.steps.Settings.{Whole, Edited, NewMade, Copied, is_replacing, setting_of, sets_there, sets_at, latest_for, own_place, IsTrail}
 use Rattle.dump_index.specs.declared.change.NodeChange.{NodeChange}
 use Rattle.dump_index.specs.declared.change.NodeKind.{NodeKind}
 use Rattle.dump_index.specs.declared.change.NodeKind.TheVariants.{Directory as ADirectory, File as AFile}

@@ -8,7 +8,7 @@ use Rattle.std.specs.List.Sorted.{IsPartitionPoint, IsPartitionedBy}
 use Rattle.std.specs.Cmp.Lexicographic.{slice_cmp}
 use Rattle.std.specs.Ordering.{is_lt, nat_cmp}
 use Rattle.dump_trees.specs.Paths.{is_name}
-use Rattle.dump_index.specs.Listed.{Listed}
+use Rattle.dump_index.specs.steps.Listed.{Listed}
 use Rattle.dump_index.specs.declared.path_text.Below.TheVariants.{Outside}
 use Rattle.dump_index.specs.steps.Keys.{PathKey, path_there, key_in, keys_in, is_key_before, IsSortedKeys}
 use Rattle.dump_index.specs.steps.Below.{StandsSo, GoesFurther, ends_up_to, IsBehind, AreFrom, NoneBelow}

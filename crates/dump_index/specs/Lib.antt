@@ -1,11 +1,1 @@
-pub mod Listed
-pub mod InOrder
-pub mod Kinds
-pub mod Children
-pub mod NamesEver
-pub mod ExistsEver
-pub mod Effects
-pub mod Settings
-pub mod IndexLaws
 pub mod steps
-pub mod ToldKinds

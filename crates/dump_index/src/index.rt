@@ -1,19 +1,19 @@
 //! The index of the changes of a dump.
 ghost use Rattle.std.specs.Prelude.{◌≡◌, ◌<◌, ◌==◌, ◌||◌, false, ℕ, suc, List, IfOk, IfSome, IsTrue, Some, length, map, option_copied, option_map, reverse, slice_get, take, true};
 ghost use Rattle.dump_trees.specs.Paths.{names_of};
-ghost use Rattle.dump_trees.specs.Looking.{end_of, latest, touches_path};
-ghost use Rattle.dump_index.specs.InOrder.{are_in_order, comes_in_order, ends_in_slash, is_from_before};
+ghost use Rattle.dump_trees.specs.steps.Looking.{end_of, latest, touches_path};
+ghost use Rattle.dump_index.specs.steps.InOrder.{are_in_order, comes_in_order, ends_in_slash, is_from_before};
 ghost use Rattle.dump_index.specs.steps.OutOfOrder.{IsFirstOutOfOrder};
-ghost use Rattle.dump_index.specs.Kinds.{kind_look};
+ghost use Rattle.dump_index.specs.steps.Kinds.{kind_look};
 ghost use Rattle.dump_index.specs.steps.Keys.{has_effect_at, latest_place};
-ghost use Rattle.dump_index.specs.Settings.{IsTrail, latest_for, sets_at};
+ghost use Rattle.dump_index.specs.steps.Settings.{IsTrail, latest_for, sets_at};
 ghost use Rattle.dump_index.specs.steps.Touching.{shapes};
 ghost use Rattle.dump_index.specs.steps.Trails.{IsTrailStep};
 ghost use Rattle.dump_index.specs.steps.Looks.{GoesBack, came, is_since, origin_kind, origin_names, kind_with_text};
 ghost use Rattle.dump_index.specs.steps.KnownKinds.{AreKindsBehind, IsLook, count_through, source_look};
-ghost use Rattle.dump_index.specs.Listed.{Listed, all_placed, listed_of};
-ghost use Rattle.dump_index.specs.Children.{is_child_named};
-ghost use Rattle.dump_trees.specs.Listing.{names_behind, names_look, names_made};
+ghost use Rattle.dump_index.specs.steps.Listed.{Listed, all_placed, listed_of};
+ghost use Rattle.dump_index.specs.steps.Children.{is_child_named};
+ghost use Rattle.dump_trees.specs.steps.Listing.{names_behind, names_look, names_made};
 
 mod children;
 mod existing;
@@ -47,7 +47,7 @@ const _: () = prove!(size_of::<NodeChange<'static>>() + 4 * size_of::<u32>() <= 
 
 impl<'a> Model for ChangeIndex<'a> {
     ghost use Rattle.std.specs.Prelude.{List, map};
-    ghost use Rattle.dump_index.specs.Listed.{Listed, listed_of};
+    ghost use Rattle.dump_index.specs.steps.Listed.{Listed, listed_of};
 
     ghost Value = { List Listed };
 

@@ -1,7 +1,7 @@
 //! Laws of an index; each is the contract of a function that does nothing.
-ghost use Rattle.dump_index.specs.ExistsEver.{ExistingIsFound};
-ghost use Rattle.dump_index.specs.ToldKinds.{IndexTellsKinds};
-ghost use Rattle.dump_index.specs.IndexLaws.{ChildrenAreOfTrees, KindsAreFound, KindsAreOfTrees, NamesEverAreFound, NamesEverSuffice, PropsAreFound, TextsAreFound};
+ghost use Rattle.dump_index.specs.steps.ExistsEver.{ExistingIsFound};
+ghost use Rattle.dump_index.specs.steps.ToldKinds.{IndexTellsKinds};
+ghost use Rattle.dump_index.specs.steps.IndexLaws.{ChildrenAreOfTrees, KindsAreFound, KindsAreOfTrees, NamesEverAreFound, NamesEverSuffice, PropsAreFound, TextsAreFound};
 
 /// If a node exists in the repository, an index finds its kind. If the dump loads, an index finds what exists in each
 /// tree, and at which paths nothing exists.

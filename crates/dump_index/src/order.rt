@@ -1,6 +1,6 @@
 //! Changes in the order of their paths, for lookups by path.
 ghost use Rattle.std.specs.Prelude.{◌≡◌, ◌||◌, All, Bool, ℕ, IfOk, filter, length, map, slice_get};
-ghost use Rattle.dump_index.specs.Listed.{listed_of};
+ghost use Rattle.dump_index.specs.steps.Listed.{listed_of};
 ghost use Rattle.dump_index.specs.steps.Keys.{AreFirstPlaces, IsKeyIn, IsOrder, IsSortedKeys, key_of, place_of, is_key_before, has_effect_at, has_effect_here, has_effect, key_cmp, key_in, keys_in, latest_place, path_there, sets};
 ghost use Rattle.dump_index.specs.steps.Touching.{later, moves_above};
 ghost use Rattle.dump_index.specs.steps.Below.{AreFrom, IsBehind, IsNextChildKey, NoneBelow};

@@ -1,6 +1,6 @@
 //! The origins of what exists at paths.
 ghost use Rattle.std.specs.Prelude.{◌≡◌, option_map};
-ghost use Rattle.dump_index.specs.Listed.{listed_made};
+ghost use Rattle.dump_index.specs.steps.Listed.{listed_made};
 ghost use Rattle.dump_index.specs.steps.Looks.{IsMadeBy, kind_with_text};
 ghost use Rattle.dump_index.specs.steps.KnownKinds.{left_kind, made_kind};
 

@@ -1,6 +1,6 @@
 //! Paths as texts, with slashes between their names.
 ghost use Rattle.std.specs.Prelude.{◌≡◌, IfOk};
-ghost use Rattle.dump_index.specs.InOrder.{ends_in_slash};
+ghost use Rattle.dump_index.specs.steps.InOrder.{ends_in_slash};
 ghost use Rattle.dump_index.specs.steps.Touching.{joined_text, rest_text};
 ghost use Rattle.dump_index.specs.steps.Below.{StandsSo, ends_up_to, name_end, top_text};
 

@@ -1,7 +1,7 @@
 //! The changes that set the properties or the text of what exists at a path.
 ghost use Rattle.std.specs.Prelude.{◌≡◌, ◌++◌, OnOk, option_to_list};
-ghost use Rattle.dump_index.specs.Listed.{listed_of};
-ghost use Rattle.dump_index.specs.Settings.{is_replacing, own_place, setting_of};
+ghost use Rattle.dump_index.specs.steps.Listed.{listed_of};
+ghost use Rattle.dump_index.specs.steps.Settings.{is_replacing, own_place, setting_of};
 ghost use Rattle.dump_index.specs.steps.Looks.{is_place};
 
 use crate::change::{NodeChange, Setting, Source};

@@ -13,18 +13,24 @@ pub use Rattle.dump_rules.specs.Renumbering.{KeptRevisions, image, new_number}
 pub use Rattle.dump_rules.specs.Settings.{Settings, keeps_path, side_keeps}
 pub use Rattle.dump_text.specs.PropertyList.{Property}
 pub use Rattle.dump_trees.specs.Changes.{Change, History, Made, PropertyChange, TextChange, copied, deleted, edited_with, has_directory, is_copied, is_directory_at, made_in, new_props, new_text, node_put, props_put, props_set, step, steps, text_set, with_entry, with_props, with_text}
-pub use Rattle.dump_trees.specs.FrontLaws.{BegunTreesStay, EachFrontRestricts, FrontLoads, FrontRestricts}
-pub use Rattle.dump_trees.specs.HistoryLaws.{EachHistoryRestricts, EachRevisionRestricts, HistoryRestricts, ImagesRestrict}
-pub use Rattle.dump_trees.specs.MovedLaws.{AllAreAlike, AreAlike, AreRevisionsBehind, EachLoadsAlike, IsChangeBehind, LoadsAlike, change_behind, made_behind, revisions_behind}
-pub use Rattle.dump_trees.specs.PathLaws.{KeepsAsTextDoes, TextsAreRead}
+pub use Rattle.dump_trees.specs.steps.FrontLaws.{BegunTreesStay, EachFrontRestricts, FrontLoads, FrontRestricts}
+pub use Rattle.dump_trees.specs.HistoryLaws.{ImagesRestrict}
+pub use Rattle.dump_trees.specs.steps.HistoryLaws.{EachHistoryRestricts, EachRevisionRestricts, HistoryRestricts}
+pub use Rattle.dump_trees.specs.MovedLaws.{AreRevisionsBehind, IsChangeBehind, change_behind, made_behind, revisions_behind}
+pub use Rattle.dump_trees.specs.steps.MovedLaws.{AllAreAlike, AreAlike, EachLoadsAlike, LoadsAlike}
+pub use Rattle.dump_trees.specs.steps.PathLaws.{KeepsAsTextDoes, TextsAreRead}
 pub use Rattle.dump_trees.specs.Paths.{NodePath, below, is_name, is_short, keeps, names_of, parent_of, path_of, path_text}
-pub use Rattle.dump_trees.specs.Quiet.{AllQuietSeparate, QuietSeparates, are_quiet, cuts_alike, cuts_one, holds_of_some, is_over, is_quiet, is_quiet_dropped, is_quiet_kept, none_is_over, nowhere_is_over, rest_of_prefix}
-pub use Rattle.dump_trees.specs.Restriction.{AreNewProps, IsNewChange, IsNewMade, IsNewNode, IsRestricted, KeepsEntries, NewNumber, NewProperty, edits_props, filtered_made, filtered_props, given, is_above, is_above_some, is_given, is_lost, is_root, sets_whole, sets_whole_text}
-pub use Rattle.dump_trees.specs.Revisions.{AllRevisionsSeparate, AllSeparate, AreFiltered, AreNewChanges, AreNewRevisions, EmptyRule, IsWrittenNumber, keeps_revision, kept_from, kept_of, loaded, loaded_over, names_kept, names_none, names_none_behind, stays_numbered}
+pub use Rattle.dump_trees.specs.Quiet.{are_quiet, cuts_alike, cuts_one, holds_of_some, is_over, is_quiet, is_quiet_dropped, is_quiet_kept, none_is_over, nowhere_is_over, rest_of_prefix}
+pub use Rattle.dump_trees.specs.steps.Quiet.{AllQuietSeparate, QuietSeparates}
+pub use Rattle.dump_trees.specs.Restriction.{AreNewProps, IsNewNode, IsRestricted, NewNumber, NewProperty, given, is_above, is_above_some, is_given, is_lost, is_root}
+pub use Rattle.dump_trees.specs.steps.Restriction.{IsNewChange, IsNewMade, KeepsEntries, edits_props, filtered_made, filtered_props, sets_whole, sets_whole_text}
+pub use Rattle.dump_trees.specs.Revisions.{AllRevisionsSeparate, AllSeparate, IsWrittenNumber, loaded, loaded_over}
+pub use Rattle.dump_trees.specs.steps.Revisions.{AreFiltered, AreNewChanges, AreNewRevisions, EmptyRule, keeps_revision, kept_from, kept_of, names_kept, names_none, names_none_behind, stays_numbered}
 pub use Rattle.dump_trees.specs.Separation.{CopySeparates, LeavesKept, PlainSeparates, Separates, has_no_props}
-pub use Rattle.dump_trees.specs.StepLaws.{AllHaveDirectories, AreRestricted, DroppedStepRestricts, EachStepRestricts, FilteredIsNew, IsMade, IsRenumbered, KeptStepRestricts}
-pub use Rattle.dump_trees.specs.TreeLaws.{GivesNothingBelowKept, KeepsNothingBelowLeft, KeepsOrGivesAbove}
-pub use Rattle.dump_trees.specs.Trees.{HasDirectories, Node, Tree, at_or_below, at_top, empty_tree, grafted, is_directory_node, put, root_alone}
+pub use Rattle.dump_trees.specs.steps.StepLaws.{AllHaveDirectories, AreRestricted, DroppedStepRestricts, EachStepRestricts, FilteredIsNew, IsMade, IsRenumbered, KeptStepRestricts}
+pub use Rattle.dump_trees.specs.steps.TreeLaws.{GivesNothingBelowKept, KeepsNothingBelowLeft, KeepsOrGivesAbove}
+pub use Rattle.dump_trees.specs.Trees.{Node, Tree, at_or_below, at_top, empty_tree, grafted, is_directory_node, put, root_alone}
+pub use Rattle.dump_trees.specs.steps.Trees.{HasDirectories}
 pub use Rattle.dump_rules.specs.declared.options.Empty.TheVariants.{DropEmptied, Pad}
 pub use Rattle.dump_rules.specs.declared.options.Side.{Side}
 pub use Rattle.dump_rules.specs.declared.options.Side.TheVariants.{Exclude, Include}

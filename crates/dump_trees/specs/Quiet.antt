@@ -1,6 +1,6 @@
 -- Quiet changes: their header lines, their properties and the prefixes alone show that they are separated, without any
 -- tree. One thing isn't shown so: whether a copy of a path that isn't kept is made over something.
-use Rattle.std.specs.Prelude.{◌≡◌, ℕ, Bool, true, false, not, ◌&&◌, ◌||◌, List, [], ◌∷◌, ◌++◌, drop, length, Option, Some, None, is_some, slice_get, if◌then◌else◌, IsTrue}
+use Rattle.std.specs.Prelude.{ℕ, Bool, true, not, ◌&&◌, ◌||◌, List, [], ◌∷◌, ◌++◌, drop, length, Option, Some, None, is_some, slice_get, if◌then◌else◌}
 use Rattle.std.specs.List.{list_all}
 use Rattle.dump_rules.specs.declared.options.Side.{Side}
 use Rattle.dump_rules.specs.declared.options.Side.TheVariants.{Include, Exclude}
@@ -10,8 +10,6 @@ use Rattle.dump_trees.specs.Paths.{NodePath, path_text, keeps}
 use Rattle.dump_trees.specs.Trees.{Tree}
 use Rattle.dump_trees.specs.Changes.{Made, is_copied, PropertyChange, Change, History, step, steps}
 use Rattle.dump_trees.specs.Restriction.{is_above, is_above_some, is_lost}
-use Rattle.dump_trees.specs.Separation.{Separates}
-use Rattle.dump_trees.specs.Revisions.{AllRevisionsSeparate}
 
 -- the text of a prefix that is below the path, without the path
 abbrev pub rest_of_prefix : NodePath → List ℕ → List ℕ
@@ -77,16 +75,3 @@ nowhere_is_over settings trees youngest (changes ∷ revisions) =
     none_is_over settings (slice_get trees) youngest changes
     && holds_of_some (λ tree. nowhere_is_over settings (trees ++ tree ∷ []) tree revisions)
     (steps (slice_get trees) youngest changes)
-
--- a quiet change that isn't a lost copy over something is separated
-abbrev pub QuietSeparates : Type 0
-QuietSeparates = (settings : Settings) (history : History) (before after : Tree) (c : Change) →
-    IsTrue (is_quiet settings c) → is_over settings before c ≡ false → step history before c ≡ Some after
-    → Separates settings history before c after
-
--- if all changes are quiet and no lost copy is made over something, all are separated
-abbrev pub AllQuietSeparate : Type 0
-AllQuietSeparate = (settings : Settings) (trees : List Tree) (youngest : Tree) (revisions : List (List Change)) →
-    IsTrue (are_quiet settings revisions)
-    → IsTrue (nowhere_is_over settings trees youngest revisions)
-    → AllRevisionsSeparate settings trees youngest revisions

@@ -1,26 +1,26 @@
 //! Laws of filtered dumps. Each is the contract of a function that does nothing.
-ghost use Rattle.dump_trees.specs.CanonicalPaths.{CanonicalPathsHaveNames, ShortPathsAreCanonical};
-ghost use Rattle.dump_trees.specs.CutLines.{NamedLineStays};
-ghost use Rattle.dump_trees.specs.DeletesBehind.{DeletesAreFound};
-ghost use Rattle.dump_trees.specs.EverSiblings.{ChangedPathsExist, CopiedPathsExist, EverKeptInCut, EverSiblingsAreFound};
-ghost use Rattle.dump_trees.specs.ExpansionCases.{ExcludedChangeStays, KeptCopyExpands, SeparatedExpands};
-ghost use Rattle.dump_trees.specs.Expansions.{ExpandedLead, ExpandedLoad, SeparatedRevisionsExpand};
-ghost use Rattle.dump_trees.specs.FindingSiblings.{AboveAreListed, SiblingsAreFound};
-ghost use Rattle.dump_trees.specs.FollowedRests.{AllRestsAreListed, NoneAtAnyPlace, NoReturnsBringNothing};
-ghost use Rattle.dump_trees.specs.Following.{CopiesArePlaced, EachCopyIsOver, FollowedBringNothingBack, FollowedIsTold, FollowingIsLeast, GrownPathsCover, ListedAreFollowed};
-ghost use Rattle.dump_trees.specs.FrontLaws.{BegunTreesStay, EachFrontRestricts};
-ghost use Rattle.dump_trees.specs.HistoryLaws.{EachHistoryRestricts, EachRevisionRestricts};
-ghost use Rattle.dump_trees.specs.Listing.{NamesAreLooked};
-ghost use Rattle.dump_trees.specs.LoadCheck.{DumpIsAllowed, FirstRejectionIsThere, PlainLooksTellKinds, StepIsAllowed, TellsEachTree};
-ghost use Rattle.dump_trees.specs.Looking.{LookFinds, LookFindsEach};
-ghost use Rattle.dump_trees.specs.MovedLaws.{EachLoadsAlike};
-ghost use Rattle.dump_trees.specs.PathLaws.{KeepsAsTextDoes, TextsAreRead};
-ghost use Rattle.dump_trees.specs.Returns.{ReturnsTellAll};
-ghost use Rattle.dump_trees.specs.Quiet.{AllQuietSeparate, QuietSeparates};
-ghost use Rattle.dump_trees.specs.Siblings.{LoadedTreesHaveDirectories, LoadedTreesHaveNames, NamedPathsLeaveCut, NamedTextsLeaveCut, ShortPathsHaveNames, SiblingsLeaveCut};
-ghost use Rattle.dump_trees.specs.StepLaws.{EachStepRestricts, FilteredIsNew};
-ghost use Rattle.dump_trees.specs.TreeLaws.{GivesNothingBelowKept, GivesRootAlone, KeepsNothingBelowLeft, KeepsOrGivesAbove};
-ghost use Rattle.dump_trees.specs.Trimming.{EachTrimmedFilteredRestricts, EachTrimmedHistoryRestricts, EachTrimmedRevisionRestricts};
+ghost use Rattle.dump_trees.specs.steps.CanonicalPaths.{CanonicalPathsHaveNames, ShortPathsAreCanonical};
+ghost use Rattle.dump_trees.specs.steps.CutLines.{NamedLineStays};
+ghost use Rattle.dump_trees.specs.steps.DeletesBehind.{DeletesAreFound};
+ghost use Rattle.dump_trees.specs.steps.EverSiblings.{ChangedPathsExist, CopiedPathsExist, EverKeptInCut, EverSiblingsAreFound};
+ghost use Rattle.dump_trees.specs.steps.ExpansionCases.{ExcludedChangeStays, KeptCopyExpands, SeparatedExpands};
+ghost use Rattle.dump_trees.specs.steps.Expansions.{ExpandedLead, ExpandedLoad, SeparatedRevisionsExpand};
+ghost use Rattle.dump_trees.specs.steps.FindingSiblings.{AboveAreListed, SiblingsAreFound};
+ghost use Rattle.dump_trees.specs.steps.FollowedRests.{AllRestsAreListed, NoneAtAnyPlace, NoReturnsBringNothing};
+ghost use Rattle.dump_trees.specs.steps.Following.{CopiesArePlaced, EachCopyIsOver, FollowedBringNothingBack, FollowedIsTold, FollowingIsLeast, GrownPathsCover, ListedAreFollowed};
+ghost use Rattle.dump_trees.specs.steps.FrontLaws.{BegunTreesStay, EachFrontRestricts};
+ghost use Rattle.dump_trees.specs.steps.HistoryLaws.{EachHistoryRestricts, EachRevisionRestricts};
+ghost use Rattle.dump_trees.specs.steps.Listing.{NamesAreLooked};
+ghost use Rattle.dump_trees.specs.steps.LoadCheck.{DumpIsAllowed, FirstRejectionIsThere, PlainLooksTellKinds, StepIsAllowed, TellsEachTree};
+ghost use Rattle.dump_trees.specs.steps.Looking.{LookFinds, LookFindsEach};
+ghost use Rattle.dump_trees.specs.steps.MovedLaws.{EachLoadsAlike};
+ghost use Rattle.dump_trees.specs.steps.PathLaws.{KeepsAsTextDoes, TextsAreRead};
+ghost use Rattle.dump_trees.specs.steps.Returns.{ReturnsTellAll};
+ghost use Rattle.dump_trees.specs.steps.Quiet.{AllQuietSeparate, QuietSeparates};
+ghost use Rattle.dump_trees.specs.steps.Siblings.{LoadedTreesHaveDirectories, LoadedTreesHaveNames, NamedPathsLeaveCut, NamedTextsLeaveCut, ShortPathsHaveNames, SiblingsLeaveCut};
+ghost use Rattle.dump_trees.specs.steps.StepLaws.{EachStepRestricts, FilteredIsNew};
+ghost use Rattle.dump_trees.specs.steps.TreeLaws.{GivesNothingBelowKept, GivesRootAlone, KeepsNothingBelowLeft, KeepsOrGivesAbove};
+ghost use Rattle.dump_trees.specs.steps.Trimming.{EachTrimmedFilteredRestricts, EachTrimmedHistoryRestricts, EachTrimmedRevisionRestricts};
 
 /// The filter keeps a path exactly if it keeps the path's text. A path of names is read back from its text.
 pub fn paths_are_their_texts()

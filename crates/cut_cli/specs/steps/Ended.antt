@@ -5,7 +5,7 @@ use Rattle.dump_writer.specs.steps.SinkStates.{LentState}
 use Rattle.dump_pipeline.specs.declared.answer.Answer.{Answer}
 use Rattle.dump_pipeline.specs.declared.answer.Answer.TheVariants.{Failed}
 use Rattle.dump_pipeline.specs.declared.answer.Failure.{Failure}
-use Rattle.cut_cli.specs.Drive.{cut_status}
+use Rattle.cut_cli.specs.steps.Drive.{cut_status}
 
 -- the run's answer, if its last line is written and the buffer is empty; or a failure, with the number of bytes that
 -- the writer took

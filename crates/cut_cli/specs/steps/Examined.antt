@@ -4,22 +4,23 @@ use Rattle.std.specs.List.{AllZip, list_all}
 use Rattle.dump_records.specs.DumpText.{Ending, HasRecords}
 use Rattle.dump_records.specs.RecordText.{DumpRecord}
 use Rattle.dump_filter.specs.Groups.{revision_numbers}
-use Rattle.dump_trees.specs.LoadCheck.{ToldKinds}
-use Rattle.dump_trees.specs.Looking.{Placed}
+use Rattle.dump_trees.specs.steps.LoadCheck.{ToldKinds}
+use Rattle.dump_trees.specs.steps.Looking.{Placed}
 use Rattle.dump_trees.specs.Paths.{NodePath}
-use Rattle.dump_cut.specs.LaterParts.{IsWhyNoPart}
-use Rattle.dump_cut.specs.NamedPaths.{has_named_paths}
+use Rattle.dump_cut.specs.steps.LaterParts.{IsWhyNoPart}
+use Rattle.dump_cut.specs.steps.NamedPaths.{has_named_paths}
 use Rattle.dump_cut.specs.declared.later.NoPart.{NoPart}
-use Rattle.dump_cut.specs.TrimmedCopies.{HasOddDelete}
-use Rattle.dump_index.specs.IndexLaws.{IsListed}
-use Rattle.dump_index.specs.Listed.{Listed, listed_of}
-use Rattle.dump_index.specs.ToldKinds.{kinds_told_by}
+use Rattle.dump_cut.specs.steps.TrimmedCopies.{HasOddDelete}
+use Rattle.dump_index.specs.steps.IndexLaws.{IsListed}
+use Rattle.dump_index.specs.steps.Listed.{Listed, listed_of}
+use Rattle.dump_index.specs.steps.ToldKinds.{kinds_told_by}
 use Rattle.dump_index.specs.declared.change.NodeChange.{NodeChange}
 use Rattle.dump_changes.specs.declared.read.End.{End}
 use Rattle.dump_changes.specs.declared.read.End.TheVariants.{Whole, NoChange, OutOfOrder, Broken}
-use Rattle.dump_changes.specs.ListedDumps.{AreListedIn, are_numbered, is_listed_copy, rise_from}
-use Rattle.dump_changes.specs.NodeProperties.{HaveNodeNumbers}
-use Rattle.cut_cli.specs.Cuts.{AreAdditionsUnread, AreChangesOf, AreCopiesTaken, AreListedButNumbers, BeginsWithChanges, BringsNothingBack, ExcludesWithReturns, IsObstacleTo, IsReadyFor, IsSetUp, IsTakenDump, IsUnreadFor, writes_additions}
+use Rattle.dump_changes.specs.ListedDumps.{rise_from}
+use Rattle.dump_changes.specs.steps.ListedDumps.{AreListedIn, are_numbered, is_listed_copy}
+use Rattle.dump_changes.specs.steps.NodeProperties.{HaveNodeNumbers}
+use Rattle.cut_cli.specs.steps.Cuts.{AreAdditionsUnread, AreChangesOf, AreCopiesTaken, AreListedButNumbers, BeginsWithChanges, BringsNothingBack, ExcludesWithReturns, IsObstacleTo, IsReadyFor, IsSetUp, IsTakenDump, IsUnreadFor, writes_additions}
 use Rattle.cut_cli.specs.Words.{CutMeaning}
 use Rattle.cut_cli.specs.declared.examine.Obstacle.{Obstacle}
 use Rattle.cut_cli.specs.declared.examine.Obstacle.TheVariants.{OddDelete}

@@ -3,24 +3,25 @@ use Rattle.std.specs.Prelude.{◌≡◌, ◌≢◌, ◌⊎◌, ℕ, suc, Bool, t
 use Rattle.std.specs.Global.{Vec}
 use Rattle.std.specs.List.{list_all}
 use Rattle.dump_text.specs.PropertyList.{Property}
-use Rattle.dump_trees.specs.Looking.{end_of}
+use Rattle.dump_trees.specs.steps.Looking.{end_of}
 use Rattle.dump_trees.specs.Paths.{NodePath, names_of}
-use Rattle.dump_trees.specs.WritingOut.{directory_of}
-use Rattle.dump_history.specs.WrittenNodes.{WrittenNode, can_be_written, written_change}
-use Rattle.dump_index.specs.Listed.{Listed, all_placed}
+use Rattle.dump_trees.specs.steps.WritingOut.{directory_of}
+use Rattle.dump_history.specs.WrittenNodes.{WrittenNode, can_be_written}
+use Rattle.dump_history.specs.steps.WrittenNodes.{written_change}
+use Rattle.dump_index.specs.steps.Listed.{Listed, all_placed}
 use Rattle.dump_index.specs.declared.change.Setting.TheVariants.{Keeps}
-use Rattle.dump_changes.specs.FileTexts.{IsStoredAt, TextStored, ToldText}
-use Rattle.dump_changes.specs.NodeProperties.{ArePropertiesAt}
+use Rattle.dump_changes.specs.steps.FileTexts.{IsStoredAt, TextStored, ToldText}
+use Rattle.dump_changes.specs.steps.NodeProperties.{ArePropertiesAt}
 use Rattle.dump_changes.specs.declared.node_text.NodeText.{NodeText}
 use Rattle.dump_changes.specs.steps.StoredTexts.{told_of}
-use Rattle.dump_expansion.specs.GivenSteads.{GivenStead}
+use Rattle.dump_expansion.specs.steps.GivenSteads.{GivenStead}
 use Rattle.dump_expansion.specs.steps.Given.{given_of}
 use Rattle.dump_expansion.specs.steps.NewNodes.{written_of}
 use Rattle.dump_expansion.specs.declared.expanding.Stead as code
 use Rattle.dump_expansion.specs.declared.written_node.NewNode.{NewNode}
-use Rattle.dump_additions.specs.Additions.{AreAdditionsFrom, AreNodesOf, BringsNone, IsAddition, IsCleared, IsNodeOf, IsRootOf, copies_over}
-use Rattle.dump_additions.specs.FirstNotAdded.{CannotBeAdded, CannotStay, HasDelta, IsDeltaIn, IsFirstNotAdded}
-use Rattle.dump_additions.specs.Parts.{PartMeant}
+use Rattle.dump_additions.specs.steps.Additions.{AreAdditionsFrom, AreNodesOf, BringsNone, IsAddition, IsCleared, IsNodeOf, IsRootOf, copies_over}
+use Rattle.dump_additions.specs.steps.FirstNotAdded.{CannotBeAdded, CannotStay, HasDelta, IsDeltaIn, IsFirstNotAdded}
+use Rattle.dump_additions.specs.steps.Parts.{PartMeant}
 use Rattle.dump_additions.specs.declared.not_added.NotAdded.{NotAdded}
 use Rattle.dump_additions.specs.declared.not_added.Reason.{Reason}
 use Rattle.dump_additions.specs.declared.not_added.Reason.TheVariants.{Delta, NoLoad, NotWritable}

@@ -2,16 +2,16 @@
 use Rattle.std.specs.Prelude.{◌≡◌, ℕ, true, List, [], ◌∷◌, ◌++◌, Option, Some, None}
 use Rattle.std.specs.List.{AllZip}
 use Rattle.dump_text.specs.PropertyList.{Property}
-use Rattle.dump_trees.specs.Branches.{Branch, Branches, HasBranch, is_distinct}
+use Rattle.dump_trees.specs.steps.Branches.{Branch, Branches, HasBranch, is_distinct}
 use Rattle.dump_trees.specs.Changes.{Change, History, PropertyChange, edited_with, new_props}
-use Rattle.dump_trees.specs.ComingBack.{properties_of}
+use Rattle.dump_trees.specs.steps.ComingBack.{properties_of}
 use Rattle.dump_trees.specs.Paths.{NodePath}
 use Rattle.dump_trees.specs.Trees.{Node, Tree}
-use Rattle.dump_trees.specs.WritingOut.{WritesOut, copy_of, file_of, directory_of}
+use Rattle.dump_trees.specs.steps.WritingOut.{WritesOut, copy_of, file_of, directory_of}
 use Rattle.dump_filter.specs.FilterLaws.{keep_all}
 use Rattle.dump_additions.specs.declared.parts.Form.{Form}
 use Rattle.dump_additions.specs.declared.parts.Form.TheVariants.{Copy, Directory, File}
-use Rattle.dump_additions.specs.Parts.{PartMeant}
+use Rattle.dump_additions.specs.steps.Parts.{PartMeant}
 
 module _ (old : Tree) (number : ℕ) (path source : NodePath) where
   -- the entries make the properties of what exists at this rest of the source

@@ -3,14 +3,14 @@ use Rattle.std.specs.Prelude.{◌≡◌, ℕ, List, Some, map, slice_get}
 use Rattle.dump_text.specs.PropertyList.{Property}
 use Rattle.dump_records.specs.RecordText.{DumpRecord}
 use Rattle.dump_trees.specs.Changes.{Change}
-use Rattle.dump_trees.specs.Looking.{Placed}
+use Rattle.dump_trees.specs.steps.Looking.{Placed}
 use Rattle.dump_history.specs.RecordChanges.{MakesChange, Patching}
-use Rattle.dump_index.specs.IndexLaws.{HasProps, props_after, props_by}
-use Rattle.dump_index.specs.Listed.{Listed, listed_of}
-use Rattle.dump_index.specs.Settings.{IsTrail}
+use Rattle.dump_index.specs.steps.IndexLaws.{HasProps, props_after, props_by}
+use Rattle.dump_index.specs.steps.Listed.{Listed, listed_of}
+use Rattle.dump_index.specs.steps.Settings.{IsTrail}
 use Rattle.dump_index.specs.declared.change.NodeChange.{NodeChange}
 use Rattle.dump_index.specs.declared.trail.Part.TheVariants.{Props}
-use Rattle.dump_changes.specs.NodeProperties.{ListNodes, property_blocks}
+use Rattle.dump_changes.specs.steps.NodeProperties.{ListNodes, property_blocks}
 use Rattle.dump_changes.specs.declared.property_edit.NodeProperty.{NodeProperty}
 
 -- a property that a node has

@@ -6,8 +6,9 @@ use Rattle.dump_digest.specs.RecordParts.{is_node}
 use Rattle.dump_filter.specs.Groups.{revision_numbers}
 use Rattle.dump_trees.specs.Changes.{Change}
 use Rattle.dump_history.specs.RecordChanges.{Patching, MakesChange}
-use Rattle.dump_changes.specs.ListedDumps.{AreListedIn, IsOutOfPlace, are_numbered, rise_from}
-use Rattle.dump_changes.specs.NodeProperties.{HaveNodeNumbers}
+use Rattle.dump_changes.specs.ListedDumps.{rise_from}
+use Rattle.dump_changes.specs.steps.ListedDumps.{AreListedIn, IsOutOfPlace, are_numbered}
+use Rattle.dump_changes.specs.steps.NodeProperties.{HaveNodeNumbers}
 use Rattle.dump_changes.specs.declared.read.End.{End}
 use Rattle.dump_changes.specs.declared.read.End.TheVariants.{Whole, NoChange, OutOfOrder, Broken}
 use Rattle.dump_changes.specs.declared.read.Reading.{Reading}

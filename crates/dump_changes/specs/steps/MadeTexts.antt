@@ -1,10 +1,10 @@
 -- Texts that are made of whole texts and deltas, as values of the specs.
 use Rattle.std.specs.Prelude.{◌≡◌, ℕ, List, ◌∷◌, ◌++◌, Some, None, slice_get}
-use Rattle.dump_index.specs.Listed.{Listed}
-use Rattle.dump_index.specs.Settings.{IsTrail}
+use Rattle.dump_index.specs.steps.Listed.{Listed}
+use Rattle.dump_index.specs.steps.Settings.{IsTrail}
 use Rattle.dump_index.specs.declared.trail.Part.TheVariants.{Text}
-use Rattle.dump_changes.specs.FileTexts.{ToldText}
-use Rattle.dump_changes.specs.PatchedTexts.{text_patched, text_set_by}
+use Rattle.dump_changes.specs.steps.FileTexts.{ToldText}
+use Rattle.dump_changes.specs.steps.PatchedTexts.{text_patched, text_set_by}
 use Rattle.dump_changes.specs.declared.patched_texts.FileText.{FileText}
 use Rattle.dump_changes.specs.declared.patched_texts.FileText.TheVariants as texts
 use Rattle.dump_changes.specs.declared.patched_texts.PatchedText.{PatchedText}

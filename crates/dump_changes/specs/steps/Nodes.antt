@@ -4,8 +4,8 @@ use Rattle.dump_text.specs.PropertyList.{Property}
 use Rattle.dump_records.specs.RecordText.{DumpRecord}
 use Rattle.dump_trees.specs.Changes.{Change}
 use Rattle.dump_history.specs.RecordChanges.{Patching, MakesChange, has_known_action, has_undefined_delta, loads_as_written}
-use Rattle.dump_index.specs.Listed.{Listed}
-use Rattle.dump_index.specs.IndexLaws.{IsListed}
+use Rattle.dump_index.specs.steps.Listed.{Listed}
+use Rattle.dump_index.specs.steps.IndexLaws.{IsListed}
 
 -- whether there is an entry
 abbrev pub has_entry : List Property → Bool

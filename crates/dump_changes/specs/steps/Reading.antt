@@ -7,13 +7,14 @@ use Rattle.dump_records.specs.RecordText.{DumpRecord}
 use Rattle.dump_digest.specs.RecordParts.{is_revision_record, is_node}
 use Rattle.dump_filter.specs.Groups.{revision_number, revision_numbers}
 use Rattle.dump_trees.specs.Changes.{Change}
-use Rattle.dump_trees.specs.Looking.{Placed}
+use Rattle.dump_trees.specs.steps.Looking.{Placed}
 use Rattle.dump_history.specs.RecordChanges.{Patching, MakesChange}
 use Rattle.dump_history.specs.DumpChanges.{counts_from}
-use Rattle.dump_index.specs.Listed.{listed_of}
-use Rattle.dump_index.specs.IndexLaws.{IsListed}
+use Rattle.dump_index.specs.steps.Listed.{listed_of}
+use Rattle.dump_index.specs.steps.IndexLaws.{IsListed}
 use Rattle.dump_index.specs.declared.change.NodeChange.{NodeChange}
-use Rattle.dump_changes.specs.ListedDumps.{NodesMake, revision_behind, rise_from, takes_nodes}
+use Rattle.dump_changes.specs.ListedDumps.{rise_from}
+use Rattle.dump_changes.specs.steps.ListedDumps.{NodesMake, revision_behind, takes_nodes}
 use Rattle.dump_changes.specs.declared.read.End.{End}
 use Rattle.dump_changes.specs.declared.read.Position.{Position}
 use Rattle.dump_changes.specs.declared.read.Reading.{Reading}

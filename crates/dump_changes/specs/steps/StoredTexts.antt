@@ -1,7 +1,7 @@
 -- The texts of a table, and how they are stored, as values of the specs.
 use Rattle.std.specs.Prelude.{ℕ, List, option_copied, ⊤}
-use Rattle.dump_index.specs.Listed.{Listed}
-use Rattle.dump_changes.specs.FileTexts.{IsTextAt, TextStored, ToldText}
+use Rattle.dump_index.specs.steps.Listed.{Listed}
+use Rattle.dump_changes.specs.steps.FileTexts.{IsTextAt, TextStored, ToldText}
 use Rattle.dump_changes.specs.declared.node_text.NodeText.{NodeText}
 use Rattle.dump_changes.specs.declared.node_text.StoredText.{StoredText}
 use Rattle.dump_changes.specs.declared.node_text.StoredText.TheVariants.{Whole, Delta}

@@ -1,10 +1,10 @@
 -- The deletes that are found for a dump.
 use Rattle.std.specs.Global.{Vec}
 use Rattle.std.specs.Prelude.{ℕ, List, Result, Ok, Err, map}
-use Rattle.dump_trees.specs.LoadCheck.{ToldKinds}
-use Rattle.dump_trees.specs.Looking.{Placed}
+use Rattle.dump_trees.specs.steps.LoadCheck.{ToldKinds}
+use Rattle.dump_trees.specs.steps.Looking.{Placed}
 use Rattle.dump_trees.specs.Paths.{NodePath}
-use Rattle.dump_cut.specs.TrimmedCopies.{AreDeletes, HasOddDelete}
+use Rattle.dump_cut.specs.steps.TrimmedCopies.{AreDeletes, HasOddDelete}
 
 -- paths as texts
 abbrev pub delete_texts_of : List (Vec (Vec ℕ)) → List (List (List ℕ))

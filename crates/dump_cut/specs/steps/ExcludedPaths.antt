@@ -1,6 +1,6 @@
 -- The paths that a cut excludes, as texts without a leading slash.
 use Rattle.std.specs.Prelude.{◌≡◌, ℕ, Bool, true, false, List, map}
-use Rattle.dump_trees.specs.Following.{IsGrown}
+use Rattle.dump_trees.specs.steps.Following.{IsGrown}
 use Rattle.dump_trees.specs.Paths.{NodePath, names_of}
 
 -- the paths that these texts spell

@@ -1,9 +1,9 @@
 -- Excluded paths as texts.
 use Rattle.std.specs.Prelude.{ℕ, Bool, ◌&&◌, not, List, map, filter, bytes_eq, IsTrue}
 use Rattle.std.specs.List.{list_all}
-use Rattle.dump_trees.specs.Returns.{lie_apart}
+use Rattle.dump_trees.specs.steps.Returns.{lie_apart}
 use Rattle.dump_trees.specs.Siblings.{has_node_names}
-use Rattle.dump_index.specs.Effects.{stands_over}
+use Rattle.dump_index.specs.steps.Effects.{stands_over}
 use Rattle.dump_index.specs.steps.Touching.{rest_text}
 use Rattle.dump_cut.specs.steps.ExcludedPaths.{paths_of}
 

@@ -2,19 +2,20 @@
 use Rattle.std.specs.List.{All, AllZip, list_all}
 use Rattle.std.specs.Prelude.{◌⊎◌, ℕ, Option, Some, None, ◌≡◌, ◌-◌, ◌++◌, ◌∷◌, [], Bool, not, List, map, Contains, IsTrue, slice_get, if◌then◌else◌}
 use Rattle.dump_trees.specs.Changes.{Made, Change}
-use Rattle.dump_trees.specs.Following.{Way, PlacedCopy, followed, followed_told, to_of}
-use Rattle.dump_trees.specs.FollowedRests.{rests_at}
-use Rattle.dump_trees.specs.LoadCheck.{ToldKinds}
-use Rattle.dump_trees.specs.Looking.{Placed, placed_from}
+use Rattle.dump_trees.specs.Following.{Way, to_of}
+use Rattle.dump_trees.specs.steps.Following.{PlacedCopy, followed, followed_told}
+use Rattle.dump_trees.specs.steps.FollowedRests.{rests_at}
+use Rattle.dump_trees.specs.steps.LoadCheck.{ToldKinds}
+use Rattle.dump_trees.specs.steps.Looking.{Placed, placed_from}
 use Rattle.dump_trees.specs.Paths.{NodePath, names_of}
 use Rattle.dump_trees.specs.Returns.{is_covered}
 use Rattle.dump_trees.specs.Trees.{Tree}
-use Rattle.dump_index.specs.IndexLaws.{IsListed}
-use Rattle.dump_index.specs.Listed.{Listed}
-use Rattle.dump_index.specs.ToldKinds.{kinds_told_by}
+use Rattle.dump_index.specs.steps.IndexLaws.{IsListed}
+use Rattle.dump_index.specs.steps.Listed.{Listed}
+use Rattle.dump_index.specs.steps.ToldKinds.{kinds_told_by}
 use Rattle.dump_cut.specs.steps.ExcludedPaths.{IsGrownIf}
 use Rattle.dump_cut.specs.declared.followed.Addition.{Addition}
-use Rattle.dump_cut.specs.FollowedCopies.{ComeByFollowing, IsIndexOf}
+use Rattle.dump_cut.specs.steps.FollowedCopies.{ComeByFollowing, IsIndexOf}
 
 -- the paths that are added
 abbrev pub added_paths : List Addition → List NodePath

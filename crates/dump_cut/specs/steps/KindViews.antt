@@ -1,7 +1,7 @@
 -- Kinds as an index finds them, and as the laws of loading describe them.
 use Rattle.std.specs.Prelude.{Bool, true, false, option_map}
-use Rattle.dump_trees.specs.LoadCheck as LoadCheck
-use Rattle.dump_index.specs.ToldKinds.{kind_meant}
+use Rattle.dump_trees.specs.steps.LoadCheck as LoadCheck
+use Rattle.dump_index.specs.steps.ToldKinds.{kind_meant}
 use Rattle.dump_index.specs.declared.change.Setting.{Setting}
 use Rattle.dump_index.specs.declared.change.Setting.TheVariants.{Keeps, Replaces, Edits, EditsNothing}
 use Rattle.dump_cut.specs.declared.kinds.Kinds.{Kinds}

@@ -2,8 +2,8 @@
 use Rattle.std.specs.Prelude.{◌≡◌, ℕ, false, List, Option, Some, None, option_and_then, ⊤}
 use Rattle.dump_trees.specs.Paths.{names_of, parent_of}
 use Rattle.dump_trees.specs.Restriction.{is_root}
-use Rattle.dump_index.specs.Kinds.{kind_look}
-use Rattle.dump_index.specs.Listed.{Listed}
+use Rattle.dump_index.specs.steps.Kinds.{kind_look}
+use Rattle.dump_index.specs.steps.Listed.{Listed}
 use Rattle.dump_index.specs.steps.KnownKinds.{source_look}
 use Rattle.dump_index.specs.declared.change.NodeChange.{NodeChange}
 use Rattle.dump_index.specs.declared.change.NodeKind.{NodeKind}

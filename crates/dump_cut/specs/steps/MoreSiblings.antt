@@ -3,9 +3,9 @@ use Rattle.std.specs.Prelude.{ℕ, List, [], ◌∷◌, ◌++◌, IsTrue}
 use Rattle.std.specs.List.{list_all}
 use Rattle.dump_trees.specs.Paths.{NodePath}
 use Rattle.dump_trees.specs.Returns.{is_covered}
-use Rattle.dump_trees.specs.Siblings.{is_sibling}
-use Rattle.dump_index.specs.Listed.{Listed}
-use Rattle.dump_index.specs.NamesEver.{CanStandOnce}
+use Rattle.dump_trees.specs.steps.Siblings.{is_sibling}
+use Rattle.dump_index.specs.steps.Listed.{Listed}
+use Rattle.dump_index.specs.steps.NamesEver.{CanStandOnce}
 
 -- the new ones are siblings if the old ones are, and cover what the old ones cover
 pub record AreMore (included old new : List NodePath) : Type 0 where

@@ -1,7 +1,7 @@
 -- What copies bring that is excluded on one side only, as the program finds it.
 use Rattle.std.specs.Prelude.{ℕ, List, map}
 use Rattle.dump_trees.specs.Following as Following
-use Rattle.dump_trees.specs.FollowedRests as FollowedRests
+use Rattle.dump_trees.specs.steps.FollowedRests as FollowedRests
 use Rattle.dump_trees.specs.Paths.{NodePath, names_of}
 use Rattle.dump_cut.specs.declared.returns.PlacedRest.{PlacedRest}
 use Rattle.dump_cut.specs.declared.returns.Way.{Way}

@@ -2,8 +2,8 @@
 use Rattle.std.specs.Prelude.{◌≡◌, ℕ, ◌+◌, ◌==◌, List, [], ◌∷◌, ◌++◌, drop, length, flat_map, take_while}
 use Rattle.dump_records.specs.DumpText.{Ending, HasRecords}
 use Rattle.dump_records.specs.RecordText.{DumpRecord, record_text}
-use Rattle.dump_history.specs.ExpandedDumps.{Stead, own_records}
-use Rattle.dump_expansion.specs.GivenSteads.{GivenStead, steads_in}
+use Rattle.dump_history.specs.steps.ExpandedDumps.{Stead, own_records}
+use Rattle.dump_expansion.specs.steps.GivenSteads.{GivenStead, steads_in}
 use Rattle.dump_expansion.specs.steps.NodeTexts.{nodes_text}
 
 -- the line feeds with which a text begins

@@ -2,7 +2,7 @@
 use Rattle.std.specs.Prelude.{Bool, List, map}
 use Rattle.std.specs.List.{list_all}
 use Rattle.dump_history.specs.WrittenNodes.{can_be_written}
-use Rattle.dump_expansion.specs.GivenSteads.{GivenStead}
+use Rattle.dump_expansion.specs.steps.GivenSteads.{GivenStead}
 use Rattle.dump_expansion.specs.steps.NewNodes.{written_of}
 use Rattle.dump_expansion.specs.declared.expanding.Stead as code
 

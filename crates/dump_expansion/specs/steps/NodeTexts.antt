@@ -3,7 +3,8 @@ use Rattle.std.specs.Prelude.{ℕ, Bool, List, ◌++◌, ◌∷◌, [], codes, f
 use Rattle.dump_text.specs.HeaderLine.{Header}
 use Rattle.dump_text.specs.Names.{path_name, node_kind_name, action_name, property_length_name, text_length_name}
 use Rattle.dump_records.specs.DumpText.{line_feeds}
-use Rattle.dump_history.specs.WrittenNodes.{WrittenNode, line, making_word, node_bytes, number_line}
+use Rattle.dump_history.specs.WrittenNodes.{WrittenNode, line, making_word, number_line}
+use Rattle.dump_history.specs.steps.WrittenNodes.{node_bytes}
 
 -- how many line feeds are written after a node
 abbrev pub lfs_after : WrittenNode → ℕ

@@ -8,12 +8,13 @@ use Rattle.dump_trees.specs.EverSiblings.{does_something}
 use Rattle.dump_trees.specs.LoadCheck.{sets_props}
 use Rattle.dump_trees.specs.Paths.{below}
 use Rattle.dump_trees.specs.Restriction.{AreNewProps}
-use Rattle.dump_trees.specs.ExpansionCases.{deletion_of}
+use Rattle.dump_trees.specs.steps.ExpansionCases.{deletion_of}
 use Rattle.dump_trees.proofs.paths.KeptPaths.{keeps_nothing}
 use Rattle.dump_trees.proofs.changes.TreeLemmas.{below_rest}
 use Rattle.dump_history.specs.CopiesOver.{copies_over_changed, copies_to, is_changed_after, some_copies_over}
-use Rattle.dump_history.specs.TrimmedDumps.{changes_behind, revisions_with}
-use Rattle.dump_history.specs.WrittenNodes.{WrittenNode, written_change}
+use Rattle.dump_history.specs.steps.TrimmedDumps.{changes_behind, revisions_with}
+use Rattle.dump_history.specs.WrittenNodes.{WrittenNode}
+use Rattle.dump_history.specs.steps.WrittenNodes.{written_change}
 
 -- what is changed after a change is changed too if more was changed before it
 still_changed : (o : Option NodePath) (c : Change) (fewer more : Bool) → (fewer ≡ true → more ≡ true)

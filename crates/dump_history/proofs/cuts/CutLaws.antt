@@ -7,8 +7,9 @@ use Rattle.dump_rules.specs.declared.options.Side.TheVariants.{Exclude}
 use Rattle.dump_filter.specs.Groups.{is_pad}
 use Rattle.dump_trees.proofs.changes.CutLemmas.{gives_root}
 use Rattle.dump_trees.specs.Revisions.{AllRevisionsSeparate}
-use Rattle.dump_history.specs.ExpandedText.{made_in_stead}
-use Rattle.dump_history.specs.CutDumps.{leaves_no_gap, FiltersExpansion, TreeRelation, TreeRestricts, LoadsNew, LoadsNumbered, ExcludedDumpLoads, ExcludedDumpLoadsNumbered}
+use Rattle.dump_history.specs.steps.ExpandedText.{made_in_stead}
+use Rattle.dump_history.specs.CutDumps.{TreeRelation}
+use Rattle.dump_history.specs.steps.CutDumps.{leaves_no_gap, FiltersExpansion, TreeRestricts, LoadsNew, LoadsNumbered, ExcludedDumpLoads, ExcludedDumpLoadsNumbered}
 use Rattle.dump_history.proofs.again.DumpAgain.{numbered_from, kept_revisions_are}
 use Rattle.dump_history.proofs.expanded.ExpandedLaw.{expanded_dump_loads}
 use Rattle.dump_history.proofs.expanded.SteadLemmas.{with_records}

@@ -10,14 +10,17 @@ use Rattle.dump_filter.specs.Groups.{is_pad}
 use Rattle.dump_filter.specs.WholeText.{IsCleanText}
 use Rattle.dump_trees.specs.Changes.{History, step, steps}
 use Rattle.dump_trees.specs.ComingBack.{SetsProperty, SomeKeptDoes, entries_in}
-use Rattle.dump_trees.specs.ExpansionCases.{deletion_of, deletions}
+use Rattle.dump_trees.specs.steps.ExpansionCases.{deletion_of, deletions}
 use Rattle.dump_trees.specs.Revisions.{loaded}
-use Rattle.dump_trees.specs.Trimming.{IsSameNumber}
-use Rattle.dump_history.specs.CutDumps.{leaves_no_gap}
+use Rattle.dump_trees.specs.steps.Trimming.{IsSameNumber}
+use Rattle.dump_history.specs.steps.CutDumps.{leaves_no_gap}
 use Rattle.dump_history.specs.DumpChanges.{MakeRevisions}
-use Rattle.dump_history.specs.KeptChanges.{CopiesPart, ComesOfKept, ChangesComeOfKept, FilteredChangesAreKept, RenumberedChangesAreKept, TrimmedChangesAreKept}
-use Rattle.dump_history.specs.TrimmedDumps.{AreAllTrimming, AreFilteredTrimming, AreTrimming, IsTrimmedText, changes_behind, part_groups, revisions_with, stays_empty}
-use Rattle.dump_history.specs.WrittenNodes.{WrittenNode, written_change}
+use Rattle.dump_history.specs.KeptChanges.{CopiesPart, ComesOfKept, ChangesComeOfKept}
+use Rattle.dump_history.specs.steps.KeptChanges.{FilteredChangesAreKept, RenumberedChangesAreKept, TrimmedChangesAreKept}
+use Rattle.dump_history.specs.TrimmedDumps.{IsTrimmedText}
+use Rattle.dump_history.specs.steps.TrimmedDumps.{AreAllTrimming, AreFilteredTrimming, AreTrimming, changes_behind, part_groups, revisions_with, stays_empty}
+use Rattle.dump_history.specs.WrittenNodes.{WrittenNode}
+use Rattle.dump_history.specs.steps.WrittenNodes.{written_change}
 use Rattle.dump_history.proofs.restricted.FilteredLaw.{is_left, same_kept}
 use Rattle.dump_history.proofs.restricted.LoadsOnce.{whole_records_once}
 use Rattle.dump_history.proofs.cuts.CopiesOver.{Delete, IsDeletion, over_without, written_over}

@@ -4,7 +4,7 @@ use Rattle.std.proofs.Common.{ℕ, false, not, ◌&&◌, List, [], ◌∷◌, So
 use Rattle.dump_rules.specs.declared.options.Empty.{Empty}
 use Rattle.dump_filter.specs.Groups.{is_pad, is_emptied}
 use Rattle.dump_trees.proofs.histories.KeptNumbers.{image_kept}
-use Rattle.dump_history.specs.CutDumps.{NumbersAreKept}
+use Rattle.dump_history.specs.steps.CutDumps.{NumbersAreKept}
 use Rattle.dump_history.proofs.again.GroupChanges.{AreNumberedFrom}
 
 or_ends : (a b : Bool) → (a || b || true) ≡ true

@@ -7,10 +7,11 @@ use Rattle.dump_filter.specs.Groups.{is_pad, is_padded}
 use Rattle.dump_filter.specs.NewContent.{revision_properties}
 use Rattle.dump_trees.specs.Changes.{History}
 use Rattle.dump_trees.specs.HistoryLaws.{ImagesRestrict}
-use Rattle.dump_trees.specs.Trimming.{AreTrimmedChanges, AreTrimmedFiltered}
+use Rattle.dump_trees.specs.steps.Trimming.{AreTrimmedChanges, AreTrimmedFiltered}
 use Rattle.dump_trees.proofs.expansions.TrimmedNumbers.{trimmed_filtered, at_true, at_false}
 use Rattle.dump_history.specs.WrittenNodes.{WrittenNode}
-use Rattle.dump_history.specs.TrimmedDumps.{part_groups, changes_behind, revisions_with, IsTrimmedText, AreTrimming, stays_empty, AreFilteredTrimming, TrimmedDumpLoadsRenumbered}
+use Rattle.dump_history.specs.TrimmedDumps.{IsTrimmedText}
+use Rattle.dump_history.specs.steps.TrimmedDumps.{part_groups, changes_behind, revisions_with, AreTrimming, stays_empty, AreFilteredTrimming, TrimmedDumpLoadsRenumbered}
 use Rattle.dump_history.proofs.again.NodeChanges.{entries_kept}
 use Rattle.dump_history.proofs.restricted.FilteredLaw.{same_kept, is_left}
 use Rattle.dump_history.proofs.restricted.LoadsOnce.{whole_records_once}

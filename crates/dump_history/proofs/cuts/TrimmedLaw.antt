@@ -3,7 +3,7 @@ use Rattle.dump_history.proofs.Prelude.{◌≡◌, ◌==◌, Bool, true, ◌++�
 use Rattle.std.proofs.Common.{false, List, [], ◌∷◌, Option, Some, None, length, is_some, not, ◌&&◌}
 use Rattle.std.proofs.lemmas.Bool.{MatchBool-at_true}
 use Rattle.dump_filter.specs.Groups.{is_pad, keeps_empty}
-use Rattle.dump_trees.specs.Trimming.{IsSameNumber, AreTrimmedRevisions}
+use Rattle.dump_trees.specs.steps.Trimming.{IsSameNumber, AreTrimmedRevisions}
 use Rattle.dump_filter.specs.FilterLaws.{keep_all}
 use Rattle.dump_trees.specs.Quiet.{is_quiet_kept}
 use Rattle.dump_trees.specs.Restriction.{is_lost}
@@ -11,8 +11,9 @@ use Rattle.dump_trees.proofs.quiet.QuietLemmas.{quiet_separates}
 use Rattle.dump_trees.proofs.expansions.CaseLemmas.{separated_expands}
 use Rattle.dump_trees.proofs.expansions.TrimmedHistories.{trimmed_history}
 use Rattle.dump_history.specs.WrittenNodes.{WrittenNode}
-use Rattle.dump_history.specs.CutDumps.{leaves_no_gap}
-use Rattle.dump_history.specs.TrimmedDumps.{part_groups, changes_behind, revisions_with, IsTrimmedText, AreAllTrimming, TrimmedDumpLoads, EachChangeStays, EachBranchIsCutAlike}
+use Rattle.dump_history.specs.steps.CutDumps.{leaves_no_gap}
+use Rattle.dump_history.specs.TrimmedDumps.{IsTrimmedText}
+use Rattle.dump_history.specs.steps.TrimmedDumps.{part_groups, changes_behind, revisions_with, AreAllTrimming, TrimmedDumpLoads, EachChangeStays, EachBranchIsCutAlike}
 use Rattle.dump_history.proofs.again.GroupChanges.{empty_rule}
 use Rattle.dump_history.proofs.again.NodeChanges.{entries_kept}
 use Rattle.dump_history.proofs.restricted.FilteredLaw.{is_left}

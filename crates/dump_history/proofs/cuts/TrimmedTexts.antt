@@ -3,10 +3,12 @@ use Rattle.dump_history.proofs.Prelude.{◌≡◌, Bool, true, not, ◌||◌, �
 use Rattle.std.proofs.Common.{ℕ, false, List, [], ◌∷◌}
 use Rattle.dump_records.specs.DumpText.{HaveVersions, line_feeds}
 use Rattle.dump_text.specs.Names.{revision_name, path_name}
-use Rattle.dump_history.specs.WrittenNodes.{WrittenNode, node_record, can_be_written, written_change}
-use Rattle.dump_history.specs.ExpandedDumps.{IsSameRecord}
+use Rattle.dump_history.specs.WrittenNodes.{WrittenNode, node_record, can_be_written}
+use Rattle.dump_history.specs.steps.WrittenNodes.{written_change}
+use Rattle.dump_history.specs.steps.ExpandedDumps.{IsSameRecord}
 use Rattle.dump_history.specs.ExpandedText.{AreRecordTexts}
-use Rattle.dump_history.specs.TrimmedDumps.{records_behind, may_stand_behind, node_parts, part_groups, changes_behind, revisions_with, TrimmedTextsAreDumps}
+use Rattle.dump_history.specs.TrimmedDumps.{records_behind, may_stand_behind}
+use Rattle.dump_history.specs.steps.TrimmedDumps.{node_parts, part_groups, changes_behind, revisions_with, TrimmedTextsAreDumps}
 use Rattle.dump_history.proofs.expanded.FormLemmas.{AllFit, all_fit, written_fits, written_node}
 use Rattle.dump_history.proofs.expanded.StandLemmas.{AllNodes, take_nodes, groups_behind, nodes_order, HaveSameRevisions, same_numbers, same_properties}
 use Rattle.dump_history.proofs.expanded.TextLemmas.{Joined, put_one, joins_behind, both_fit, AllUnder, nodes_under, some_same}

@@ -4,8 +4,8 @@ use Rattle.std.proofs.Common.{ℕ, Bool, false, List, [], ◌∷◌, Option, Som
 use Rattle.std.specs.List.{All}
 use Rattle.std.proofs.lemmas.Bool.{MatchBool-at_true}
 use Rattle.std.proofs.lemmas.List.Elements.{All-nil, All-cons, All-head, All-tail, All-same}
-use Rattle.dump_trees.specs.Restriction.{IsNewChange, IsNewMade}
-use Rattle.dump_trees.specs.Trimming.{IsSameNumber}
+use Rattle.dump_trees.specs.steps.Restriction.{IsNewChange, IsNewMade}
+use Rattle.dump_trees.specs.steps.Trimming.{IsSameNumber}
 use Rattle.dump_trees.specs.ComingBack.{entries_in, SetsProperty, SomeKeptDoes}
 use Rattle.dump_history.specs.KeptChanges.{CopiesPart, ComesOfKept}
 

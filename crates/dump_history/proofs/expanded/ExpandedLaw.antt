@@ -2,7 +2,7 @@
 use Rattle.dump_history.proofs.Prelude.{ap, ◌∙◌, subst, Ending, HasRecords, IsCutInto, DumpRecord, Settings, groups, root_alone, Change, Patching, makes, MakeRevisions, counts_from}
 use Rattle.std.proofs.Common.{ℕ, false, List, [], ◌∷◌}
 use Rattle.dump_trees.proofs.expansions.ExpandLemmas.{expanded_load}
-use Rattle.dump_history.specs.ExpandedDumps.{Stead, IsExpandedDump, ExpandedDumpLoads}
+use Rattle.dump_history.specs.steps.ExpandedDumps.{Stead, IsExpandedDump, ExpandedDumpLoads}
 use Rattle.dump_history.proofs.expanded.FormLemmas.{AllFit, all_fit}
 use Rattle.dump_history.proofs.expanded.StandLemmas.{all_stand, same_revisions, same_numbers, same_properties, same_order}
 

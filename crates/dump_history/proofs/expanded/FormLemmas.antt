@@ -9,8 +9,9 @@ use Rattle.dump_text.specs.PropertyList.{IsPropertyBlock}
 use Rattle.dump_filter.proofs.again.LineChanges.{IsChange, same_has, block_stays}
 use Rattle.dump_filter.proofs.again.Headers.{no_others}
 use Rattle.dump_history.specs.RecordChanges.{has_action}
-use Rattle.dump_history.specs.WrittenNodes.{WrittenNode, node_record, can_be_written, replacing}
-use Rattle.dump_history.specs.ExpandedDumps.{as_replacement}
+use Rattle.dump_history.specs.WrittenNodes.{WrittenNode, node_record, can_be_written}
+use Rattle.dump_history.specs.steps.WrittenNodes.{replacing}
+use Rattle.dump_history.specs.steps.ExpandedDumps.{as_replacement}
 use Rattle.dump_history.proofs.again.NodeChanges.{makes_change, node_change, change_is}
 use Rattle.dump_history.proofs.again.RecordLines.{plain_put}
 use Rattle.dump_history.proofs.expanded.NodeLemmas.{written_nodes_are_records}

@@ -6,7 +6,8 @@ use Rattle.std.proofs.lemmas.Bool.{ltb-true}
 use Rattle.dump_text.specs.PropertyList.{has_deletes, IsPropertyBlock}
 use Rattle.dump_text.proofs.WrittenLemmas.{short_block}
 use Rattle.dump_filter.proofs.again.LineChanges.{spelled_line}
-use Rattle.dump_history.specs.WrittenNodes.{NodeKind, WrittenNode, making_word, node_lines, node_record, written_change, is_plain_value, is_plain_option, is_plain_path, are_plain_entries, is_readable, can_be_written, WrittenNodesAreRecords, WrittenNodesMakeChanges}
+use Rattle.dump_history.specs.WrittenNodes.{NodeKind, WrittenNode, making_word, node_lines, node_record, is_plain_value, is_plain_option, is_plain_path, are_plain_entries, is_readable, can_be_written}
+use Rattle.dump_history.specs.steps.WrittenNodes.{written_change, WrittenNodesAreRecords, WrittenNodesMakeChanges}
 use Rattle.dump_history.proofs.again.RecordLines.{spelled_plain}
 
 -- a value without LF and zero bytes

@@ -4,13 +4,13 @@ use Rattle.std.proofs.Common.{false, List, [], ◌∷◌, Some}
 use Rattle.dump_trees.specs.Changes.{History, copied, deleted, made_in, props_set, text_set, step, steps}
 use Rattle.dump_trees.specs.Separation.{Separates}
 use Rattle.dump_trees.specs.Revisions.{AllSeparate}
-use Rattle.dump_trees.specs.Branches.{Branch}
-use Rattle.dump_trees.specs.WritingOut.{copy_of, directory_of, file_of, WritesOut}
-use Rattle.dump_trees.specs.Expansions.{Expands}
-use Rattle.dump_trees.specs.ExpansionCases.{deletion_of}
+use Rattle.dump_trees.specs.steps.Branches.{Branch}
+use Rattle.dump_trees.specs.steps.WritingOut.{copy_of, directory_of, file_of, WritesOut}
+use Rattle.dump_trees.specs.steps.Expansions.{Expands}
+use Rattle.dump_trees.specs.steps.ExpansionCases.{deletion_of}
 use Rattle.dump_trees.proofs.expansions.CaseLemmas.{kept_copy}
-use Rattle.dump_history.specs.WrittenNodes.{replacing}
-use Rattle.dump_history.specs.Replacing.{KeptCopyReplaces}
+use Rattle.dump_history.specs.steps.WrittenNodes.{replacing}
+use Rattle.dump_history.specs.steps.Replacing.{KeptCopyReplaces}
 
 module _ (settings : Settings) (history : History) (c : Change) (adds : c.deletes ≡ false) where
   -- a deletion alone

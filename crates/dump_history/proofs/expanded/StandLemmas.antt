@@ -5,7 +5,7 @@ use Rattle.dump_text.specs.Names.{revision_name, version_name}
 use Rattle.dump_text.specs.PropertyList.{IsPropertyBlock}
 use Rattle.dump_history.specs.RecordChanges.{has_action}
 use Rattle.dump_history.specs.WrittenNodes.{WrittenNode, node_record, can_be_written}
-use Rattle.dump_history.specs.ExpandedDumps.{OwnForm, Stead, own_records, stead_records, expanded_records, may_be_left, may_precede, may_stand, IsSameRecord}
+use Rattle.dump_history.specs.steps.ExpandedDumps.{OwnForm, Stead, own_records, stead_records, expanded_records, may_be_left, may_precede, may_stand, IsSameRecord}
 use Rattle.dump_history.proofs.expanded.FormLemmas.{IsNode, lawful_node, written_node, replacing_node, Fits, AllFit}
 
 -- these records replace this one, and they may

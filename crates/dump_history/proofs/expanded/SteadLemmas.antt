@@ -3,16 +3,17 @@ use Rattle.dump_history.proofs.Prelude.{◌≡◌, Bool, true, ◌++◌, drop, m
 use Rattle.std.proofs.Common.{ℕ, false, List, [], ◌∷◌, codes}
 use Rattle.dump_text.specs.Names.{revision_name}
 use Rattle.dump_history.specs.RecordChanges.{has_action}
-use Rattle.dump_history.specs.WrittenNodes.{WrittenNode, node_record, can_be_written, written_change}
-use Rattle.dump_history.specs.ExpandedDumps.{OwnForm, Stead, own_records, stead_records, may_be_left, may_precede, IsSameRecord, IsExpandedDump}
-use Rattle.dump_history.specs.ExpandedText.{own_changes, changes_for, expanded_changes, expanded_revisions, node_steads, stead_groups, made_in_stead, IsExpandedText, ExpansionsAreDumps}
+use Rattle.dump_history.specs.WrittenNodes.{WrittenNode, node_record, can_be_written}
+use Rattle.dump_history.specs.steps.WrittenNodes.{written_change}
+use Rattle.dump_history.specs.steps.ExpandedDumps.{OwnForm, Stead, own_records, stead_records, may_be_left, may_precede, IsSameRecord, IsExpandedDump}
+use Rattle.dump_history.specs.steps.ExpandedText.{own_changes, changes_for, expanded_changes, expanded_revisions, node_steads, stead_groups, made_in_stead, IsExpandedText, ExpansionsAreDumps}
 use Rattle.dump_history.proofs.expanded.NodeLemmas.{written_nodes_make_changes}
 use Rattle.dump_history.proofs.expanded.FormLemmas.{AllFit, replacing_makes}
 use Rattle.dump_history.proofs.expanded.StandLemmas.{StandFor, AllStandFor, all_stand, precedes, is_left, other_stands, stand_nodes, take_nodes, groups_behind, node_of, HaveSameRevisions, same_revisions, same_list}
 use Rattle.dump_history.proofs.expanded.TextLemmas.{expansion_is_dump}
 use Rattle.dump_history.proofs.expanded.ExpandedLaw.{whole_fits}
 use Rattle.dump_history.proofs.restricted.LoadsOnce.{whole_records_once}
-use Rattle.dump_trees.specs.Expansions.{AllRevisionsExpand}
+use Rattle.dump_trees.specs.steps.Expansions.{AllRevisionsExpand}
 
 module _ (patched : Patching) where
   -- the same record makes the same change

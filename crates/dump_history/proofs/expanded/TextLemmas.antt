@@ -9,7 +9,7 @@ use Rattle.dump_text.specs.Names.{version_name}
 use Rattle.dump_filter.proofs.again.Record.{any_number}
 use Rattle.dump_history.specs.RecordChanges.{has_action}
 use Rattle.dump_history.specs.WrittenNodes.{WrittenNode, node_record, can_be_written}
-use Rattle.dump_history.specs.ExpandedDumps.{OwnForm, Stead, own_records, stead_records, expanded_records, may_be_left, may_precede, may_stand, IsSameRecord}
+use Rattle.dump_history.specs.steps.ExpandedDumps.{OwnForm, Stead, own_records, stead_records, expanded_records, may_be_left, may_precede, may_stand, IsSameRecord}
 use Rattle.dump_history.specs.ExpandedText.{AreRecordTexts}
 use Rattle.dump_history.proofs.expanded.FormLemmas.{Fits, AllFit, all_fit, written_fits, replacing_fits}
 use Rattle.dump_history.proofs.expanded.StandLemmas.{precedes, is_left, other_records, AllNodes, node_records, node_of}

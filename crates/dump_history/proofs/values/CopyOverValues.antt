@@ -3,10 +3,10 @@
 -- file `x`.
 use Rattle.dump_history.proofs.Prelude.{◌≡◌, Bool, None, refl, path_of, Change, TextChange}
 use Rattle.std.proofs.Common.{ℕ, true, false, List, [], ◌∷◌, Some, codes}
-use Rattle.dump_trees.specs.ExpansionCases.{deletion_of}
-use Rattle.dump_trees.specs.WritingOut.{copy_of, file_of, directory_of}
+use Rattle.dump_trees.specs.steps.ExpansionCases.{deletion_of}
+use Rattle.dump_trees.specs.steps.WritingOut.{copy_of, file_of, directory_of}
 use Rattle.dump_history.specs.CopiesOver.{copies_over_changed, some_copies_over}
-use Rattle.dump_history.specs.WrittenNodes.{replacing}
+use Rattle.dump_history.specs.steps.WrittenNodes.{replacing}
 
 -- changes
 

@@ -3,16 +3,19 @@ use Rattle.dump_history.proofs.Prelude.{◌≡◌, ◌++◌, Bool, None, refl, s
 use Rattle.std.proofs.Common.{ℕ, true, false, List, [], ◌∷◌, Some, is_some, is_none, codes}
 use Rattle.std.specs.Fmt.{digits}
 use Rattle.dump_records.specs.DumpText.{line_feeds}
-use Rattle.dump_trees.specs.WritingOut.{copy_of, directory_of}
+use Rattle.dump_trees.specs.steps.WritingOut.{copy_of, directory_of}
 use Rattle.dump_trees.specs.Changes.{PropertyChange, steps}
-use Rattle.dump_trees.specs.Branches.{Branch}
-use Rattle.dump_trees.specs.Expansions.{Expands, AllExpand}
+use Rattle.dump_trees.specs.steps.Branches.{Branch}
+use Rattle.dump_trees.specs.steps.Expansions.{Expands, AllExpand}
 use Rattle.dump_trees.proofs.histories.StandingNames.{loaded_directories}
 use Rattle.dump_trees.proofs.expansions.ExpandLemmas.{expanded_lead}
-use Rattle.dump_history.specs.WrittenNodes.{NodeKind, WrittenNode, node_bytes, node_record, replacing, written_change}
-use Rattle.dump_history.specs.ExpandedDumps.{OwnForm, stead_records, expanded_records}
-use Rattle.dump_history.specs.ExpandedText.{AreRecordTexts, IsExpandedText}
-use Rattle.dump_history.specs.CutDumps.{leaves_no_gap, FiltersExpansion, TreeRelation, ImagesRelate, LoadsNew, LoadsNumbered}
+use Rattle.dump_history.specs.WrittenNodes.{NodeKind, WrittenNode, node_record}
+use Rattle.dump_history.specs.steps.WrittenNodes.{node_bytes, replacing, written_change}
+use Rattle.dump_history.specs.steps.ExpandedDumps.{OwnForm, stead_records, expanded_records}
+use Rattle.dump_history.specs.ExpandedText.{AreRecordTexts}
+use Rattle.dump_history.specs.steps.ExpandedText.{IsExpandedText}
+use Rattle.dump_history.specs.CutDumps.{TreeRelation, ImagesRelate}
+use Rattle.dump_history.specs.steps.CutDumps.{leaves_no_gap, FiltersExpansion, LoadsNew, LoadsNumbered}
 use Rattle.dump_history.proofs.expanded.ReplacingLemmas.{kept_copy_replaces}
 use Rattle.dump_history.proofs.values.WorkedExpansion.{stays}
 use Rattle.dump_history.proofs.values.WorkedCut.{app, three, branch, records, dump, settings, adds_trunk, adds_old, copies_old, revisions, begun_tree, first_tree, second_tree, trees, file, adds_app, source_branch, again}

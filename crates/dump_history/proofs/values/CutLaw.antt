@@ -3,7 +3,7 @@
 use Rattle.dump_history.proofs.Prelude.{◌≡◌, ◌+◌, ◌<◌, ◌^◌, true, ◌++◌, length, refl, ap, ◌∙◌, inr, None, arith, lit<, NoFault, copy_revision_name, with_header_value, property_block_text, Property, DumpRecord, HasPropertyList, LengthsFit, kept_revisions, HoldsOfRecord, AreFaultFree, IsWrittenBlock, IsWrittenText, IsCleanText, AreNewProperties, IsNewProperty, property_list_once, Ending, HasRecords, path_of, Node, Tree, root_alone, Change, loaded_over, Patching, MakeRevisions, RevisionsKeepProperties, HaveRevisionProperties, AllZip, slice_get, IsNewNode}
 use Rattle.std.proofs.Common.{ℕ, List, [], ◌∷◌, Some, codes}
 use Rattle.std.specs.Fmt.{digits}
-use Rattle.dump_history.specs.CutDumps.{FiltersExpansion, TreeRestricts, LoadsNew, LoadsNumbered}
+use Rattle.dump_history.specs.steps.CutDumps.{FiltersExpansion, TreeRestricts, LoadsNew, LoadsNumbered}
 use Rattle.dump_history.proofs.cuts.CutLaws.{excluded_dump_loads, excluded_dump_loads_numbered}
 use Rattle.dump_history.proofs.values.WorkedDump.{version, zero, one, trunk, none_of}
 use Rattle.dump_history.proofs.values.WorkedFilter.{at_place, free_of, follows, rises, begins, no_copy, text_alone, no_block, revision_part}

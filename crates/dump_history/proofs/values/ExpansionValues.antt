@@ -2,12 +2,14 @@
 use Rattle.dump_history.proofs.Prelude.{◌≡◌, arith, refl, ap, absurd_bool, DumpRecord, record_text, is_some, path_of, Tree, root_alone, Patching, MakesChange, slice_get}
 use Rattle.std.proofs.Common.{true, false, List, [], ◌∷◌, Some, codes}
 use Rattle.std.specs.Fmt.{digits}
-use Rattle.dump_trees.specs.Expansions.{Expands}
-use Rattle.dump_trees.specs.ExpansionCases.{deletion_of}
-use Rattle.dump_trees.specs.WritingOut.{directory_of}
-use Rattle.dump_history.specs.WrittenNodes.{WrittenNode, replacing}
-use Rattle.dump_history.specs.ExpandedDumps.{OwnForm, Stead, as_replacement, may_stand, IsSameRecord}
-use Rattle.dump_history.specs.ExpandedText.{AreRecordTexts, changes_for, node_steads, stead_groups, made_in_stead}
+use Rattle.dump_trees.specs.steps.Expansions.{Expands}
+use Rattle.dump_trees.specs.steps.ExpansionCases.{deletion_of}
+use Rattle.dump_trees.specs.steps.WritingOut.{directory_of}
+use Rattle.dump_history.specs.WrittenNodes.{WrittenNode}
+use Rattle.dump_history.specs.steps.WrittenNodes.{replacing}
+use Rattle.dump_history.specs.steps.ExpandedDumps.{OwnForm, Stead, as_replacement, may_stand, IsSameRecord}
+use Rattle.dump_history.specs.ExpandedText.{AreRecordTexts}
+use Rattle.dump_history.specs.steps.ExpandedText.{changes_for, node_steads, stead_groups, made_in_stead}
 use Rattle.dump_history.proofs.values.WorkedDump.{line, record_at, version, one, settings, none_of}
 use Rattle.dump_history.proofs.values.WorkedExpansion.{other, copy, records, steads, stays, trunk, adds_other, copies_other, first_tree, second_tree, revisions}
 

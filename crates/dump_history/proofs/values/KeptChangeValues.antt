@@ -1,8 +1,8 @@
 -- The law of kept changes, applied to the example dump; and a text that comes of none.
 use Rattle.dump_history.proofs.Prelude.{◌≡◌, true, refl, ap, ◌∙◌, inl, inr, bytes_eq, zero, suc, arith, path_of, Patching, TextChange, Change}
 use Rattle.std.proofs.Common.{false, [], Some, codes}
-use Rattle.dump_trees.specs.WritingOut.{file_of}
-use Rattle.dump_trees.specs.Trimming.{IsSameNumber}
+use Rattle.dump_trees.specs.steps.WritingOut.{file_of}
+use Rattle.dump_trees.specs.steps.Trimming.{IsSameNumber}
 use Rattle.dump_trees.specs.ComingBack.{SomeKeptDoes}
 use Rattle.dump_history.specs.KeptChanges.{IsKeptText, ComesOfKept, ChangesComeOfKept}
 use Rattle.dump_history.proofs.cuts.WrittenChanges.{IsSameProperty}

@@ -6,7 +6,7 @@ use Rattle.std.specs.Fmt.{digits}
 use Rattle.dump_rules.specs.Rewriting.{IsRenumberedMap, IsNewMergeinfo}
 use Rattle.dump_rules.proofs.new_values.OneNewValue.{one_new_value}
 use Rattle.dump_trees.specs.Restriction.{given}
-use Rattle.dump_history.specs.CutDumps.{TreeRestricts}
+use Rattle.dump_history.specs.steps.CutDumps.{TreeRestricts}
 use Rattle.dump_history.proofs.values.RaisedValues.{merge, line, reads}
 use Rattle.dump_history.proofs.values.WorkedCut.{records}
 use Rattle.dump_history.proofs.values.WorkedRenumbered.{settings}

@@ -6,15 +6,17 @@ use Rattle.std.proofs.Common.{ℕ, false, List, [], ◌∷◌, Some, codes}
 use Rattle.std.specs.Fmt.{digits}
 use Rattle.dump_records.specs.DumpText.{line_feeds}
 use Rattle.dump_trees.specs.Changes.{History, step, steps}
-use Rattle.dump_trees.specs.Branches.{Branch, HasBranch}
-use Rattle.dump_trees.specs.WritingOut.{file_of}
-use Rattle.dump_trees.specs.Expansions.{Expands, AllExpand, AllRevisionsExpand}
+use Rattle.dump_trees.specs.steps.Branches.{Branch, HasBranch}
+use Rattle.dump_trees.specs.steps.WritingOut.{file_of}
+use Rattle.dump_trees.specs.steps.Expansions.{Expands, AllExpand, AllRevisionsExpand}
 use Rattle.dump_trees.proofs.histories.StandingNames.{loaded_directories}
 use Rattle.dump_trees.proofs.quiet.QuietLemmas.{quiet_separates}
 use Rattle.dump_trees.proofs.expansions.CaseLemmas.{separated_expands, kept_copy}
-use Rattle.dump_history.specs.WrittenNodes.{WrittenNode, node_bytes, node_record, can_be_written}
-use Rattle.dump_history.specs.ExpandedDumps.{OwnForm, Stead}
-use Rattle.dump_history.specs.ExpandedText.{AreRecordTexts, IsExpandedText, made_in_stead}
+use Rattle.dump_history.specs.WrittenNodes.{WrittenNode, node_record, can_be_written}
+use Rattle.dump_history.specs.steps.WrittenNodes.{node_bytes}
+use Rattle.dump_history.specs.steps.ExpandedDumps.{OwnForm, Stead}
+use Rattle.dump_history.specs.ExpandedText.{AreRecordTexts}
+use Rattle.dump_history.specs.steps.ExpandedText.{IsExpandedText, made_in_stead}
 use Rattle.dump_history.proofs.expanded.NodeLemmas.{written_nodes_are_records}
 use Rattle.dump_history.proofs.values.WorkedExpansion.{stays}
 use Rattle.dump_history.proofs.values.WorkedDump.{line, record_at, version, zero as revision_0, one, trunk, joined, directory, none_of, makes_trunk}

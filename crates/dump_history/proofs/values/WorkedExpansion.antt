@@ -3,19 +3,20 @@ use Rattle.dump_history.proofs.Prelude.{◌≡◌, true, ◌++◌, None, refl, s
 use Rattle.std.proofs.Common.{ℕ, false, List, [], ◌∷◌, Some, codes}
 use Rattle.std.specs.Fmt.{digits}
 use Rattle.dump_text.specs.declared.fault.FaultKind.TheVariants as faults
-use Rattle.dump_trees.specs.Branches.{Branch, Branches, HasBranch}
-use Rattle.dump_trees.specs.WritingOut.{directory_of}
-use Rattle.dump_trees.specs.Expansions.{Expands, AllRevisionsExpand}
+use Rattle.dump_trees.specs.steps.Branches.{Branch, Branches, HasBranch}
+use Rattle.dump_trees.specs.steps.WritingOut.{directory_of}
+use Rattle.dump_trees.specs.steps.Expansions.{Expands, AllRevisionsExpand}
 use Rattle.dump_trees.proofs.histories.HistoryLemmas.{root_directories}
 use Rattle.dump_trees.proofs.changes.DirectoryLemmas.{step_keeps}
 use Rattle.dump_trees.proofs.expansions.CaseLemmas.{separated_expands, kept_copy}
 use Rattle.dump_trees.proofs.quiet.QuietLemmas.{quiet_separates}
-use Rattle.dump_history.specs.WrittenNodes.{WrittenNode, node_bytes, node_record, can_be_written}
-use Rattle.dump_history.specs.ExpandedDumps.{OwnForm, Stead, IsExpandedDump}
-use Rattle.dump_history.specs.ExpandedText.{IsExpandedText, made_in_stead}
+use Rattle.dump_history.specs.WrittenNodes.{WrittenNode, node_record, can_be_written}
+use Rattle.dump_history.specs.steps.WrittenNodes.{node_bytes}
+use Rattle.dump_history.specs.steps.ExpandedDumps.{OwnForm, Stead, IsExpandedDump}
+use Rattle.dump_history.specs.steps.ExpandedText.{IsExpandedText, made_in_stead}
 use Rattle.dump_history.proofs.expanded.NodeLemmas.{written_nodes_are_records, written_nodes_make_changes}
 use Rattle.dump_history.proofs.expanded.TextLemmas.{moved_same}
-use Rattle.dump_trees.specs.Trees.{HasDirectories}
+use Rattle.dump_trees.specs.steps.Trees.{HasDirectories}
 use Rattle.dump_history.proofs.values.WorkedDump.{line, record_at, version, zero, one, joined, settings, directory, none_of, stands_here}
 
 -- the dump

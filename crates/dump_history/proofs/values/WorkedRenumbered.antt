@@ -4,17 +4,19 @@ use Rattle.dump_history.proofs.Prelude.{◌≡◌, ◌+◌, ◌<◌, ◌^◌, �
 use Rattle.std.proofs.Common.{ℕ, true, false, List, [], ◌∷◌, Some, codes}
 use Rattle.std.specs.Fmt.{digits}
 use Rattle.dump_trees.specs.Changes.{History}
-use Rattle.dump_trees.specs.ComingBack.{ComesBack}
-use Rattle.dump_trees.specs.Returns.{IsCopyOver}
-use Rattle.dump_trees.specs.Trimming.{IsTrimmed}
+use Rattle.dump_trees.specs.steps.ComingBack.{ComesBack}
+use Rattle.dump_trees.specs.steps.Returns.{IsCopyOver}
+use Rattle.dump_trees.specs.steps.Trimming.{IsTrimmed}
 use Rattle.dump_trees.specs.Quiet.{is_quiet, is_over}
 use Rattle.dump_trees.proofs.quiet.QuietLemmas.{quiet_separates}
 use Rattle.dump_trees.proofs.histories.StandingNames.{loaded_directories, loaded_names}
 use Rattle.dump_trees.proofs.cuts.ReturnLemmas.{returns_tell_all}
 use Rattle.dump_trees.proofs.cuts.DeleteLemmas.{deletes_are_found}
-use Rattle.dump_history.specs.WrittenNodes.{WrittenNode, node_bytes}
-use Rattle.dump_history.specs.CutDumps.{TreeRestricts, LoadsNew}
-use Rattle.dump_history.specs.TrimmedDumps.{IsTrimmedText, stays_empty, AreFilteredTrimming}
+use Rattle.dump_history.specs.WrittenNodes.{WrittenNode}
+use Rattle.dump_history.specs.steps.WrittenNodes.{node_bytes}
+use Rattle.dump_history.specs.steps.CutDumps.{TreeRestricts, LoadsNew}
+use Rattle.dump_history.specs.TrimmedDumps.{IsTrimmedText}
+use Rattle.dump_history.specs.steps.TrimmedDumps.{stays_empty, AreFilteredTrimming}
 use Rattle.dump_history.proofs.cuts.RenumberedLaw.{trimmed_dump_loads_renumbered}
 use Rattle.dump_history.proofs.values.WorkedDump.{line, record_at, version, zero, one, trunk, none_of}
 use Rattle.dump_history.proofs.values.WorkedFilter.{at_place, free_of, follows, rises, begins, no_copy, text_alone, no_block, revision_part}

@@ -4,18 +4,20 @@ use Rattle.dump_history.proofs.Prelude.{◌≡◌, ◌+◌, ◌<◌, ◌^◌, tr
 use Rattle.std.proofs.Common.{ℕ, false, List, [], ◌∷◌, Some, codes}
 use Rattle.std.specs.Fmt.{digits}
 use Rattle.dump_trees.specs.Changes.{History}
-use Rattle.dump_trees.specs.ExpansionCases.{deletion_of, deletions}
-use Rattle.dump_trees.specs.ComingBack.{ComesBack}
-use Rattle.dump_trees.specs.Returns.{IsCopyOver}
-use Rattle.dump_trees.specs.Trimming.{IsTrimmed}
+use Rattle.dump_trees.specs.steps.ExpansionCases.{deletion_of, deletions}
+use Rattle.dump_trees.specs.steps.ComingBack.{ComesBack}
+use Rattle.dump_trees.specs.steps.Returns.{IsCopyOver}
+use Rattle.dump_trees.specs.steps.Trimming.{IsTrimmed}
 use Rattle.dump_trees.specs.Quiet.{is_quiet, is_over}
 use Rattle.dump_trees.proofs.quiet.QuietLemmas.{quiet_separates}
 use Rattle.dump_trees.proofs.histories.StandingNames.{loaded_directories, loaded_names}
 use Rattle.dump_trees.proofs.cuts.ReturnLemmas.{returns_tell_all}
 use Rattle.dump_trees.proofs.cuts.DeleteLemmas.{deletes_are_found}
-use Rattle.dump_history.specs.WrittenNodes.{WrittenNode, node_bytes, written_change}
-use Rattle.dump_history.specs.CutDumps.{TreeRestricts, LoadsNumbered}
-use Rattle.dump_history.specs.TrimmedDumps.{may_stand_behind, part_groups, changes_behind, IsTrimmedText, AreTrimming, AreAllTrimming}
+use Rattle.dump_history.specs.WrittenNodes.{WrittenNode}
+use Rattle.dump_history.specs.steps.WrittenNodes.{node_bytes, written_change}
+use Rattle.dump_history.specs.steps.CutDumps.{TreeRestricts, LoadsNumbered}
+use Rattle.dump_history.specs.TrimmedDumps.{may_stand_behind, IsTrimmedText}
+use Rattle.dump_history.specs.steps.TrimmedDumps.{part_groups, changes_behind, AreTrimming, AreAllTrimming}
 use Rattle.dump_history.proofs.expanded.NodeLemmas.{written_nodes_are_records}
 use Rattle.dump_history.proofs.expanded.ExpandedLaw.{expanded_dump_loads}
 use Rattle.dump_history.proofs.expanded.SteadLemmas.{with_records}

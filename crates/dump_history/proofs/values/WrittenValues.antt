@@ -2,9 +2,10 @@
 use Rattle.dump_history.proofs.Prelude.{◌≡◌, ◌++◌, None, refl, Property, is_lawful, path_of}
 use Rattle.std.proofs.Common.{true, false, [], ◌∷◌, Some, codes}
 use Rattle.std.specs.Fmt.{digits}
-use Rattle.dump_trees.specs.WritingOut.{copy_of, directory_of, file_of}
-use Rattle.dump_trees.specs.ExpansionCases.{deletion_of}
-use Rattle.dump_history.specs.WrittenNodes.{NodeKind, WrittenNode, node_lines, node_bytes, written_change, can_be_written}
+use Rattle.dump_trees.specs.steps.WritingOut.{copy_of, directory_of, file_of}
+use Rattle.dump_trees.specs.steps.ExpansionCases.{deletion_of}
+use Rattle.dump_history.specs.WrittenNodes.{NodeKind, WrittenNode, node_lines, can_be_written}
+use Rattle.dump_history.specs.steps.WrittenNodes.{node_bytes, written_change}
 
 -- a property with a value, and one that is taken away
 abbrev set_one : Property

@@ -1,7 +1,7 @@
 -- What is true of the changes and the orders of an index.
 use Rattle.std.specs.Prelude.{◌≡◌, true, ℕ, List, map}
-use Rattle.dump_index.specs.Listed.{listed_of}
-use Rattle.dump_index.specs.InOrder.{are_in_order}
+use Rattle.dump_index.specs.steps.Listed.{listed_of}
+use Rattle.dump_index.specs.steps.InOrder.{are_in_order}
 use Rattle.dump_index.specs.declared.change.NodeChange.{NodeChange}
 use Rattle.dump_index.specs.declared.order.Effect.TheVariants.{Shaping, Moving, Props, Texts}
 use Rattle.dump_index.specs.steps.Keys.{IsOrder}

@@ -5,8 +5,8 @@ use Rattle.std.specs.List.Sorted.{IsSortedBy}
 use Rattle.std.specs.Cmp.Lexicographic.{slice_cmp}
 use Rattle.std.specs.Ordering.{ordering_then, is_lt, nat_cmp}
 use Rattle.std.specs.declared.cmp.Ordering.{Ordering}
-use Rattle.dump_index.specs.Listed.{Listed}
-pub use Rattle.dump_index.specs.Effects.{sets, has_effect, has_effect_there, has_effect_at, latest_place}
+use Rattle.dump_index.specs.steps.Listed.{Listed}
+pub use Rattle.dump_index.specs.steps.Effects.{sets, has_effect, has_effect_there, has_effect_at, latest_place}
 use Rattle.dump_index.specs.declared.order.Effect.{Effect}
 use Rattle.dump_index.specs.declared.order.Key.{Key}
 

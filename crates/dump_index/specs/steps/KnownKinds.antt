@@ -2,10 +2,10 @@
 use Rattle.std.specs.Prelude.{◌≡◌, ◌<◌, ℕ, zero, suc, Bool, true, false, List, Option, Some, None, slice_get, nat_lt, if◌then◌else◌}
 use Rattle.dump_trees.specs.Paths.{names_of}
 use Rattle.dump_trees.specs.Changes.{Made}
-use Rattle.dump_trees.specs.Looking.{end_of}
-use Rattle.dump_index.specs.Listed.{Listed, all_placed}
-use Rattle.dump_index.specs.InOrder.{ends_in_slash}
-use Rattle.dump_index.specs.Kinds.{kind_look}
+use Rattle.dump_trees.specs.steps.Looking.{end_of}
+use Rattle.dump_index.specs.steps.Listed.{Listed, all_placed}
+use Rattle.dump_index.specs.steps.InOrder.{ends_in_slash}
+use Rattle.dump_index.specs.steps.Kinds.{kind_look}
 use Rattle.dump_index.specs.declared.change.NodeKind.{NodeKind}
 use Rattle.dump_index.specs.declared.change.NodeKind.TheVariants.{Directory, File}
 use Rattle.dump_index.specs.declared.look.Look.{Look}

@@ -2,11 +2,11 @@
 use Rattle.std.specs.Prelude.{◌≡◌, ◌≤◌, ℕ, zero, suc, Bool, true, false, ◌||◌, ◌==◌, List, [], ◌∷◌, ◌++◌, Option, Some, None, option_map, slice_get, nat_le, ⊤, if◌then◌else◌}
 use Rattle.dump_trees.specs.Paths.{NodePath, names_of, below}
 use Rattle.dump_trees.specs.Trees.{root_alone}
-use Rattle.dump_trees.specs.Looking.{end_of, origin_of, looked_up, look}
-use Rattle.dump_trees.specs.Listing.{names_look}
-use Rattle.dump_index.specs.Listed.{Listed, all_placed}
-use Rattle.dump_index.specs.InOrder.{ends_in_slash}
-use Rattle.dump_index.specs.Kinds.{node_kind, kind_look}
+use Rattle.dump_trees.specs.steps.Looking.{end_of, origin_of, looked_up, look}
+use Rattle.dump_trees.specs.steps.Listing.{names_look}
+use Rattle.dump_index.specs.steps.Listed.{Listed, all_placed}
+use Rattle.dump_index.specs.steps.InOrder.{ends_in_slash}
+use Rattle.dump_index.specs.steps.Kinds.{node_kind, kind_look}
 use Rattle.dump_index.specs.declared.change.NodeChange.{NodeChange}
 use Rattle.dump_index.specs.declared.change.NodeKind.{NodeKind}
 use Rattle.dump_index.specs.declared.change.NodeKind.TheVariants.{Directory as ADirectory, File as AFile}

@@ -2,8 +2,8 @@
 use Rattle.std.specs.Prelude.{◌≡◌, ℕ, Bool, true, false, ◌&&◌, ◌||◌, List, map, Option, Some, None, is_some, slice_get, bytes_eq, nat_lt}
 use Rattle.std.specs.Borrow.{Bor}
 use Rattle.dump_trees.specs.Paths.{is_name}
-use Rattle.dump_index.specs.Listed.{Listed}
-use Rattle.dump_index.specs.Children.{is_child_named}
+use Rattle.dump_index.specs.steps.Listed.{Listed}
+use Rattle.dump_index.specs.steps.Children.{is_child_named}
 use Rattle.dump_index.specs.steps.Keys.{PathKey}
 
 -- the borrowed texts

@@ -1,6 +1,6 @@
 -- The first change that can't be indexed.
 use Rattle.std.specs.Prelude.{◌≡◌, ℕ, true, false, List, [], ◌∷◌, ◌++◌, length, Option, Some, None}
-use Rattle.dump_index.specs.InOrder.{are_in_order}
+use Rattle.dump_index.specs.steps.InOrder.{are_in_order}
 use Rattle.dump_index.specs.declared.change.NodeChange.{NodeChange}
 
 -- the first change that isn't in order is at this place; without a place, all are in order

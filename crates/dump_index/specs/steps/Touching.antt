@@ -1,7 +1,7 @@
 -- Which changes touch a path, as determined by texts.
 use Rattle.std.specs.Prelude.{ℕ, suc, Bool, drop, ◌&&◌, ◌||◌, List, [], ◌∷◌, ◌++◌, length, Option, Some, None, slice_get, bytes_eq, nat_lt, max}
-use Rattle.dump_index.specs.Listed.{Listed}
-pub use Rattle.dump_index.specs.Effects.{goes_on, stands_over, moves_there, moves_above, shapes}
+use Rattle.dump_index.specs.steps.Listed.{Listed}
+pub use Rattle.dump_index.specs.steps.Effects.{goes_on, stands_over, moves_there, moves_above, shapes}
 use Rattle.dump_index.specs.declared.order.Effect.TheVariants.{Shaping, Props, Texts}
 use Rattle.dump_index.specs.steps.Keys.{has_effect_at}
 

@@ -1,9 +1,9 @@
 -- One step of a trail.
 use Rattle.std.specs.Prelude.{◌≡◌, ℕ, ◌<◌, false, List, ◌++◌, option_to_list}
-use Rattle.dump_trees.specs.Looking.{end_of}
-use Rattle.dump_index.specs.Listed.{Listed, all_placed}
-use Rattle.dump_index.specs.InOrder.{ends_in_slash}
-use Rattle.dump_index.specs.Settings.{IsTrail}
+use Rattle.dump_trees.specs.steps.Looking.{end_of}
+use Rattle.dump_index.specs.steps.Listed.{Listed, all_placed}
+use Rattle.dump_index.specs.steps.InOrder.{ends_in_slash}
+use Rattle.dump_index.specs.steps.Settings.{IsTrail}
 use Rattle.dump_index.specs.declared.trail.Part.{Part}
 use Rattle.dump_index.specs.declared.trail.Step.{Step}
 use Rattle.dump_index.specs.declared.trail.Next.{Next}

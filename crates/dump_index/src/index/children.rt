@@ -1,11 +1,11 @@
 //! The names of what exists in a directory.
 ghost use Rattle.std.specs.Prelude.{◌≡◌, false, true, IfOk, OnOk, filter, map};
 ghost use Rattle.dump_trees.specs.Paths.{names_of};
-ghost use Rattle.dump_trees.specs.Listing.{names_look, names_made};
-ghost use Rattle.dump_index.specs.InOrder.{are_in_order, ends_in_slash};
-ghost use Rattle.dump_index.specs.Listed.{all_placed, listed_of};
-ghost use Rattle.dump_index.specs.Children.{AreChildren, is_child_named, stands_in};
-ghost use Rattle.dump_index.specs.NamesEver.{AreNamesEver};
+ghost use Rattle.dump_trees.specs.steps.Listing.{names_look, names_made};
+ghost use Rattle.dump_index.specs.steps.InOrder.{are_in_order, ends_in_slash};
+ghost use Rattle.dump_index.specs.steps.Listed.{all_placed, listed_of};
+ghost use Rattle.dump_index.specs.steps.Children.{AreChildren, is_child_named, stands_in};
+ghost use Rattle.dump_index.specs.steps.NamesEver.{AreNamesEver};
 ghost use Rattle.dump_index.specs.steps.Keys.{IsOrder};
 ghost use Rattle.dump_index.specs.steps.Names.{AddsNames, AreNames, makes_at, texts_of};
 

@@ -1,8 +1,8 @@
 //! Whether something exists at a path at some time.
 ghost use Rattle.std.specs.Prelude.{◌≡◌, IfOk, false};
 ghost use Rattle.dump_trees.specs.Paths.{names_of};
-ghost use Rattle.dump_index.specs.ExistsEver.{exists_ever};
-ghost use Rattle.dump_index.specs.InOrder.{ends_in_slash};
+ghost use Rattle.dump_index.specs.steps.ExistsEver.{exists_ever};
+ghost use Rattle.dump_index.specs.steps.InOrder.{ends_in_slash};
 
 use super::ChangeIndex;
 use dump_rules::Memory;

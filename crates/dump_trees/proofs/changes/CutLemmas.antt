@@ -1,7 +1,7 @@
 -- If prefixes are excluded, no directory has to be created before the load.
 use Rattle.dump_trees.proofs.Prelude.{◌≡◌, not, cond, refl, ap, ◌∙◌, Exclude, Settings, NodePath, keeps, Node, is_above_some, given, root_alone}
 use Rattle.std.proofs.Common.{ℕ, ◌&&◌, List, [], ◌∷◌, Some, None}
-use Rattle.dump_trees.specs.TreeLaws.{GivesRootAlone}
+use Rattle.dump_trees.specs.steps.TreeLaws.{GivesRootAlone}
 use Rattle.std.proofs.Math.Bool.{and-false}
 
 -- if prefixes are excluded, the only parent directory is the root

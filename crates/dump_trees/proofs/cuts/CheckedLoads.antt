@@ -3,8 +3,9 @@ use Rattle.dump_trees.proofs.Prelude.{◌≡◌, ◌⊎◌, inl, inr, zero, suc,
 use Rattle.std.proofs.Common.{ℕ, Bool, true, false, ◌&&◌, List, [], ◌∷◌, ◌++◌, length, Option, Some, None, option_and_then, is_some, length-append}
 use Rattle.std.proofs.lemmas.List.Sums.{sum_by-append}
 use Rattle.std.proofs.lemmas.Option.{slice_get_within, same_Some}
-use Rattle.dump_trees.specs.Looking.{Placed, placed_from, end_of, Origin, origin_of, looked_up, look}
-use Rattle.dump_trees.specs.LoadCheck.{Kind, kind_of_node, kind_at, is_directory, is_file, Kinds, deletion_allowed, kind_left, making_allowed, kind_made, sets_props, kinds_allow, source_kind, kinds_before, node_from, delta_applies, ToldKinds, TellsKinds, source_told, kinds_told, allowed_there, all_allowed, applies_there, all_apply, DumpIsAllowed, TellsEachTree, IsRejectedAt, FirstRejectionIsThere}
+use Rattle.dump_trees.specs.steps.Looking.{Placed, placed_from, end_of, Origin, origin_of, looked_up, look}
+use Rattle.dump_trees.specs.LoadCheck.{sets_props}
+use Rattle.dump_trees.specs.steps.LoadCheck.{Kind, kind_of_node, kind_at, is_directory, is_file, Kinds, deletion_allowed, kind_left, making_allowed, kind_made, kinds_allow, source_kind, kinds_before, node_from, delta_applies, ToldKinds, TellsKinds, source_told, kinds_told, allowed_there, all_allowed, applies_there, all_apply, DumpIsAllowed, TellsEachTree, IsRejectedAt, FirstRejectionIsThere}
 use Rattle.dump_trees.proofs.histories.KeptNumbers.{length_push, get_last}
 use Rattle.dump_trees.proofs.histories.FrontLemmas.{begun_trees, loaded_length}
 use Rattle.dump_trees.proofs.expansions.LookLemmas.{count_none, count_whole, look_finds, origin_source}

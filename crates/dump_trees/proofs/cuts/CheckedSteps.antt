@@ -2,8 +2,9 @@
 use Rattle.dump_trees.proofs.Prelude.{◌≡◌, not, ◌||◌, cond, refl, sym, ap, ap₂, ◌∙◌, append-nil, option_map, IfSome, Property, NodePath, parent_of, Node, Tree, is_directory_node, grafted, at_or_below, put, empty_tree, Made, PropertyChange, TextChange, Change, History, is_directory_at, has_directory, deleted, copied, made_in, with_props, with_text, props_put, props_set, text_set, step, is_root}
 use Rattle.std.proofs.Common.{ℕ, Bool, true, false, ◌&&◌, List, [], ◌∷◌, ◌++◌, Option, Some, None, option_and_then, is_some, is_none}
 use Rattle.std.proofs.lemmas.Option.{same_Some}
-use Rattle.dump_trees.specs.Looking.{left_by, origin_of, node_with_props}
-use Rattle.dump_trees.specs.LoadCheck.{Kind, kind_of_node, kind_at, is_directory, is_file, Kinds, deletion_allowed, kind_left, making_allowed, kind_made, sets_props, source_kind, kinds_before, node_from, node_set, delta_applies, StepIsAllowed}
+use Rattle.dump_trees.specs.steps.Looking.{left_by, origin_of, node_with_props}
+use Rattle.dump_trees.specs.LoadCheck.{sets_props}
+use Rattle.dump_trees.specs.steps.LoadCheck.{Kind, kind_of_node, kind_at, is_directory, is_file, Kinds, deletion_allowed, kind_left, making_allowed, kind_made, source_kind, kinds_before, node_from, node_set, delta_applies, StepIsAllowed}
 use Rattle.dump_trees.proofs.changes.TreeLemmas.{below_top}
 use Rattle.dump_trees.proofs.expansions.BranchLemmas.{parent_apart}
 use Rattle.dump_trees.proofs.changes.PlainLemmas.{put_at}

@@ -4,7 +4,8 @@ use Rattle.std.proofs.Common.{ℕ, Bool, true, false, List, [], ◌∷◌, ◌++
 use Rattle.std.proofs.lemmas.List.Sums.{AllPass-from_list_all}
 use Rattle.std.proofs.lemmas.List.Elements.{All-contains, All-filter, All-contains_itself, filter_passes, Contains-append_left, Contains-append_right, Contains-append_cases}
 use Rattle.dump_trees.specs.Siblings.{is_within}
-use Rattle.dump_trees.specs.Returns.{is_covered, named_rest, rests_below, rests_covered}
+use Rattle.dump_trees.specs.Returns.{is_covered}
+use Rattle.dump_trees.specs.steps.Returns.{named_rest, rests_below, rests_covered}
 use Rattle.dump_trees.proofs.changes.TreeLemmas.{below_rest, below_found, below_top}
 use Rattle.dump_trees.proofs.paths.SiblingLemmas.{within_rest, within_found, one_in_other}
 use Rattle.dump_trees.proofs.paths.PrefixRests.{same_rest}

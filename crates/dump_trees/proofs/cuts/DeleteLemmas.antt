@@ -1,12 +1,14 @@
 -- The deletes after a copy are found among the excluded paths.
 use Rattle.dump_trees.proofs.Prelude.{◌≡◌, not, cond, refl, sym, ap, ◌∙◌, subst, filter, append_assoc, list_all, and_parts, and_from, not-true, not_from_false, NodePath, Settings, Tree, Change, History, keeps, below}
 use Rattle.std.proofs.Common.{Bool, true, false, ◌&&◌, List, [], ◌∷◌, ◌++◌, Option, Some, None, is_some, is_none, Contains}
-use Rattle.dump_trees.specs.ExpansionCases.{none_is_below}
+use Rattle.dump_trees.specs.steps.ExpansionCases.{none_is_below}
 use Rattle.dump_trees.specs.Siblings.{is_within, has_node_names}
-use Rattle.dump_trees.specs.Returns.{is_covered, lie_apart, named_rest, rests_below, rests_covered, IsCopyOver}
-use Rattle.dump_trees.specs.Following.{Way, followed}
-use Rattle.dump_trees.specs.Trimming.{CoverTaken}
-use Rattle.dump_trees.specs.DeletesBehind.{DeletesAreFound}
+use Rattle.dump_trees.specs.Returns.{is_covered}
+use Rattle.dump_trees.specs.steps.Returns.{lie_apart, named_rest, rests_below, rests_covered, IsCopyOver}
+use Rattle.dump_trees.specs.Following.{Way}
+use Rattle.dump_trees.specs.steps.Following.{followed}
+use Rattle.dump_trees.specs.steps.Trimming.{CoverTaken}
+use Rattle.dump_trees.specs.steps.DeletesBehind.{DeletesAreFound}
 use Rattle.dump_trees.proofs.changes.TreeLemmas.{below_rest}
 use Rattle.dump_trees.proofs.paths.SiblingLemmas.{rest_names, both_names, excluded_match}
 use Rattle.dump_trees.proofs.expansions.DeletionLemmas.{below_both}

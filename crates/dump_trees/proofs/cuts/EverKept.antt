@@ -1,8 +1,9 @@
 -- If the siblings of every tree are excluded, the filter keeps of all that ever exists what is in the cut.
 use Rattle.dump_trees.proofs.Prelude.{◌≡◌, list_all, list_all-append, and_parts, and_from, refl, sym, ◌∙◌, subst, Change}
 use Rattle.std.proofs.Common.{Bool, true, List, [], ◌∷◌, ◌++◌, length}
-use Rattle.dump_trees.specs.Siblings.{has_node_names, have_node_names}
-use Rattle.dump_trees.specs.EverSiblings.{EverKeptInCut}
+use Rattle.dump_trees.specs.Siblings.{has_node_names}
+use Rattle.dump_trees.specs.steps.Siblings.{have_node_names}
+use Rattle.dump_trees.specs.steps.EverSiblings.{EverKeptInCut}
 use Rattle.dump_trees.proofs.paths.SiblingLemmas.{siblings_leave_cut}
 use Rattle.dump_trees.proofs.histories.StandingNames.{loaded_directories, loaded_names}
 

@@ -2,12 +2,16 @@
 use Rattle.dump_trees.proofs.Prelude.{◌≡◌, ◌⊎◌, inl, inr, ◌+◌, ◌≤◌, not, ◌||◌, refl, sym, ap, ◌∙◌, subst, arith, append-nil, append_assoc, option_map, nat_le, slice_get, and_parts, or_cases, NodePath, parent_of, Node, Tree, root_alone, Made, PropertyChange, TextChange, Change, History, step, steps, is_root}
 use Rattle.std.proofs.Common.{ℕ, Bool, true, false, ◌&&◌, List, [], ◌∷◌, ◌++◌, length, Option, Some, None, option_and_then, is_some, Contains, length-append}
 use Rattle.std.proofs.lemmas.List.Sums.{count_by-le-length}
-use Rattle.dump_trees.specs.Looking.{Placed, placed_from, end_of, look}
-use Rattle.dump_trees.specs.Listing.{names_look}
-use Rattle.dump_trees.specs.LoadCheck.{Kind, kind_of_node, kind_at, is_directory, is_file, Kinds, deletion_allowed, kind_left, making_allowed, kind_made, sets_props, kinds_allow, kinds_before, source_kind, node_set, delta_applies}
-use Rattle.dump_trees.specs.Siblings.{is_in_cut, is_parent_above, has_node_names, is_sibling}
-use Rattle.dump_trees.specs.Following.{Copies, ExistsOnce}
-use Rattle.dump_trees.specs.EverSiblings.{does_something, EverSiblingsAreFound, ChangedPathsExist, CopiedPathsExist}
+use Rattle.dump_trees.specs.steps.Looking.{Placed, placed_from, end_of, look}
+use Rattle.dump_trees.specs.steps.Listing.{names_look}
+use Rattle.dump_trees.specs.LoadCheck.{sets_props}
+use Rattle.dump_trees.specs.steps.LoadCheck.{Kind, kind_of_node, kind_at, is_directory, is_file, Kinds, deletion_allowed, kind_left, making_allowed, kind_made, kinds_allow, kinds_before, source_kind, node_set, delta_applies}
+use Rattle.dump_trees.specs.Siblings.{has_node_names}
+use Rattle.dump_trees.specs.steps.Siblings.{is_in_cut, is_parent_above, is_sibling}
+use Rattle.dump_trees.specs.Following.{Copies}
+use Rattle.dump_trees.specs.steps.Following.{ExistsOnce}
+use Rattle.dump_trees.specs.EverSiblings.{does_something}
+use Rattle.dump_trees.specs.steps.EverSiblings.{EverSiblingsAreFound, ChangedPathsExist, CopiedPathsExist}
 use Rattle.dump_trees.proofs.changes.TreeLemmas.{parent_rest}
 use Rattle.dump_trees.proofs.histories.KeptNumbers.{get_before}
 use Rattle.dump_trees.proofs.expansions.LookLemmas.{Runs, Begun, look_runs, runs_before, loaded_begun}

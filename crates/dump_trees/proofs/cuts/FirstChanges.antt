@@ -1,7 +1,7 @@
 -- The changes of a history up to one in the midst of a revision, and those after it.
 use Rattle.dump_trees.proofs.Prelude.{◌≡◌, ◌+◌, sym, ap, ◌∙◌, arith, append_assoc, Change}
 use Rattle.std.proofs.Common.{List, [], ◌∷◌, ◌++◌, length}
-use Rattle.dump_trees.specs.Looking.{Placed, placed_from}
+use Rattle.dump_trees.specs.steps.Looking.{Placed, placed_from}
 use Rattle.dump_trees.proofs.histories.KeptNumbers.{length_push}
 use Rattle.dump_trees.proofs.expansions.BackLemmas.{from_more}
 use Rattle.dump_trees.proofs.cuts.CheckedLoads.{AreFrom, of_one, from_append, one_from, all_from, placed_append, placed_cut}

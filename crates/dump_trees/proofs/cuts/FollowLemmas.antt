@@ -6,10 +6,13 @@ use Rattle.std.proofs.lemmas.Option.{same_Some, slice_get_within}
 use Rattle.std.proofs.lemmas.List.Folds.{list_any-append}
 use Rattle.std.proofs.lemmas.List.Elements.{All-contains, All-weaker, All-contains_itself, Contains-append_left, Contains-append_right, Contains-append_cases}
 use Rattle.std.specs.List.{All}
-use Rattle.dump_trees.specs.Siblings.{is_within, has_node_names, have_node_names, ExcludesPaths}
-use Rattle.dump_trees.specs.ComingBack.{ComesBack, NoneComesBack, NothingComesBack}
-use Rattle.dump_trees.specs.Returns.{is_covered, lie_apart, rests_covered, returns, IsCopyOver}
-use Rattle.dump_trees.specs.Following.{Copies, Way, from_of, to_of, IsClosed, Covers, IsInClosure, IsFollowed, IsGrown, AreFollowed, AddsNothing, ListedAreFollowed, GrownPathsCover, ExistsOnce, FollowingIsLeast, FollowedBringNothingBack, EachCopyIsOver}
+use Rattle.dump_trees.specs.Siblings.{is_within, has_node_names}
+use Rattle.dump_trees.specs.steps.Siblings.{have_node_names, ExcludesPaths}
+use Rattle.dump_trees.specs.steps.ComingBack.{ComesBack, NoneComesBack, NothingComesBack}
+use Rattle.dump_trees.specs.Returns.{is_covered}
+use Rattle.dump_trees.specs.steps.Returns.{lie_apart, rests_covered, returns, IsCopyOver}
+use Rattle.dump_trees.specs.Following.{Copies, Way, from_of, to_of, Covers, IsInClosure}
+use Rattle.dump_trees.specs.steps.Following.{IsClosed, IsFollowed, IsGrown, AreFollowed, AddsNothing, ListedAreFollowed, GrownPathsCover, ExistsOnce, FollowingIsLeast, FollowedBringNothingBack, EachCopyIsOver}
 use Rattle.dump_trees.proofs.histories.KeptNumbers.{get_before}
 use Rattle.dump_trees.proofs.histories.FrontLemmas.{begun_trees}
 use Rattle.dump_trees.proofs.histories.StandingNames.{loaded_directories, loaded_names}

@@ -4,9 +4,11 @@ use Rattle.dump_trees.proofs.Prelude.{◌≡◌, not, zero, suc, inl, inr, map, 
 use Rattle.std.proofs.Common.{ℕ, ◌&&◌, List, [], ◌∷◌, ◌++◌, Some, None, is_some, Contains}
 use Rattle.std.proofs.lemmas.Option.{same_Some}
 use Rattle.std.proofs.lemmas.List.Elements.{filter_agree, Contains-append_left, Contains-append_right, Contains-append_cases}
-use Rattle.dump_trees.specs.Looking.{Placed, placed_from, end_of}
-use Rattle.dump_trees.specs.Returns.{is_covered, rests_covered}
-use Rattle.dump_trees.specs.Following.{from_of, to_of, CopiesArePlaced, FollowedIsTold}
+use Rattle.dump_trees.specs.steps.Looking.{Placed, placed_from, end_of}
+use Rattle.dump_trees.specs.Returns.{is_covered}
+use Rattle.dump_trees.specs.steps.Returns.{rests_covered}
+use Rattle.dump_trees.specs.Following.{from_of, to_of}
+use Rattle.dump_trees.specs.steps.Following.{CopiesArePlaced, FollowedIsTold}
 use Rattle.dump_trees.proofs.expansions.FoundSiblings.{contains_map}
 use Rattle.dump_trees.proofs.cuts.CheckedSteps.{kind_some}
 use Rattle.dump_trees.proofs.cuts.CheckedLoads.{tells_each_tree}

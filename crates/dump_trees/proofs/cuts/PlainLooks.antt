@@ -2,8 +2,8 @@
 use Rattle.dump_trees.proofs.Prelude.{◌≡◌, not, ◌||◌, zero, suc, ◌+◌, ◌≤◌, cond, nat_le, refl, sym, ap, ap₂, ◌∙◌, subst, arith, append-nil, option_map, slice_get, AllZip, NodePath, below, Node, Tree, TextChange, History, is_copied}
 use Rattle.std.proofs.Common.{ℕ, Bool, true, false, List, [], ◌∷◌, length, Option, Some, None, option_and_then, is_some}
 use Rattle.std.proofs.lemmas.Option.{same_Some}
-use Rattle.dump_trees.specs.Looking.{Placed, placed_from, end_of, touches_rest, touches_path, holds_there, latest, Origin, origin_of, node_with_props, node_with_text, set_by, looked_up, left_at, left_there, look_behind, look_within}
-use Rattle.dump_trees.specs.LoadCheck.{Kind, kind_of_node, kind_at, node_from, patches_text, HasSameKinds, PlainLooksTellKinds}
+use Rattle.dump_trees.specs.steps.Looking.{Placed, placed_from, end_of, touches_rest, touches_path, holds_there, latest, Origin, origin_of, node_with_props, node_with_text, set_by, looked_up, left_at, left_there, look_behind, look_within}
+use Rattle.dump_trees.specs.steps.LoadCheck.{Kind, kind_of_node, kind_at, node_from, patches_text, HasSameKinds, PlainLooksTellKinds}
 use Rattle.dump_trees.proofs.changes.TreeLemmas.{below_rest}
 use Rattle.dump_trees.proofs.expansions.StandingLemmas.{origin_in, step_has, step_untouched, copy_has_tree}
 use Rattle.dump_trees.proofs.expansions.LookLemmas.{count_whole, count_cons, origin_source, StepsAt, Runs, Begun, runs_before, loaded_begun}

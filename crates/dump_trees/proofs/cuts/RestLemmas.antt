@@ -3,10 +3,11 @@ use Rattle.dump_trees.proofs.Prelude.{◌≡◌, zero, suc, ◌⊎◌, inl, inr,
 use Rattle.std.proofs.Common.{ℕ, List, [], ◌∷◌, length, Option, Some, None, Contains}
 use Rattle.std.proofs.lemmas.Option.{slice_get_within}
 use Rattle.std.proofs.lemmas.List.Elements.{Contains-append_left, Contains-append_right, Contains-append_cases}
-use Rattle.dump_trees.specs.Looking.{Placed, placed_from}
-use Rattle.dump_trees.specs.LoadCheck.{ToldKinds, TellsKinds}
-use Rattle.dump_trees.specs.Following.{Way, followed, AddsNothing, PlacedCopy, followed_told}
-use Rattle.dump_trees.specs.FollowedRests.{PlacedRest, rests_made, rests_at, all_rests, NoneAtAnyPlace, AllRestsAreListed, NoReturnsBringNothing}
+use Rattle.dump_trees.specs.steps.Looking.{Placed, placed_from}
+use Rattle.dump_trees.specs.steps.LoadCheck.{ToldKinds, TellsKinds}
+use Rattle.dump_trees.specs.Following.{Way}
+use Rattle.dump_trees.specs.steps.Following.{followed, AddsNothing, PlacedCopy, followed_told}
+use Rattle.dump_trees.specs.steps.FollowedRests.{PlacedRest, rests_made, rests_at, all_rests, NoneAtAnyPlace, AllRestsAreListed, NoReturnsBringNothing}
 use Rattle.dump_trees.proofs.histories.KeptNumbers.{get_before}
 use Rattle.dump_trees.proofs.expansions.FoundSiblings.{contains_map, contains_made}
 use Rattle.dump_trees.proofs.expansions.StandingLemmas.{copy_has_tree}

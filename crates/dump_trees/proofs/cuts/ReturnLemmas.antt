@@ -2,8 +2,9 @@
 use Rattle.dump_trees.proofs.Prelude.{◌≡◌, not, refl, sym, ap, ap₂, ◌∙◌, subst, append_assoc, and_parts, and_from, not-true, not_from_false, Settings, NodePath, keeps, Tree, Made, Change, History}
 use Rattle.std.proofs.Common.{true, false, ◌&&◌, List, [], ◌∷◌, ◌++◌, Some, is_some, Contains}
 use Rattle.dump_trees.specs.Siblings.{is_within, has_node_names}
-use Rattle.dump_trees.specs.ComingBack.{ComesBack}
-use Rattle.dump_trees.specs.Returns.{is_covered, rests_covered, returns, IsCopyOver, ReturnsTellAll}
+use Rattle.dump_trees.specs.steps.ComingBack.{ComesBack}
+use Rattle.dump_trees.specs.Returns.{is_covered}
+use Rattle.dump_trees.specs.steps.Returns.{rests_covered, returns, IsCopyOver, ReturnsTellAll}
 use Rattle.dump_trees.proofs.paths.SiblingLemmas.{rest_names, both_names, excluded_match, within_found}
 use Rattle.dump_trees.proofs.cuts.CoveredPaths.{contains_none, filter_there, filter_passed, filter_has, exists_above, uncovered_above, rests_there, rests_above, no_elements}
 use Rattle.std.proofs.lemmas.Bool.{not-false}

@@ -1,8 +1,8 @@
 -- Looking back goes to fewer changes, so the bound on the number of steps doesn't matter.
 use Rattle.dump_trees.proofs.Prelude.{◌≡◌, zero, suc, ◌<◌, ◌≤◌, not, cond, nat_le, refl, sym, ap, ◌∙◌, subst, arith, slice_get, list_all, and_parts, and_from, not_from_false, le-leb, lt-leb, leb-true, ltb-true, NodePath, below, Node, Tree, Made, Change}
 use Rattle.std.proofs.Common.{ℕ, Bool, true, false, List, [], ◌∷◌, ◌++◌, Option, Some, None}
-use Rattle.dump_trees.specs.Looking.{Placed, end_of, touches_path, holds_there, latest, Origin, origin_of, set_by, looked_up, left_at, left_there, look_behind, look_within, look}
-use Rattle.dump_trees.specs.Listing.{names_made, names_from, names_left, names_there, names_behind, names_within, names_look}
+use Rattle.dump_trees.specs.steps.Looking.{Placed, end_of, touches_path, holds_there, latest, Origin, origin_of, set_by, looked_up, left_at, left_there, look_behind, look_within, look}
+use Rattle.dump_trees.specs.steps.Listing.{names_made, names_from, names_left, names_there, names_behind, names_within, names_look}
 use Rattle.dump_trees.specs.steps.LookingBack.{is_of_before, copies_back}
 use Rattle.dump_trees.proofs.expansions.LookLemmas.{count_cons, count_none, origin_source}
 

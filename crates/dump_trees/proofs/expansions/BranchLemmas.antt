@@ -1,7 +1,7 @@
 -- What exists at a path of a tree in which a branch was put, and changes that write a branch out.
 use Rattle.dump_trees.proofs.Prelude.{◌≡◌, cond, bytes_eq, ◌||◌, refl, ap, ◌∙◌, subst, append-nil, option_map, both_ways, bytes_eq-Decides, Property, NodePath, below, parent_of, Node, Tree, HasDirectories, is_directory_node, at_or_below, grafted, at_top, put, is_directory_at, has_directory}
 use Rattle.std.proofs.Common.{ℕ, Bool, true, false, List, [], ◌∷◌, ◌++◌, Option, Some, None, option_and_then}
-use Rattle.dump_trees.specs.Branches.{Branch, Branches, tree_of, found, has_name}
+use Rattle.dump_trees.specs.steps.Branches.{Branch, Branches, tree_of, found, has_name}
 use Rattle.dump_trees.proofs.changes.TreeLemmas.{below_rest, below_top, parent_rest}
 use Rattle.dump_trees.proofs.changes.PlainLemmas.{at_twice}
 

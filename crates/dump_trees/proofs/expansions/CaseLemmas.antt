@@ -1,10 +1,10 @@
 -- Copies that are written out.
 use Rattle.dump_trees.proofs.Prelude.{◌≡◌, cond, refl, sym, ap, ◌∙◌, subst, append-nil, option_map, Settings, NodePath, keeps, below, parent_of, Node, Tree, HasDirectories, at_or_below, grafted, at_top, put, empty_tree, Made, PropertyChange, TextChange, Change, History, has_directory, copied, deleted, made_in, new_props, new_text, with_props, with_text, props_put, props_set, text_set, step, Separates}
 use Rattle.std.proofs.Common.{ℕ, Bool, true, false, ◌&&◌, List, [], ◌∷◌, ◌++◌, Option, Some, None, option_and_then, is_some}
-use Rattle.dump_trees.specs.Branches.{Branch, tree_of, is_distinct, HasBranch}
-use Rattle.dump_trees.specs.WritingOut.{WritesOut}
-use Rattle.dump_trees.specs.Leading.{Leads}
-use Rattle.dump_trees.specs.ExpansionCases.{branch_with_props, branch_with_text, branch_made, deletion_of, cleared, SeparatedExpands, KeptCopyExpands}
+use Rattle.dump_trees.specs.steps.Branches.{Branch, tree_of, is_distinct, HasBranch}
+use Rattle.dump_trees.specs.steps.WritingOut.{WritesOut}
+use Rattle.dump_trees.specs.steps.Leading.{Leads}
+use Rattle.dump_trees.specs.steps.ExpansionCases.{branch_with_props, branch_with_text, branch_made, deletion_of, cleared, SeparatedExpands, KeptCopyExpands}
 use Rattle.dump_trees.proofs.changes.PlainLemmas.{graft_at}
 use Rattle.dump_trees.proofs.expansions.LeadLemmas.{leads_one, leads_then}
 use Rattle.dump_trees.proofs.expansions.BranchLemmas.{IsSameOutside, graft_outside, same_directory, IsClear, clear_below, root_stands}

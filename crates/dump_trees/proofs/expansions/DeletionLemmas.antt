@@ -1,8 +1,8 @@
 -- Deletions that clear paths.
 use Rattle.dump_trees.proofs.Prelude.{◌≡◌, cond, refl, ap, ◌∙◌, subst, inl, inr, option_map, list_all, list_any, both_ways, and_parts, and_from, or_cases, Settings, NodePath, keeps, below, parent_of, Tree, at_or_below, grafted, empty_tree, Made, History, is_directory_at, has_directory, made_in, props_set, text_set, step, Separates}
 use Rattle.std.proofs.Common.{ℕ, Bool, true, false, List, [], ◌∷◌, ◌++◌, Option, Some, None, option_and_then, is_some, is_none}
-use Rattle.dump_trees.specs.Leading.{Leads}
-use Rattle.dump_trees.specs.ExpansionCases.{deletion_of}
+use Rattle.dump_trees.specs.steps.Leading.{Leads}
+use Rattle.dump_trees.specs.steps.ExpansionCases.{deletion_of}
 use Rattle.dump_trees.proofs.changes.TreeLemmas.{below_rest, below_found, none_of}
 use Rattle.dump_trees.proofs.expansions.LeadLemmas.{leads_nowhere, leads_one}
 use Rattle.dump_trees.proofs.expansions.BranchLemmas.{below_joined, IsSameOutside, graft_outside, IsClear}

@@ -1,8 +1,8 @@
 -- Expanded changes lead to the same tree as the changes, and expanded revisions load to the same trees.
 use Rattle.dump_trees.proofs.Prelude.{◌≡◌, refl, sym, ap, ◌∙◌, subst, slice_get, Tree, Change, step, steps, loaded, AllRevisionsSeparate}
 use Rattle.std.proofs.Common.{List, [], ◌∷◌, ◌++◌, Option, Some, None, option_and_then}
-use Rattle.dump_trees.specs.Leading.{Leads}
-use Rattle.dump_trees.specs.Expansions.{AllExpand, AllRevisionsExpand, ExpandedLead, ExpandedLoad}
+use Rattle.dump_trees.specs.steps.Leading.{Leads}
+use Rattle.dump_trees.specs.steps.Expansions.{AllExpand, AllRevisionsExpand, ExpandedLead, ExpandedLoad}
 use Rattle.dump_trees.proofs.expansions.LeadLemmas.{leads_nowhere, leads_then}
 
 -- the changes of a revision, one after the other

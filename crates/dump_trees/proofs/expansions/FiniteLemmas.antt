@@ -1,7 +1,7 @@
 -- Trees that are branches remain branches if something is put in or removed.
 use Rattle.dump_trees.proofs.Prelude.{◌≡◌, not, cond, bytes_eq, refl, sym, ap, ◌∙◌, subst, option_map, both_ways, and_parts, and_from, or_parts, or_from, not-true, not_from_false, bytes_eq-Decides, Property, NodePath, below, parent_of, Node, Tree, is_directory_node, at_or_below, grafted, empty_tree, is_directory_at, has_directory, edited_with}
 use Rattle.std.proofs.Common.{ℕ, Bool, true, false, ◌&&◌, List, [], ◌∷◌, ◌++◌, Option, Some, None, is_some}
-use Rattle.dump_trees.specs.Branches.{Branch, Branches, tree_of, found, has_name, is_distinct, are_distinct, HasBranch}
+use Rattle.dump_trees.specs.steps.Branches.{Branch, Branches, tree_of, found, has_name, is_distinct, are_distinct, HasBranch}
 use Rattle.dump_trees.proofs.expansions.BranchLemmas.{not_found}
 
 -- the properties of each node of a branch are made by some entries

@@ -1,8 +1,8 @@
 -- Each change of a tree that is a branch makes a tree that is a branch.
 use Rattle.dump_trees.proofs.Prelude.{◌≡◌, cond, refl, sym, ap, ◌∙◌, subst, append-nil, option_map, IfSome, and_parts, Property, NodePath, below, parent_of, Node, Tree, HasDirectories, at_or_below, grafted, at_top, put, empty_tree, root_alone, Made, PropertyChange, TextChange, Change, History, is_directory_at, has_directory, deleted, node_put, copied, made_in, edited_with, with_entry, new_props, new_text, with_props, with_text, props_put, props_set, text_set, step, steps}
 use Rattle.std.proofs.Common.{ℕ, Bool, true, false, ◌&&◌, List, [], ◌∷◌, ◌++◌, Option, Some, None, option_and_then, is_some, is_none}
-use Rattle.dump_trees.specs.Branches.{Branch, Branches, tree_of, HasBranch}
-use Rattle.dump_trees.specs.ExpansionCases.{branch_with_props}
+use Rattle.dump_trees.specs.steps.Branches.{Branch, Branches, tree_of, HasBranch}
+use Rattle.dump_trees.specs.steps.ExpansionCases.{branch_with_props}
 use Rattle.dump_trees.proofs.changes.TreeLemmas.{below_rest, parent_rest}
 use Rattle.dump_trees.proofs.expansions.BranchLemmas.{clear_below}
 use Rattle.dump_trees.proofs.expansions.DeletionLemmas.{parent_some}

@@ -3,8 +3,9 @@ use Rattle.dump_trees.proofs.Prelude.{◌≡◌, zero, suc, ◌≤◌, ◌<◌, 
 use Rattle.std.proofs.Common.{ℕ, true, false, not, ◌&&◌, List, [], ◌∷◌, ◌++◌, length, Option, Some, None, is_some, Contains}
 use Rattle.std.proofs.lemmas.Option.{slice_get_within}
 use Rattle.std.proofs.lemmas.List.Elements.{Contains-append_left, Contains-append_right, Contains-push}
-use Rattle.dump_trees.specs.Siblings.{has_name_behind, is_in_cut, is_parent_above, has_node_names, is_sibling}
-use Rattle.dump_trees.specs.FindingSiblings.{directories_above, all_above, AboveAreListed, SiblingsAreFound}
+use Rattle.dump_trees.specs.Siblings.{has_node_names}
+use Rattle.dump_trees.specs.steps.Siblings.{has_name_behind, is_in_cut, is_parent_above, is_sibling}
+use Rattle.dump_trees.specs.steps.FindingSiblings.{directories_above, all_above, AboveAreListed, SiblingsAreFound}
 use Rattle.dump_trees.proofs.paths.SiblingLemmas.{higher_rest}
 use Rattle.dump_trees.proofs.changes.TreeLemmas.{parent_rest}
 use Rattle.dump_trees.proofs.histories.FrontLemmas.{loaded_length}

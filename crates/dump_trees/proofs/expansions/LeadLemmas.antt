@@ -1,7 +1,7 @@
 -- Changes that lead from one tree to another, one after the other.
 use Rattle.dump_trees.proofs.Prelude.{◌≡◌, refl, sym, ap, ◌∙◌, subst, Settings, Tree, Change, History, step, steps, AllSeparate, Separates}
 use Rattle.std.proofs.Common.{List, [], ◌∷◌, ◌++◌, Option, Some, None, option_and_then}
-use Rattle.dump_trees.specs.Leading.{Leads}
+use Rattle.dump_trees.specs.steps.Leading.{Leads}
 
 module _ (settings : Settings) (history : History) where
   -- no change leads from a tree to itself

@@ -3,7 +3,7 @@ use Rattle.dump_trees.proofs.Prelude.{◌≡◌, zero, suc, ◌+◌, ◌<◌, �
 use Rattle.std.proofs.Common.{ℕ, Bool, true, false, List, [], ◌∷◌, ◌++◌, Option, Some, None, option_and_then, length}
 use Rattle.std.proofs.lemmas.List.Sums.{count_by-le-length}
 use Rattle.std.proofs.lemmas.Option.{slice_get_within}
-use Rattle.dump_trees.specs.Looking.{Placed, placed_from, end_of, touches_rest, touches_path, holds_there, latest, Origin, origin_of, set_by, looked_up, left_at, left_there, look_behind, look_within, LookFinds, LookFindsEach}
+use Rattle.dump_trees.specs.steps.Looking.{Placed, placed_from, end_of, touches_rest, touches_path, holds_there, latest, Origin, origin_of, set_by, looked_up, left_at, left_there, look_behind, look_within, LookFinds, LookFindsEach}
 use Rattle.dump_trees.proofs.histories.KeptNumbers.{length_push, get_last, get_before, get_pushed}
 use Rattle.dump_trees.proofs.expansions.StandingLemmas.{origin_in, step_has, step_untouched, copy_has_tree}
 use Rattle.std.proofs.lemmas.Bool.{not-true}

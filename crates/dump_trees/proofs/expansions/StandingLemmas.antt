@@ -1,7 +1,7 @@
 -- What one change leaves at a path.
 use Rattle.dump_trees.proofs.Prelude.{◌≡◌, cond, ◌||◌, refl, sym, ap, ◌∙◌, subst, append-nil, option_map, IfSome, or_parts, NodePath, below, parent_of, Node, Tree, at_or_below, grafted, at_top, put, empty_tree, Made, PropertyChange, TextChange, Change, History, has_directory, is_copied, copied, deleted, made_in, with_props, with_text, props_put, props_set, text_set, step}
 use Rattle.std.proofs.Common.{ℕ, Bool, true, false, ◌&&◌, [], ◌∷◌, ◌++◌, Option, Some, None, option_and_then, is_some, is_none}
-use Rattle.dump_trees.specs.Looking.{touches_rest, touches_path, Origin, left_by, origin_of, node_with_props, node_with_text, set_by}
+use Rattle.dump_trees.specs.steps.Looking.{touches_rest, touches_path, Origin, left_by, origin_of, node_with_props, node_with_text, set_by}
 use Rattle.dump_trees.proofs.changes.TreeLemmas.{below_rest, none_of}
 use Rattle.dump_trees.proofs.quiet.LeavingLemmas.{step_leaves}
 

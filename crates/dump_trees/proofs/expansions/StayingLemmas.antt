@@ -1,8 +1,8 @@
 -- Changes that are separated already, and stay as they are.
 use Rattle.dump_trees.proofs.Prelude.{◌≡◌, cond, refl, ap, ◌∙◌, Settings, NodePath, keeps, Tree, Made, Change, History, is_copied, copied, made_in, is_above_some, is_lost, is_over, is_quiet, is_quiet_kept, is_quiet_dropped, cond-false, Side, Exclude, AllSeparate, slice_get}
 use Rattle.std.proofs.Common.{ℕ, Bool, true, false, not, ◌&&◌, ◌||◌, List, [], ◌∷◌, ◌++◌, Option, Some, None, option_and_then, is_some}
-use Rattle.dump_trees.specs.Expansions.{AllExpand, SeparatedRevisionsExpand}
-use Rattle.dump_trees.specs.ExpansionCases.{ExcludedChangeStays}
+use Rattle.dump_trees.specs.steps.Expansions.{AllExpand, SeparatedRevisionsExpand}
+use Rattle.dump_trees.specs.steps.ExpansionCases.{ExcludedChangeStays}
 use Rattle.dump_trees.proofs.quiet.QuietLemmas.{quiet_separates}
 use Rattle.dump_trees.proofs.expansions.BranchLemmas.{IsSameOutside, same_directory}
 use Rattle.dump_trees.proofs.expansions.DeletionLemmas.{graft_same}

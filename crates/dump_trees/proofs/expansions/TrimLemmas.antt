@@ -1,9 +1,9 @@
 -- Copies with deletions after them.
 use Rattle.dump_trees.proofs.Prelude.{◌≡◌, cond, option_map, refl, sym, ap, ◌∙◌, subst, append-nil, append_assoc, list_all, both_ways, and_parts, and_from, not-true, Exclude, Settings, NodePath, keeps, below, Node, Tree, at_or_below, grafted, at_top, put, empty_tree, Made, PropertyChange, TextChange, Change, History, has_directory, copied, deleted, made_in, with_props, with_text, props_put, props_set, text_set, step, steps, NewProperty, NewNumber, KeepsEntries, IsNewNode, AreNewProps, IsNewMade, IsRestricted, IsNewChange, AreRestricted, sets_whole}
 use Rattle.std.proofs.Common.{ℕ, Bool, true, false, not, ◌&&◌, List, [], ◌∷◌, ◌++◌, Option, Some, None, option_and_then, is_some, is_none}
-use Rattle.dump_trees.specs.ExpansionCases.{deletions, none_is_below}
-use Rattle.dump_trees.specs.ComingBack.{ComesBack}
-use Rattle.dump_trees.specs.Trimming.{CoverTaken}
+use Rattle.dump_trees.specs.steps.ExpansionCases.{deletions, none_is_below}
+use Rattle.dump_trees.specs.steps.ComingBack.{ComesBack}
+use Rattle.dump_trees.specs.steps.Trimming.{CoverTaken}
 use Rattle.dump_trees.proofs.paths.KeptPaths.{gives_nothing, keeps_nothing}
 use Rattle.dump_trees.proofs.changes.TreeLemmas.{below_rest, below_found, below_top, same_presence, RestrictedAt, nothing_restricted, graft_restricts, directory_restricted}
 use Rattle.dump_trees.proofs.changes.StageLemmas.{Follows, follows_then, follows_if, deleted_follows, props_follow, text_follows}

@@ -1,8 +1,8 @@
 -- Revisions and histories whose copies are trimmed.
 use Rattle.dump_trees.proofs.Prelude.{◌≡◌, zero, suc, refl, sym, ap, ◌∙◌, subst, inl, inr, AllZip, slice_get, MatchBool-at_true, MatchBool-at_false, Exclude, Settings, keeps, NodePath, Tree, HasDirectories, root_alone, Change, History, step, steps, NewProperty, NewNumber, KeepsEntries, IsRestricted, IsNewChange, AllHaveDirectories, AreRestricted, IsMade, IsRenumbered, loaded}
 use Rattle.std.proofs.Common.{ℕ, Bool, true, false, List, [], ◌∷◌, ◌++◌, Option, Some, None, option_and_then}
-use Rattle.dump_trees.specs.ExpansionCases.{deletions}
-use Rattle.dump_trees.specs.Trimming.{IsTrimmed, AreTrimmedChanges, TrimmedRevisionRestricts, EachTrimmedRevisionRestricts, IsSameNumber, AreTrimmedRevisions, TrimmedHistoryRestricts, EachTrimmedHistoryRestricts}
+use Rattle.dump_trees.specs.steps.ExpansionCases.{deletions}
+use Rattle.dump_trees.specs.steps.Trimming.{IsTrimmed, AreTrimmedChanges, TrimmedRevisionRestricts, EachTrimmedRevisionRestricts, IsSameNumber, AreTrimmedRevisions, TrimmedHistoryRestricts, EachTrimmedHistoryRestricts}
 use Rattle.dump_trees.proofs.changes.StepLemmas.{kept_step, dropped_step}
 use Rattle.dump_trees.proofs.changes.DirectoryLemmas.{KeepsDirectories, step_keeps}
 use Rattle.dump_trees.proofs.changes.RevisionLemmas.{steps_keep}

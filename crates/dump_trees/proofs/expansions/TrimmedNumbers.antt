@@ -1,7 +1,7 @@
 -- Trimmed histories that are renumbered.
 use Rattle.dump_trees.proofs.Prelude.{◌≡◌, zero, suc, refl, sym, ap, ◌∙◌, subst, inl, arith, append-nil, slice_get, list_any, or_parts, MatchBool, MatchBool-at_true, MatchBool-at_false, Exclude, Settings, KeptRevisions, image, keeps, Tree, HasDirectories, root_alone, Change, History, steps, NewProperty, NewNumber, KeepsEntries, IsRestricted, AllHaveDirectories, IsMade, loaded, EmptyRule, keeps_revision, kept_from, kept_of, IsWrittenNumber, ImagesRestrict}
 use Rattle.std.proofs.Common.{ℕ, Bool, true, false, List, [], ◌∷◌, ◌++◌, Option, Some, None, option_and_then}
-use Rattle.dump_trees.specs.Trimming.{AreTrimmedChanges, AreTrimmedFiltered, TrimmedFilteredRestricts, EachTrimmedFilteredRestricts}
+use Rattle.dump_trees.specs.steps.Trimming.{AreTrimmedChanges, AreTrimmedFiltered, TrimmedFilteredRestricts, EachTrimmedFilteredRestricts}
 use Rattle.dump_trees.proofs.changes.DirectoryLemmas.{KeepsDirectories}
 use Rattle.dump_trees.proofs.changes.RevisionLemmas.{steps_keep}
 use Rattle.dump_trees.proofs.changes.CutLemmas.{gives_root}

@@ -1,9 +1,9 @@
 -- Changes that write a branch out make it, and the cut separates them.
 use Rattle.dump_trees.proofs.Prelude.{◌≡◌, not, cond, bytes_eq, refl, sym, ap, ◌∙◌, subst, inl, inr, ◌⊎◌, append-nil, append_assoc, option_map, both_ways, and_parts, and_from, or_left, or_right, not-true, bytes_eq-Decides, Property, Settings, NodePath, keeps, below, Node, Tree, is_directory_node, at_or_below, grafted, at_top, put, Made, PropertyChange, TextChange, Change, History, has_directory, edited_with, with_props, with_text, text_set, props_set, copied, step, Separates, LeavesKept}
 use Rattle.std.proofs.Common.{ℕ, Bool, true, false, ◌&&◌, List, [], ◌∷◌, ◌++◌, Option, Some, None, option_and_then, is_some, is_none}
-use Rattle.dump_trees.specs.Branches.{Branch, Branches, tree_of, has_name, is_distinct, are_distinct, HasBranch}
-use Rattle.dump_trees.specs.WritingOut.{copy_of, directory_of, file_of, IsCutAlike, IsLeftOut, IsCopied, WritesOut, WritesInside}
-use Rattle.dump_trees.specs.Leading.{Leads}
+use Rattle.dump_trees.specs.steps.Branches.{Branch, Branches, tree_of, has_name, is_distinct, are_distinct, HasBranch}
+use Rattle.dump_trees.specs.steps.WritingOut.{copy_of, directory_of, file_of, IsCutAlike, IsLeftOut, IsCopied, WritesOut, WritesInside}
+use Rattle.dump_trees.specs.steps.Leading.{Leads}
 use Rattle.dump_trees.proofs.changes.TreeLemmas.{below_rest, below_found}
 use Rattle.dump_trees.proofs.expansions.LeadLemmas.{leads_nowhere, leads_first, leads_one, leads_then}
 use Rattle.dump_trees.proofs.expansions.BranchLemmas.{graft_outside, put_twice, child_directory, child_apart, below_joined, IsClear, root_stands, laid, laid_none, laid_first, laid_directory, file_grafted}

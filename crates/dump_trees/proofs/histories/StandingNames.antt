@@ -1,8 +1,9 @@
 -- The trees of loaded revisions: each node is in directories, and has names of nodes if the changes' paths have.
 use Rattle.dump_trees.proofs.Prelude.{◌≡◌, refl, sym, ap, ◌∙◌, subst, inl, inr, IfSome, list_all, slice_get, and_parts, NodePath, below, Node, Tree, HasDirectories, root_alone, Made, PropertyChange, TextChange, Change, History, step, steps, AllHaveDirectories, loaded, loaded_over}
 use Rattle.std.proofs.Common.{ℕ, Bool, true, false, List, [], ◌∷◌, ◌++◌, Option, Some, None, option_and_then, is_some}
-use Rattle.dump_trees.specs.Looking.{left_by, origin_of, node_with_props, node_with_text, set_by}
-use Rattle.dump_trees.specs.Siblings.{has_node_names, HasNames, have_node_names, LoadedTreesHaveDirectories, LoadedTreesHaveNames}
+use Rattle.dump_trees.specs.steps.Looking.{left_by, origin_of, node_with_props, node_with_text, set_by}
+use Rattle.dump_trees.specs.Siblings.{has_node_names}
+use Rattle.dump_trees.specs.steps.Siblings.{HasNames, have_node_names, LoadedTreesHaveDirectories, LoadedTreesHaveNames}
 use Rattle.dump_trees.proofs.paths.SiblingLemmas.{rest_names, both_names}
 use Rattle.dump_trees.proofs.changes.TreeLemmas.{below_rest}
 use Rattle.dump_trees.proofs.changes.RevisionLemmas.{steps_keep}

@@ -2,7 +2,8 @@
 use Rattle.dump_trees.proofs.Prelude.{◌≡◌, not, cond, nat_eq, refl, ap, ◌∙◌, filter, onto_first, and_parts, and_from, not-true, NodePath, path_text, path_of, names_of}
 use Rattle.std.proofs.Common.{ℕ, Bool, true, false, List, [], ◌∷◌, ◌++◌}
 use Rattle.dump_trees.specs.Siblings.{is_node_name, has_node_names}
-use Rattle.dump_trees.specs.CanonicalPaths.{canonical_path, CanonicalPathsHaveNames, ShortPathsAreCanonical}
+use Rattle.dump_trees.specs.CanonicalPaths.{canonical_path}
+use Rattle.dump_trees.specs.steps.CanonicalPaths.{CanonicalPathsHaveNames, ShortPathsAreCanonical}
 use Rattle.dump_trees.proofs.paths.PathNames.{split, split_text}
 use Rattle.dump_trees.proofs.paths.PrefixPaths.{has_no_slash}
 use Rattle.dump_trees.proofs.paths.SiblingLemmas.{short_names}

@@ -1,9 +1,9 @@
 -- Lines of mergeinfo by the cut.
 use Rattle.dump_trees.proofs.Prelude.{◌≡◌, sym, ap, ◌∙◌, subst, path_of}
 use Rattle.std.proofs.Common.{Contains}
-use Rattle.dump_trees.specs.Siblings.{is_in_cut}
+use Rattle.dump_trees.specs.steps.Siblings.{is_in_cut}
 use Rattle.dump_trees.specs.CanonicalPaths.{canonical_path}
-use Rattle.dump_trees.specs.CutLines.{NamedLineStays}
+use Rattle.dump_trees.specs.steps.CutLines.{NamedLineStays}
 use Rattle.dump_trees.proofs.paths.CanonicalLemmas.{short_are_canonical}
 use Rattle.dump_trees.proofs.paths.NamedLines.{named_texts_leave_cut}
 

@@ -1,6 +1,6 @@
 -- Merge sources and the cut.
 use Rattle.dump_trees.proofs.Prelude.{sym, ◌∙◌, path_of}
-use Rattle.dump_trees.specs.Siblings.{NamedTextsLeaveCut}
+use Rattle.dump_trees.specs.steps.Siblings.{NamedTextsLeaveCut}
 use Rattle.dump_trees.proofs.paths.PathNames.{keeps_text}
 use Rattle.dump_trees.proofs.paths.SiblingLemmas.{short_names, named_paths_leave_cut}
 

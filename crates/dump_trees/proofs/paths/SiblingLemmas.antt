@@ -2,7 +2,8 @@
 use Rattle.dump_trees.proofs.Prelude.{◌≡◌, not, ◌||◌, ◌⊎◌, bytes_eq, refl, sym, ap, ap₂, ◌∙◌, inl, inr, subst, append-nil, append_assoc, map, both_ways, list_any, list_all, list_all-append, slice_get, nat_lt, bare_path, names_of, and_parts, and_from, or_cases, or_left, or_right, not-true, not_from_false, matches_path, Settings, side_keeps, NodePath, path_text, path_of, is_name, keeps, below, parent_of, Tree, HasDirectories, is_directory_node}
 use Rattle.std.proofs.Common.{ℕ, Bool, true, false, ◌&&◌, List, [], ◌∷◌, ◌++◌, length, Option, Some, None, is_some}
 use Rattle.std.proofs.lemmas.List.Folds.{list_any_at}
-use Rattle.dump_trees.specs.Siblings.{is_within, has_name_behind, is_above_included, is_in_cut, is_parent_above, is_node_name, has_node_names, is_sibling, AreSiblings, ExcludesPaths, SiblingsLeaveCut, NamedPathsLeaveCut, ShortPathsHaveNames}
+use Rattle.dump_trees.specs.Siblings.{is_within, is_node_name, has_node_names}
+use Rattle.dump_trees.specs.steps.Siblings.{has_name_behind, is_above_included, is_in_cut, is_parent_above, is_sibling, AreSiblings, ExcludesPaths, SiblingsLeaveCut, NamedPathsLeaveCut, ShortPathsHaveNames}
 use Rattle.dump_trees.proofs.changes.TreeLemmas.{below_rest, below_found}
 use Rattle.dump_trees.proofs.changes.DirectoryLemmas.{parent_behind}
 use Rattle.dump_trees.proofs.paths.PrefixPaths.{has_no_slash, split_names, matches_names, text_names}

@@ -2,7 +2,8 @@
 use Rattle.dump_trees.proofs.Prelude.{◌≡◌, codes, refl, sym, ap, ap₂, ◌∙◌, subst, both_ways, bytes_eq, arith, zero, suc, unwrap_or, Settings, NodePath, path_of, keeps, Node, Tree, put, root_alone, Made, TextChange, Change, History, new_text, slice_get}
 use Rattle.std.proofs.Common.{true, false, List, [], ◌∷◌, ◌++◌, Some, None, is_some, Contains}
 use Rattle.std.proofs.lemmas.List.Elements.{All-head, All-tail}
-use Rattle.dump_trees.specs.ComingBack.{ComesBack, NoneComesBack, NothingComesBack, MakesText, IsMadeByKept, SetsProperty}
+use Rattle.dump_trees.specs.ComingBack.{MakesText, IsMadeByKept, SetsProperty}
+use Rattle.dump_trees.specs.steps.ComingBack.{ComesBack, NoneComesBack, NothingComesBack}
 use Rattle.dump_trees.proofs.values.ValueParts.{change, directory, file, copy, excluding, property, setting, patching}
 
 -- when something comes back

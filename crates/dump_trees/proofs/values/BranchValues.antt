@@ -1,9 +1,9 @@
 -- Examples of branches and of the changes that write one out.
 use Rattle.dump_trees.proofs.Prelude.{◌≡◌, codes, refl, inr, both_ways, cond, bytes_eq, Property, Settings, NodePath, path_of, below, Node, Tree, at_top, put, root_alone, Change, History, steps}
 use Rattle.std.proofs.Common.{ℕ, Bool, true, false, List, [], ◌∷◌, Option, Some, None, option_and_then, is_none}
-use Rattle.dump_trees.specs.Branches.{Branch, Branches, tree_of, is_distinct, HasBranch}
-use Rattle.dump_trees.specs.WritingOut.{directory_of, file_of, IsCutAlike, IsLeftOut, WritesOut}
-use Rattle.dump_trees.specs.ExpansionCases.{branch_made, cleared, deletions, none_is_below}
+use Rattle.dump_trees.specs.steps.Branches.{Branch, Branches, tree_of, is_distinct, HasBranch}
+use Rattle.dump_trees.specs.steps.WritingOut.{directory_of, file_of, IsCutAlike, IsLeftOut, WritesOut}
+use Rattle.dump_trees.specs.steps.ExpansionCases.{branch_made, cleared, deletions, none_is_below}
 use Rattle.dump_trees.proofs.values.ValueParts.{including, excluding, copy, deletion, setting, editing, writing, property, removal}
 
 abbrev one : Property

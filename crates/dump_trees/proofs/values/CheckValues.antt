@@ -1,8 +1,8 @@
 -- Examples of the load check: what kinds allow, and where a load rejects a dump first.
 use Rattle.dump_trees.proofs.Prelude.{◌≡◌, not, AllZip, codes, refl, ap, option_map, slice_get, path_of, Tree, root_alone, Change, History, step, loaded_over}
 use Rattle.std.proofs.Common.{ℕ, true, false, List, [], ◌∷◌, length, Option, Some, None, is_some}
-use Rattle.dump_trees.specs.Looking.{Placed, placed_from, look}
-use Rattle.dump_trees.specs.LoadCheck.{patches_text, HasSameKinds, IsRejectedAt, Kind, kind_of_node, Kinds, kinds_allow, kinds_before, node_set, delta_applies, ToldKinds, TellsKinds, allowed_there, all_allowed, all_apply}
+use Rattle.dump_trees.specs.steps.Looking.{Placed, placed_from, look}
+use Rattle.dump_trees.specs.steps.LoadCheck.{patches_text, HasSameKinds, IsRejectedAt, Kind, kind_of_node, Kinds, kinds_allow, kinds_before, node_set, delta_applies, ToldKinds, TellsKinds, allowed_there, all_allowed, all_apply}
 use Rattle.dump_trees.proofs.cuts.CheckedLoads.{first_rejection_is_there}
 use Rattle.dump_trees.proofs.cuts.PlainLooks.{plain_looks_tell_kinds}
 use Rattle.dump_trees.proofs.values.ValueParts.{change, directory, file, copy, deletion, replacing, setting, editing, writing, patching, property}

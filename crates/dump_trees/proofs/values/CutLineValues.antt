@@ -3,7 +3,7 @@ use Rattle.dump_trees.proofs.Prelude.{◌≡◌, codes, refl, map, Exclude, Sett
 use Rattle.std.proofs.Common.{ℕ, true, false, List, [], ◌∷◌}
 use Rattle.dump_rules.specs.Mergeinfo.{MergeLine}
 use Rattle.dump_rules.specs.Settings.{keeps_path}
-use Rattle.dump_trees.specs.CutLines.{has_line_in_cut}
+use Rattle.dump_trees.specs.steps.CutLines.{has_line_in_cut}
 use Rattle.dump_trees.proofs.values.ValueParts.{including_all}
 
 -- one path is included

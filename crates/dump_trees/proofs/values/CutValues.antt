@@ -2,10 +2,11 @@
 use Rattle.dump_trees.proofs.Prelude.{◌≡◌, sym, ◌≤◌, ◌||◌, bytes_eq-Decides, or_cases, inr, inl, ◌⊎◌, list_any, codes, refl, ap, subst, slice_get, bytes_eq, arith, Exclude, Settings, NodePath, path_text, path_of, keeps, Node, Tree, put, root_alone, Made, Change, History, unwrap_or, both_ways, loaded_over}
 use Rattle.std.proofs.Common.{◌<◌, ℕ, zero, suc, true, false, List, [], ◌∷◌, ◌++◌, map, Some, Contains}
 use Rattle.std.proofs.lemmas.List.Elements.{All-nil, All-cons}
-use Rattle.dump_trees.specs.Siblings.{is_above_included, is_in_cut, is_sibling, has_node_names, AreSiblings}
-use Rattle.dump_trees.specs.FindingSiblings.{all_above, CanStandBelow}
+use Rattle.dump_trees.specs.Siblings.{has_node_names}
+use Rattle.dump_trees.specs.steps.Siblings.{is_above_included, is_in_cut, is_sibling, AreSiblings}
+use Rattle.dump_trees.specs.steps.FindingSiblings.{all_above, CanStandBelow}
 use Rattle.dump_trees.proofs.expansions.FoundSiblings.{above_are_listed, siblings_are_found}
-use Rattle.dump_trees.specs.ComingBack.{ComesBack, NoneComesBack, NothingComesBack}
+use Rattle.dump_trees.specs.steps.ComingBack.{ComesBack, NoneComesBack, NothingComesBack}
 use Rattle.dump_trees.proofs.values.ValueParts.{including_all, excluding, directory, file, copy, property}
 use Rattle.dump_trees.proofs.paths.KeptPaths.{keeps_nothing}
 

@@ -1,10 +1,11 @@
 -- Examples of deletes after a copy.
 use Rattle.dump_trees.proofs.Prelude.{◌≡◌, codes, refl, map, slice_get, Exclude, Settings, NodePath, path_text, path_of, Node, Tree, root_alone, Change, step, steps, unwrap_or, loaded_over}
 use Rattle.std.proofs.Common.{ℕ, true, false, List, [], ◌∷◌, Option, Some, None, option_and_then, is_some}
-use Rattle.dump_trees.specs.ExpansionCases.{deletion_of, deletions}
-use Rattle.dump_trees.specs.Returns.{IsCopyOver}
-use Rattle.dump_trees.specs.Following.{Way, followed}
-use Rattle.dump_trees.specs.Trimming.{CoverTaken}
+use Rattle.dump_trees.specs.steps.ExpansionCases.{deletion_of, deletions}
+use Rattle.dump_trees.specs.steps.Returns.{IsCopyOver}
+use Rattle.dump_trees.specs.Following.{Way}
+use Rattle.dump_trees.specs.steps.Following.{followed}
+use Rattle.dump_trees.specs.steps.Trimming.{CoverTaken}
 use Rattle.dump_trees.proofs.histories.StandingNames.{loaded_directories, loaded_names}
 use Rattle.dump_trees.proofs.cuts.DeleteLemmas.{deletes_are_found}
 use Rattle.dump_trees.proofs.values.ValueParts.{including_all, directory, file, copy}

@@ -1,12 +1,12 @@
 -- Examples of siblings that exist only within revisions, and of changes that do nothing.
 use Rattle.dump_trees.proofs.Prelude.{◌≡◌, codes, refl, ap, ◌∙◌, subst, arith, inl, inr, zero, suc, ◌≤◌, not, ◌||◌, append-nil, bytes_eq, bytes_eq-Decides, or_cases, and_parts, list_all, list_any, map, slice_get, Exclude, Settings, NodePath, path_text, path_of, keeps, below, Tree, root_alone, Change, unwrap_or, loaded_over}
 use Rattle.std.proofs.Common.{ℕ, Bool, true, false, List, [], ◌∷◌, ◌++◌, length, Option, Some, None, is_some, Contains}
-use Rattle.dump_trees.specs.Looking.{placed_from}
-use Rattle.dump_trees.specs.Listing.{names_look}
-use Rattle.dump_trees.specs.Siblings.{is_in_cut, is_sibling}
-use Rattle.dump_trees.specs.FindingSiblings.{all_above, CanStandBelow}
-use Rattle.dump_trees.specs.EverSiblings.{AreEverSiblings}
-use Rattle.dump_trees.specs.EverSiblings.{ExistsBelow, does_something}
+use Rattle.dump_trees.specs.steps.Looking.{placed_from}
+use Rattle.dump_trees.specs.steps.Listing.{names_look}
+use Rattle.dump_trees.specs.steps.Siblings.{is_in_cut, is_sibling}
+use Rattle.dump_trees.specs.steps.FindingSiblings.{all_above, CanStandBelow}
+use Rattle.dump_trees.specs.steps.EverSiblings.{AreEverSiblings, ExistsBelow}
+use Rattle.dump_trees.specs.EverSiblings.{does_something}
 use Rattle.dump_trees.proofs.changes.TreeLemmas.{below_rest}
 use Rattle.dump_trees.proofs.expansions.FoundSiblings.{above_are_listed}
 use Rattle.dump_trees.proofs.cuts.CoveredPaths.{all_has, contains_first, contains_later}

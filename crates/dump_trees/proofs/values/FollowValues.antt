@@ -2,10 +2,11 @@
 use Rattle.dump_trees.proofs.Prelude.{◌≡◌, option_map, bytes_eq, path_text, ◌⊎◌, inl, inr, codes, refl, sym, ap, ◌∙◌, subst, arith, slice_get, NodePath, path_of, Tree, root_alone, Made, Change, unwrap_or, loaded_over}
 use Rattle.std.proofs.Common.{ℕ, true, false, List, [], ◌∷◌, ◌++◌, length, Some, Contains}
 use Rattle.std.proofs.lemmas.Option.{same_Some}
-use Rattle.dump_trees.specs.Following.{Copies, Way, IsClosed, Covers, IsInClosure, followed, IsFollowed, IsGrown, AreFollowed, AddsNothing, ExistsOnce, PlacedCopy, followed_told}
-use Rattle.dump_trees.specs.Looking.{Placed, placed_from, look}
-use Rattle.dump_trees.specs.LoadCheck.{ToldKinds, kind_of_node}
-use Rattle.dump_trees.specs.FollowedRests.{all_rests}
+use Rattle.dump_trees.specs.Following.{Copies, Way, Covers, IsInClosure}
+use Rattle.dump_trees.specs.steps.Following.{IsClosed, followed, IsFollowed, IsGrown, AreFollowed, AddsNothing, ExistsOnce, PlacedCopy, followed_told}
+use Rattle.dump_trees.specs.steps.Looking.{Placed, placed_from, look}
+use Rattle.dump_trees.specs.steps.LoadCheck.{ToldKinds, kind_of_node}
+use Rattle.dump_trees.specs.steps.FollowedRests.{all_rests}
 use Rattle.dump_trees.proofs.cuts.CoveredPaths.{contains_first, contains_cases, contains_none}
 use Rattle.dump_trees.proofs.cuts.FollowLemmas.{following_is_least}
 use Rattle.dump_trees.proofs.values.ValueParts.{directory, file, copy, deletion}

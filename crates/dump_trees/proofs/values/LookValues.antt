@@ -2,9 +2,9 @@
 -- a path differs from the changes that don't.
 use Rattle.dump_trees.proofs.Prelude.{◌≡◌, codes, refl, path_of, Node, root_alone, Change}
 use Rattle.std.proofs.Common.{ℕ, true, false, List, [], ◌∷◌, ◌++◌, length, Option, Some, None}
-use Rattle.dump_trees.specs.Listing.{names_look}
+use Rattle.dump_trees.specs.steps.Listing.{names_look}
 use Rattle.dump_trees.specs.steps.LookingBack.{copies_back}
-use Rattle.dump_trees.specs.Looking.{placed_from, end_of, touches_path, latest, look}
+use Rattle.dump_trees.specs.steps.Looking.{placed_from, end_of, touches_path, latest, look}
 use Rattle.dump_trees.proofs.values.ValueParts.{change, directory, file, copy, deletion, replacing, setting, writing, property, stands}
 
 -- A directory has a file. In a copy of it another file replaces the file. Then the file itself gets a text, and the

@@ -1,10 +1,11 @@
 -- Examples of what comes back above included paths.
 use Rattle.dump_trees.proofs.Prelude.{◌≡◌, codes, refl, slice_get, NodePath, path_of, Tree, root_alone, Change, unwrap_or, loaded_over}
 use Rattle.std.proofs.Common.{true, false, List, [], ◌∷◌}
-use Rattle.dump_trees.specs.Siblings.{is_above_included}
+use Rattle.dump_trees.specs.steps.Siblings.{is_above_included}
 use Rattle.dump_trees.specs.Returns.{is_covered}
-use Rattle.dump_trees.specs.Following.{Way, followed}
-use Rattle.dump_trees.specs.EverSiblings.{AreEverSiblings}
+use Rattle.dump_trees.specs.Following.{Way}
+use Rattle.dump_trees.specs.steps.Following.{followed}
+use Rattle.dump_trees.specs.steps.EverSiblings.{AreEverSiblings}
 use Rattle.dump_trees.proofs.cuts.CoveredPaths.{contains_none}
 use Rattle.dump_trees.proofs.values.ValueParts.{directory, file, deletion}
 

@@ -1,7 +1,7 @@
 -- Examples of prefixes that aren't written in canonical form.
 use Rattle.dump_trees.proofs.Prelude.{◌≡◌, codes, refl, Exclude, Settings, path_of, keeps}
 use Rattle.std.proofs.Common.{ℕ, true, false, List, [], ◌∷◌, map}
-use Rattle.dump_trees.specs.Siblings.{is_in_cut}
+use Rattle.dump_trees.specs.steps.Siblings.{is_in_cut}
 use Rattle.dump_trees.specs.CanonicalPaths.{canonical_path, canonical_paths}
 use Rattle.dump_trees.proofs.values.ValueParts.{including_all}
 

@@ -1,8 +1,9 @@
 -- Examples of returns.
 use Rattle.dump_trees.proofs.Prelude.{◌≡◌, codes, refl, NodePath, path_of, keeps, Node, Tree, put, root_alone, History}
 use Rattle.std.proofs.Common.{ℕ, true, false, List, [], ◌∷◌, ◌++◌, Some, is_some}
-use Rattle.dump_trees.specs.ComingBack.{ComesBack}
-use Rattle.dump_trees.specs.Returns.{is_covered, lie_apart, rests_below, rests_covered, returns}
+use Rattle.dump_trees.specs.steps.ComingBack.{ComesBack}
+use Rattle.dump_trees.specs.Returns.{is_covered}
+use Rattle.dump_trees.specs.steps.Returns.{lie_apart, rests_below, rests_covered, returns}
 use Rattle.dump_trees.proofs.values.ValueParts.{excluding, copy}
 
 -- paths

@@ -2,8 +2,9 @@
 -- trees at other times.
 use Rattle.dump_trees.proofs.Prelude.{◌≡◌, codes, refl, sym, ap, ◌∙◌, subst, both_ways, list_any, Side, Include, Exclude, Settings, NodePath, path_text, path_of, keeps, Node, Tree, put, root_alone, Change, arith, slice_get, map, zero, suc}
 use Rattle.std.proofs.Common.{ℕ, Bool, true, false, List, [], ◌∷◌, Some, None, is_some, Contains}
-use Rattle.dump_trees.specs.Siblings.{is_within, is_above_included, is_in_cut, is_parent_above, is_sibling, has_node_names, HasNames, AreSiblings, ExcludesPaths, CoverNamed}
-use Rattle.dump_trees.specs.FindingSiblings.{CanStandBelow}
+use Rattle.dump_trees.specs.Siblings.{is_within, has_node_names}
+use Rattle.dump_trees.specs.steps.Siblings.{is_above_included, is_in_cut, is_parent_above, is_sibling, HasNames, AreSiblings, ExcludesPaths, CoverNamed}
+use Rattle.dump_trees.specs.steps.FindingSiblings.{CanStandBelow}
 use Rattle.dump_trees.proofs.values.ValueParts.{including_all, directory, file, copy}
 
 -- one path is included

@@ -1,9 +1,9 @@
 -- Examples of copies that stay, with deletions after them.
 use Rattle.dump_trees.proofs.Prelude.{◌≡◌, codes, refl, sym, ap, ◌∙◌, subst, at_top, inl, inr, bytes_eq, cond, AllZip, slice_get, path_of, NodePath, keeps, Node, Tree, put, grafted, root_alone, Made, Change, History, steps, list_any, below, loaded_over, IsRestricted, is_quiet, is_over}
 use Rattle.std.proofs.Common.{ℕ, Bool, true, false, ◌||◌, List, [], ◌∷◌, ◌++◌, Option, Some, None, option_and_then, is_some, is_none}
-use Rattle.dump_trees.specs.Expansions.{Expands}
-use Rattle.dump_trees.specs.ComingBack.{ComesBack}
-use Rattle.dump_trees.specs.Trimming.{CoverTaken, IsTrimmed, IsSameNumber, AreTrimmedRevisions}
+use Rattle.dump_trees.specs.steps.Expansions.{Expands}
+use Rattle.dump_trees.specs.steps.ComingBack.{ComesBack}
+use Rattle.dump_trees.specs.steps.Trimming.{CoverTaken, IsTrimmed, IsSameNumber, AreTrimmedRevisions}
 use Rattle.dump_trees.proofs.quiet.QuietLemmas.{quiet_separates}
 use Rattle.dump_trees.proofs.expansions.TrimmedHistories.{trimmed_history}
 use Rattle.dump_trees.proofs.values.ValueParts.{as_it_was, entries_stay, directory, file, copy, deletion, excluding, same_directory, same_file, same_copy, node_at}

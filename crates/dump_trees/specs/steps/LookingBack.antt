@@ -2,7 +2,7 @@
 use Rattle.std.specs.Prelude.{ℕ, Bool, true, List, Option, Some, None, nat_lt}
 use Rattle.std.specs.List.{list_all}
 use Rattle.dump_trees.specs.Changes.{Made}
-use Rattle.dump_trees.specs.Looking.{Placed}
+use Rattle.dump_trees.specs.steps.Looking.{Placed}
 
 -- whether something that is copied is of a revision before this one
 abbrev pub is_of_before : ℕ → Option Made → Bool

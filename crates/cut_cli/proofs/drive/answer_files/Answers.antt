@@ -1,7 +1,8 @@
 use Rattle.std.proofs.Common.{◌≡◌, List, inl, map, rules, subst, ℕ}
 use Rattle.cli_support.specs.Targets.{AreTextsOf}
-use Rattle.cut_cli.specs.Drive.{AnswersWhole}
-use Rattle.cut_cli.specs.Words.{cut_meaning, with_texts_of}
+use Rattle.cut_cli.specs.steps.Drive.{AnswersWhole}
+use Rattle.cut_cli.specs.Words.{with_texts_of}
+use Rattle.cut_cli.specs.steps.Words.{cut_meaning}
 use Rattle.cut_cli.proofs.drive.answer_files.Goals as goal
 
 pub returns-in-Ok-with_targets : goal.returns-in-Ok-with_targets

@@ -1,7 +1,7 @@
 use Rattle.std.proofs.Common.{◌≡◌, rules, subst, sym}
-use Rattle.cut_cli.specs.Cuts.{HasPartIf, IsReadyFor}
-use Rattle.cut_cli.specs.Drive.{CutsDump}
-use Rattle.cut_cli.specs.Words.{cut_meaning}
+use Rattle.cut_cli.specs.steps.Cuts.{HasPartIf, IsReadyFor}
+use Rattle.cut_cli.specs.steps.Drive.{CutsDump}
+use Rattle.cut_cli.specs.steps.Words.{cut_meaning}
 use Rattle.cut_cli.specs.steps.Examined.{expansion_text}
 use Rattle.cut_cli.proofs.CutLemmas.{has_no_memory, stops_at, tries_cut, writes_cut}
 use Rattle.cut_cli.proofs.drive.cut.Goals as goal

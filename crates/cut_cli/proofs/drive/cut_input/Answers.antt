@@ -1,5 +1,5 @@
 use Rattle.std.proofs.Common.{◌≡◌, IfSome, rules}
-use Rattle.cut_cli.specs.Words.{cut_meaning}
+use Rattle.cut_cli.specs.steps.Words.{cut_meaning}
 use Rattle.cut_cli.proofs.CutLemmas.{input_cut}
 use Rattle.cut_cli.proofs.drive.cut_input.Goals as goal
 

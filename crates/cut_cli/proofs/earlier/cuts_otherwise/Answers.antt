@@ -1,7 +1,7 @@
 use Rattle.std.proofs.Common.{◌==◌, length, ap, sym, ◌∙◌}
 use Rattle.dump_trees.specs.Paths.{names_of}
 use Rattle.dump_cut.specs.steps.ExcludedPaths.{paths_of}
-use Rattle.cut_cli.specs.Words.{cut_meaning}
+use Rattle.cut_cli.specs.steps.Words.{cut_meaning}
 use Rattle.cut_cli.proofs.EarlierLemmas.{some_differ}
 use Rattle.cut_cli.proofs.earlier.cuts_otherwise.Goals as goal
 

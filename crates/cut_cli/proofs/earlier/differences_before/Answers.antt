@@ -1,14 +1,14 @@
 use Rattle.std.proofs.Common.{◌≡◌, true, List, sym, subst, map}
 use Rattle.std.specs.List.{list_all}
 use Rattle.std.proofs.lemmas.Result.{IfOk-weaker}
-use Rattle.dump_trees.specs.Looking.{end_of}
+use Rattle.dump_trees.specs.steps.Looking.{end_of}
 use Rattle.dump_trees.specs.Paths.{names_of}
-use Rattle.dump_index.specs.Listed.{Listed, all_placed}
-use Rattle.dump_cut.specs.CutAlike.{AreDifferences}
-use Rattle.dump_cut.specs.NamedPaths.{has_named_paths}
+use Rattle.dump_index.specs.steps.Listed.{Listed, all_placed}
+use Rattle.dump_cut.specs.steps.CutAlike.{AreDifferences}
+use Rattle.dump_cut.specs.steps.NamedPaths.{has_named_paths}
 use Rattle.dump_cut.specs.steps.ExcludedPaths.{paths_of}
-use Rattle.cut_cli.specs.Cuts.{IsAskedBy}
-use Rattle.cut_cli.specs.Words.{cut_meaning}
+use Rattle.cut_cli.specs.steps.Cuts.{IsAskedBy}
+use Rattle.cut_cli.specs.steps.Words.{cut_meaning}
 use Rattle.cut_cli.proofs.EarlierLemmas.{first_named}
 use Rattle.cut_cli.proofs.earlier.differences_before.Goals as goal
 

@@ -1,6 +1,6 @@
 use Rattle.std.proofs.Common.{MatchOption, refl, subst}
-use Rattle.cut_cli.specs.Cuts.{AreChangesOf, IsUnreadFor}
-use Rattle.cut_cli.specs.Words.{cut_meaning}
+use Rattle.cut_cli.specs.steps.Cuts.{AreChangesOf, IsUnreadFor}
+use Rattle.cut_cli.specs.steps.Words.{cut_meaning}
 use Rattle.cut_cli.proofs.ExamineLemmas.{has_part, lacks_part, of_each}
 use Rattle.cut_cli.proofs.examine.examine_front.Goals as goal
 

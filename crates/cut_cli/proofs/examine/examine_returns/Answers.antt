@@ -1,8 +1,8 @@
 use Rattle.std.proofs.Common.{◌≡◌, true, false}
 use Rattle.dump_rules.specs.declared.options.Side.TheVariants.{Include}
 use Rattle.dump_cut.specs.steps.ExcludedPaths.{paths_of}
-use Rattle.cut_cli.specs.Cuts.{writes_additions}
-use Rattle.cut_cli.specs.Words.{cut_meaning}
+use Rattle.cut_cli.specs.steps.Cuts.{writes_additions}
+use Rattle.cut_cli.specs.steps.Words.{cut_meaning}
 use Rattle.cut_cli.proofs.ExamineLemmas.{comes_back, unkept_is_included}
 use Rattle.cut_cli.proofs.examine.examine_returns.Goals as goal
 use Rattle.cut_cli.proofs.examine.examine_returns.Goals.{then-eq+in_ok-found+in_default, else-eq+else-call}

@@ -1,6 +1,6 @@
 use Rattle.std.proofs.Common.{refl}
 use Rattle.dump_cut.specs.steps.ExcludedPaths.{paths_of}
-use Rattle.dump_index.specs.ToldKinds.{kinds_told_by}
+use Rattle.dump_index.specs.steps.ToldKinds.{kinds_told_by}
 use Rattle.cut_cli.proofs.CutLemmas.{found_copies}
 use Rattle.cut_cli.proofs.examine.prepare.Goals as goal
 

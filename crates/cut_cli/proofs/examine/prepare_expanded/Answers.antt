@@ -1,7 +1,7 @@
 use Rattle.std.proofs.Common.{◌≡◌, rules, subst}
 use Rattle.dump_cut.specs.steps.ExcludedPaths.{paths_of}
-use Rattle.cut_cli.specs.Cuts.{HasAdditionsFor}
-use Rattle.cut_cli.specs.Words.{cut_meaning}
+use Rattle.cut_cli.specs.steps.Cuts.{HasAdditionsFor}
+use Rattle.cut_cli.specs.steps.Words.{cut_meaning}
 use Rattle.cut_cli.specs.steps.Examined.{IsFrontToCut}
 use Rattle.cut_cli.proofs.ExamineLemmas.{odd_expansion, reads_expansion}
 use Rattle.cut_cli.proofs.examine.prepare_expanded.Goals as goal

@@ -1,6 +1,6 @@
 use Rattle.std.proofs.Common.{◌≡◌, map, rules, subst}
 use Rattle.dump_cut.specs.steps.ExcludedPaths.{paths_of}
-use Rattle.dump_expansion.specs.GivenSteads.{IsExpandedBy}
+use Rattle.dump_expansion.specs.steps.GivenSteads.{IsExpandedBy}
 use Rattle.dump_expansion.specs.steps.Given.{given_of}
 use Rattle.cut_cli.proofs.ExamineLemmas.{added, not_added}
 use Rattle.cut_cli.proofs.expansion.with_additions.Goals as goal

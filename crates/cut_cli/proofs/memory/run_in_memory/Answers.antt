@@ -1,7 +1,7 @@
 use Rattle.std.proofs.Common.{◌≡◌, [], Some, inl, refl, rules}
 use Rattle.dump_pipeline.specs.RunAnswer.{RunLeaves}
 use Rattle.dump_writer.specs.steps.SinkStates.{lent_taken}
-use Rattle.cut_cli.specs.Drive.{stop_line_of}
+use Rattle.cut_cli.specs.Sent.{stop_line_of}
 use Rattle.cut_cli.proofs.DriveLemmas.{in_memory, moved_part, moved_whole, nothing_kept, ran_and_sent, told_after}
 use Rattle.cut_cli.proofs.memory.run_in_memory.Goals as goal
 

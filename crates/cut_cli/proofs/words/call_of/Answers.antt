@@ -5,7 +5,8 @@ use Rattle.cli_support.proofs.LineLemmas.{line_answers, refusal_answers}
 use Rattle.cli_support.specs.Arguments.{meaning_in, side_in}
 use Rattle.cli_support.specs.steps.LineReading.{ReadsLine}
 use Rattle.cut_cli.specs.CommandLine.{cut_command}
-use Rattle.cut_cli.specs.Words.{TellsCut, cut_of_side, cut_meaning}
+use Rattle.cut_cli.specs.Words.{cut_of_side}
+use Rattle.cut_cli.specs.steps.Words.{TellsCut, cut_meaning}
 use Rattle.cut_cli.proofs.CommandLemmas.{filled, free}
 use Rattle.cut_cli.proofs.words.call_of.Goals as goal
 

@@ -1,7 +1,7 @@
 use Rattle.std.proofs.Common.{◌-◌, length, map, take, drop, ap, subst, option_map, inl}
 use Rattle.std.proofs.lemmas.Result.{IfOk-weaker}
 use Rattle.dump_trees.specs.Paths.{names_of}
-use Rattle.dump_index.specs.Listed.{listed_made, listed_of}
+use Rattle.dump_index.specs.steps.Listed.{listed_made, listed_of}
 use Rattle.dump_cut.specs.steps.ExcludedPaths.{paths_of}
 use Rattle.dump_additions.specs.steps.Nodes.{IsSteadOr}
 use Rattle.dump_additions.specs.steps.Parts.{part_meant}

@@ -2,8 +2,8 @@ use Rattle.std.proofs.Common.{◌≡◌, ◌==◌, ◌+◌, ◌-◌, get_or, map
 use Rattle.std.specs.List.{list_all}
 use Rattle.std.specs.Prelude.{Ok}
 use Rattle.std.proofs.lemmas.Bool.{and_left}
-use Rattle.dump_index.specs.Listed.{listed_of}
-use Rattle.dump_cut.specs.NamedPaths.{has_named_paths}
+use Rattle.dump_index.specs.steps.Listed.{listed_of}
+use Rattle.dump_cut.specs.steps.NamedPaths.{has_named_paths}
 use Rattle.dump_cut.specs.steps.ExcludedPaths.{paths_of}
 use Rattle.dump_cut.proofs.CheckLemmas.{named_at}
 use Rattle.dump_expansion.specs.steps.Given.{given_of}

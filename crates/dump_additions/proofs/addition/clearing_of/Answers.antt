@@ -2,7 +2,7 @@ use Rattle.std.proofs.Common.{◌-◌, ◌∷◌, ◌++◌, [], not, is_some, ma
 use Rattle.std.proofs.lemmas.Bool.{and_from, and_parts}
 use Rattle.dump_trees.specs.Paths.{names_of}
 use Rattle.dump_trees.specs.Siblings.{has_node_names}
-use Rattle.dump_index.specs.Listed.{listed_of}
+use Rattle.dump_index.specs.steps.Listed.{listed_of}
 use Rattle.dump_cut.proofs.ParentLemmas.{ends_named}
 use Rattle.dump_expansion.specs.declared.written_node.NewNode.TheVariants.{Deletion}
 use Rattle.dump_expansion.specs.steps.NewNodes.{written_of}

@@ -1,14 +1,14 @@
 use Rattle.std.proofs.Common.{ap, ap₂, ◌∙◌, sym, subst}
-use Rattle.dump_trees.specs.Looking.{end_of}
+use Rattle.dump_trees.specs.steps.Looking.{end_of}
 use Rattle.dump_trees.specs.Paths.{names_of}
-use Rattle.dump_trees.specs.WritingOut.{copy_of}
+use Rattle.dump_trees.specs.steps.WritingOut.{copy_of}
 use Rattle.dump_history.specs.WrittenNodes.{Copy}
-use Rattle.dump_index.specs.Kinds.{kind_look}
-use Rattle.dump_index.specs.Listed.{all_placed}
+use Rattle.dump_index.specs.steps.Kinds.{kind_look}
+use Rattle.dump_index.specs.steps.Listed.{all_placed}
 use Rattle.dump_index.specs.declared.change.NodeKind.TheVariants.{Directory}
 use Rattle.dump_index.proofs.SlashLemmas.{names_joined}
 use Rattle.dump_expansion.specs.steps.NewNodes.{written_kind}
-use Rattle.dump_additions.specs.Additions.{SaysKind}
+use Rattle.dump_additions.specs.steps.Additions.{SaysKind}
 use Rattle.dump_additions.proofs.NodeLemmas.{joined_bare, joined_path, says_kind}
 use Rattle.dump_additions.proofs.addition.copy_node.Goals as goal
 

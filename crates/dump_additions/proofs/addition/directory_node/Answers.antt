@@ -1,6 +1,6 @@
 use Rattle.std.proofs.Common.{map, ap, ◌∙◌, subst}
-use Rattle.dump_trees.specs.WritingOut.{directory_of}
-use Rattle.dump_changes.specs.NodeProperties.{ArePropertiesAt}
+use Rattle.dump_trees.specs.steps.WritingOut.{directory_of}
+use Rattle.dump_changes.specs.steps.NodeProperties.{ArePropertiesAt}
 use Rattle.dump_changes.specs.steps.ChangedProperties.{as_property}
 use Rattle.dump_additions.proofs.NodeLemmas.{joined_bare, joined_is, joined_path}
 use Rattle.dump_additions.proofs.addition.directory_node.Goals as goal

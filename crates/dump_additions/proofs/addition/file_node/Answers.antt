@@ -1,9 +1,9 @@
 use Rattle.std.proofs.Common.{map, refl, ap, ◌∙◌, sym, subst}
-use Rattle.dump_trees.specs.Looking.{end_of}
-use Rattle.dump_trees.specs.WritingOut.{file_of}
-use Rattle.dump_index.specs.Listed.{all_placed}
-use Rattle.dump_changes.specs.FileTexts.{IsStoredAt, TextStored}
-use Rattle.dump_changes.specs.NodeProperties.{ArePropertiesAt}
+use Rattle.dump_trees.specs.steps.Looking.{end_of}
+use Rattle.dump_trees.specs.steps.WritingOut.{file_of}
+use Rattle.dump_index.specs.steps.Listed.{all_placed}
+use Rattle.dump_changes.specs.steps.FileTexts.{IsStoredAt, TextStored}
+use Rattle.dump_changes.specs.steps.NodeProperties.{ArePropertiesAt}
 use Rattle.dump_changes.specs.steps.ChangedProperties.{as_property}
 use Rattle.dump_changes.specs.steps.StoredTexts.{stored_of, told_of}
 use Rattle.dump_additions.proofs.NodeLemmas.{joined_bare, joined_is, joined_path}

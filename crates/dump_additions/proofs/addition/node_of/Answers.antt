@@ -2,7 +2,7 @@ use Rattle.std.proofs.Common.{sym, subst}
 use Rattle.std.specs.Prelude.{IfOk}
 use Rattle.dump_trees.specs.Paths.{names_of}
 use Rattle.dump_expansion.specs.steps.NewNodes.{written_of}
-use Rattle.dump_additions.specs.Additions.{IsNodeOfForm}
+use Rattle.dump_additions.specs.steps.Additions.{IsNodeOfForm}
 use Rattle.dump_additions.specs.declared.parts.Form.TheVariants.{File}
 use Rattle.dump_additions.specs.steps.Nodes.{IsDirectoryNode, IsNodeOrDelta}
 use Rattle.dump_additions.proofs.addition.node_of.Goals as goal

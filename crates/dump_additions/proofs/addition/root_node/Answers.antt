@@ -3,14 +3,15 @@ use Rattle.std.specs.Prelude.{Ok, option_copied}
 use Rattle.std.proofs.lemmas.Bool.{and_parts}
 use Rattle.dump_trees.specs.Paths.{names_of}
 use Rattle.dump_trees.specs.Siblings.{has_node_names}
-use Rattle.dump_trees.specs.WritingOut.{file_of, directory_of}
-use Rattle.dump_history.specs.WrittenNodes.{WrittenNode, replacing}
-use Rattle.dump_changes.specs.NodeProperties.{ArePropertiesAt}
+use Rattle.dump_trees.specs.steps.WritingOut.{file_of, directory_of}
+use Rattle.dump_history.specs.WrittenNodes.{WrittenNode}
+use Rattle.dump_history.specs.steps.WrittenNodes.{replacing}
+use Rattle.dump_changes.specs.steps.NodeProperties.{ArePropertiesAt}
 use Rattle.dump_changes.specs.steps.ChangedProperties.{as_property}
 use Rattle.dump_changes.specs.steps.StoredTexts.{told_of}
 use Rattle.dump_cut.proofs.ParentLemmas.{ends_named}
-use Rattle.dump_index.specs.Listed.{listed_of}
-use Rattle.dump_additions.specs.Additions.{MakesRoot}
+use Rattle.dump_index.specs.steps.Listed.{listed_of}
+use Rattle.dump_additions.specs.steps.Additions.{MakesRoot}
 use Rattle.dump_additions.specs.steps.Nodes.{IsRootText}
 use Rattle.dump_additions.proofs.addition.root_node.Goals as goal
 use Rattle.dump_cut.proofs.FoundDeletes.{named_bare}

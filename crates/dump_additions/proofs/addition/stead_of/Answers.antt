@@ -1,6 +1,6 @@
 use Rattle.std.proofs.Common.{◌-◌, ◌∷◌, ◌++◌, [], map, option_map, ap, ◌∙◌, subst}
 use Rattle.dump_trees.specs.Paths.{names_of}
-use Rattle.dump_index.specs.Listed.{listed_made, listed_of}
+use Rattle.dump_index.specs.steps.Listed.{listed_made, listed_of}
 use Rattle.dump_expansion.specs.steps.NewNodes.{written_of}
 use Rattle.dump_additions.specs.steps.Nodes.{AddsNodes, IsRootOr}
 use Rattle.dump_additions.specs.steps.Parts.{part_meant}

@@ -1,14 +1,14 @@
 use Rattle.std.proofs.Common.{◌∙◌, ◌==◌, map, ap, sym, subst}
-use Rattle.dump_trees.specs.Looking.{end_of}
+use Rattle.dump_trees.specs.steps.Looking.{end_of}
 use Rattle.dump_trees.specs.Paths.{names_of}
 use Rattle.dump_trees.specs.Siblings.{has_node_names}
 use Rattle.dump_trees.proofs.paths.SiblingLemmas.{both_names}
-use Rattle.dump_index.specs.Kinds.{kind_look}
-use Rattle.dump_index.specs.Listed.{all_placed}
+use Rattle.dump_index.specs.steps.Kinds.{kind_look}
+use Rattle.dump_index.specs.steps.Listed.{all_placed}
 use Rattle.dump_index.proofs.SlashLemmas.{names_joined}
 use Rattle.dump_cut.specs.steps.ExcludedPaths.{paths_of}
 use Rattle.dump_cut.proofs.ParentLemmas.{ends_named}
-use Rattle.dump_additions.specs.Parts.{IsFormAt}
+use Rattle.dump_additions.specs.steps.Parts.{IsFormAt}
 use Rattle.dump_additions.proofs.PartLemmas.{none_back, shown_none, shown_some, some_back}
 use Rattle.dump_additions.proofs.parts.form_at.Goals as goal
 

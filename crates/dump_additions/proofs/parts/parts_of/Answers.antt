@@ -5,8 +5,7 @@ use Rattle.std.proofs.lemmas.List.Folds.{list_all-map}
 use Rattle.dump_trees.specs.Paths.{NodePath, names_of}
 use Rattle.dump_trees.specs.Siblings.{has_node_names}
 use Rattle.dump_cut.specs.steps.ExcludedPaths.{paths_of}
-use Rattle.dump_additions.specs.steps.Parts.{AddsInside, AreAllParts, part_meant, pending}
-use Rattle.dump_additions.specs.Parts.{IsFormAt, PartMeant}
+use Rattle.dump_additions.specs.steps.Parts.{AddsInside, AreAllParts, part_meant, pending, IsFormAt, PartMeant}
 use Rattle.dump_additions.proofs.PartLemmas.{IsGoing, directory_next, none_left, none_popped, nothing_next, part_next, popped}
 use Rattle.dump_additions.proofs.parts.parts_of.Goals as goal
 use Rattle.dump_additions.proofs.parts.parts_of.Goals.{in-Directory+in_ok-push_inside, in_default-form}

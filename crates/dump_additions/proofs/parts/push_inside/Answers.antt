@@ -1,10 +1,10 @@
 use Rattle.std.proofs.Common.{◌≡◌, ◌++◌, ◌∙◌, List, ℕ, Bor, map, ap, subst}
 use Rattle.dump_trees.specs.Paths.{names_of}
-use Rattle.dump_trees.specs.Looking.{end_of}
+use Rattle.dump_trees.specs.steps.Looking.{end_of}
 use Rattle.dump_trees.specs.Siblings.{has_node_names}
 use Rattle.dump_trees.proofs.paths.SiblingLemmas.{both_names}
-use Rattle.dump_index.specs.Children.{AreChildren}
-use Rattle.dump_index.specs.Listed.{all_placed}
+use Rattle.dump_index.specs.steps.Children.{AreChildren}
+use Rattle.dump_index.specs.steps.Listed.{all_placed}
 use Rattle.dump_index.specs.steps.Names.{texts_of}
 use Rattle.dump_index.proofs.SlashLemmas.{names_joined}
 use Rattle.dump_cut.proofs.ParentLemmas.{ends_named}

@@ -1,7 +1,7 @@
 use Rattle.dump_changes.proofs.Prelude.{◌+◌, refl, ℕ, Some, None, List, ap, sym, ◌∙◌}
 use Rattle.std.proofs.Common.{reverse, take, drop}
 use Rattle.std.proofs.lemmas.List.{take_all}
-use Rattle.dump_changes.specs.PatchedTexts.{text_patched}
+use Rattle.dump_changes.specs.steps.PatchedTexts.{text_patched}
 use Rattle.dump_changes.specs.steps.MadeTexts.{file_bytes}
 use Rattle.dump_changes.proofs.PatchedLemmas.{around, none_at_last, one_more}
 use Rattle.dump_changes.proofs.patched_texts.patched_text_at.Goals as goal

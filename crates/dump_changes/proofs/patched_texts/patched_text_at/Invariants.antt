@@ -1,6 +1,6 @@
 use Rattle.dump_changes.proofs.Prelude.{◌≡◌, Some}
 use Rattle.std.proofs.Common.{reverse, take}
-use Rattle.dump_changes.specs.PatchedTexts.{text_patched}
+use Rattle.dump_changes.specs.steps.PatchedTexts.{text_patched}
 use Rattle.dump_changes.specs.steps.MadeTexts.{file_bytes}
 use Rattle.dump_changes.proofs.patched_texts.patched_text_at.Given as goal
 

@@ -1,7 +1,7 @@
 use Rattle.std.proofs.Common.{List, [], ◌∷◌, ◌++◌, ℕ, ◌∙◌, get_or, map, subst, sym, take}
 use Rattle.std.proofs.lemmas.List.{take_all, take_more}
 use Rattle.dump_changes.specs.steps.ChangedProperties.{as_property}
-use Rattle.dump_index.specs.Listed.{listed_of}
+use Rattle.dump_index.specs.steps.Listed.{listed_of}
 use Rattle.dump_changes.proofs.PropertyLemmas.{AreSetAt, of_node, of_trail, set_by_change, set_by_none}
 use Rattle.dump_changes.proofs.properties.properties_at.Goals as goal
 use Rattle.dump_changes.proofs.properties.properties_at.Goals.{in-Some+in_ok-apply_change, in_default}

@@ -2,7 +2,7 @@ use Rattle.dump_changes.proofs.Prelude.{◌∙◌, List, ap, map, subst, sym, Is
 use Rattle.std.proofs.lemmas.Result.{on_ok_weaker}
 use Rattle.dump_trees.specs.Changes.{edited_with}
 use Rattle.dump_history.specs.RecordChanges.{property_change_of}
-use Rattle.dump_index.specs.IndexLaws.{HasProps}
+use Rattle.dump_index.specs.steps.IndexLaws.{HasProps}
 use Rattle.dump_index.specs.declared.change.Setting.{Setting}
 use Rattle.dump_changes.specs.steps.ChangedProperties.{as_property}
 use Rattle.dump_changes.proofs.EditLemmas.{replaced}

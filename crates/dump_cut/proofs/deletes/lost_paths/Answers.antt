@@ -1,14 +1,14 @@
 use Rattle.std.proofs.Common.{◌++◌, map, option_map, sym, ap, ◌∙◌}
 use Rattle.std.specs.List.{list_all}
 use Rattle.std.proofs.lemmas.Bool.{and_parts}
-use Rattle.dump_trees.specs.FollowedRests.{rests_made}
+use Rattle.dump_trees.specs.steps.FollowedRests.{rests_made}
 use Rattle.dump_trees.specs.Following.{Way}
 use Rattle.dump_trees.specs.Paths.{names_of}
 use Rattle.dump_trees.specs.Siblings.{has_node_names}
-use Rattle.dump_index.specs.Listed.{listed_made}
-use Rattle.dump_index.specs.ToldKinds.{kinds_told_by}
+use Rattle.dump_index.specs.steps.Listed.{listed_made}
+use Rattle.dump_index.specs.steps.ToldKinds.{kinds_told_by}
 use Rattle.dump_cut.specs.steps.ExcludedPaths.{paths_of}
-use Rattle.dump_cut.specs.NamedPaths.{has_named_source}
+use Rattle.dump_cut.specs.steps.NamedPaths.{has_named_source}
 use Rattle.dump_cut.proofs.FollowedLemmas.{behind_named, named_shown}
 use Rattle.dump_cut.proofs.ReturnedLemmas.{ok_then, paths_behind}
 use Rattle.dump_cut.proofs.deletes.lost_paths.Goals as goal

@@ -1,7 +1,7 @@
 use Rattle.std.proofs.Common.{◌≡◌, ◌++◌, List, Vec, Global, ℕ, map, filter, ap, ap₂, ◌∙◌, append_assoc}
 use Rattle.std.proofs.lemmas.Iterator.Consumers.{YieldsList-end, YieldsList-from_rest}
 use Rattle.dump_trees.specs.Paths.{NodePath, names_of}
-use Rattle.dump_cut.specs.CutAlike.{covered_alone, is_covered_by_one}
+use Rattle.dump_cut.specs.steps.CutAlike.{covered_alone, is_covered_by_one}
 use Rattle.dump_cut.specs.steps.ExcludedPaths.{paths_of}
 use Rattle.dump_cut.proofs.RangeLemmas.{shown_twice}
 use Rattle.dump_cut.proofs.differences.cut_differences.Goals as goal

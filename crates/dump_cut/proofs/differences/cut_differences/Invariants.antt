@@ -1,6 +1,6 @@
 use Rattle.std.proofs.Common.{◌≡◌, ◌++◌, map, filter}
 use Rattle.dump_trees.specs.Paths.{names_of}
-use Rattle.dump_cut.specs.CutAlike.{is_covered_by_one}
+use Rattle.dump_cut.specs.steps.CutAlike.{is_covered_by_one}
 use Rattle.dump_cut.specs.steps.ExcludedPaths.{paths_of}
 use Rattle.dump_cut.proofs.differences.cut_differences.Given as goal
 

@@ -3,7 +3,7 @@ use Rattle.std.specs.List.{list_all}
 use Rattle.std.proofs.lemmas.List.{take_all}
 use Rattle.dump_trees.specs.Paths.{NodePath, names_of}
 use Rattle.dump_trees.specs.Siblings.{has_node_names}
-use Rattle.dump_cut.specs.CutAlike.{is_alone}
+use Rattle.dump_cut.specs.steps.CutAlike.{is_alone}
 use Rattle.dump_cut.specs.steps.ExcludedPaths.{paths_of}
 use Rattle.dump_cut.proofs.DifferenceLemmas.{bare_text, seen_paths}
 use Rattle.dump_cut.proofs.differences.push_alone.Goals as goal

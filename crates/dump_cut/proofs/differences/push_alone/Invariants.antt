@@ -1,6 +1,6 @@
 use Rattle.std.proofs.Common.{◌≡◌, ◌++◌, map, take, filter}
 use Rattle.dump_trees.specs.Paths.{names_of}
-use Rattle.dump_cut.specs.CutAlike.{is_alone}
+use Rattle.dump_cut.specs.steps.CutAlike.{is_alone}
 use Rattle.dump_cut.specs.steps.ExcludedPaths.{paths_of}
 use Rattle.dump_cut.proofs.differences.push_alone.Given as goal
 

@@ -1,5 +1,5 @@
 use Rattle.std.proofs.Common.{◌||◌, ap, ◌∙◌, arith, bytes_eq, take}
-use Rattle.dump_index.specs.Children.{is_child_named}
+use Rattle.dump_index.specs.steps.Children.{is_child_named}
 use Rattle.dump_index.specs.steps.Names.{texts_of}
 use Rattle.dump_index.proofs.ChildLemmas.{pushed_named}
 use Rattle.dump_cut.proofs.DirectoryLemmas.{front_all, front_more, front_same, is_front_within}

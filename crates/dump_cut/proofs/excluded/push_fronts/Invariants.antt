@@ -1,5 +1,5 @@
 use Rattle.std.proofs.Common.{◌≡◌, ◌||◌, ℕ, List}
-use Rattle.dump_index.specs.Children.{is_child_named}
+use Rattle.dump_index.specs.steps.Children.{is_child_named}
 use Rattle.dump_index.specs.steps.Names.{texts_of}
 use Rattle.dump_cut.proofs.DirectoryLemmas.{is_front_within}
 use Rattle.dump_cut.proofs.excluded.push_fronts.Given as goal

@@ -1,11 +1,10 @@
 use Rattle.std.proofs.Common.{◌≡◌, [], ◌∷◌, true, arith, get_or, length, map, take, sym, ap, subst, ◌∙◌}
 use Rattle.std.proofs.lemmas.List.{length-map, take_more, map-append}
 use Rattle.dump_trees.specs.Returns.{is_covered}
-use Rattle.dump_cut.specs.steps.FollowedPaths.{IsIdle}
+use Rattle.dump_cut.specs.steps.FollowedPaths.{IsIdle, added_paths}
 use Rattle.std.specs.Prelude.{Contains}
 use Rattle.dump_trees.specs.Paths.{names_of}
 use Rattle.dump_cut.specs.steps.ExcludedPaths.{paths_of}
-use Rattle.dump_cut.specs.steps.FollowedPaths.{added_paths}
 use Rattle.dump_cut.proofs.FollowedLemmas.{contains_at, grows_step, idle_more, kept_step, not_shorter, placed_more, unadded}
 use Rattle.dump_cut.proofs.followed.add_paths.Goals as goal
 

@@ -2,10 +2,9 @@ use Rattle.std.proofs.Common.{◌≡◌, ◌≤◌, List, length, map, take, tru
 use Rattle.dump_trees.specs.Following.{Way}
 use Rattle.dump_trees.specs.Paths.{NodePath, names_of}
 use Rattle.dump_trees.specs.Returns.{is_covered}
-use Rattle.dump_index.specs.Listed.{Listed}
+use Rattle.dump_index.specs.steps.Listed.{Listed}
 use Rattle.dump_cut.specs.steps.ExcludedPaths.{paths_of}
-use Rattle.dump_cut.specs.steps.FollowedPaths.{added_paths}
-use Rattle.dump_cut.specs.steps.FollowedPaths.{AreFollowedTo, ArePlaced, IsIdle, KeepsFollowing}
+use Rattle.dump_cut.specs.steps.FollowedPaths.{added_paths, AreFollowedTo, ArePlaced, IsIdle, KeepsFollowing}
 use Rattle.dump_cut.proofs.followed.add_paths.Given as goal
 
 abbrev pub invariant-loop-path : goal.invariant-loop-path

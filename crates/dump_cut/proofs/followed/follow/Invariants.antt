@@ -1,4 +1,4 @@
-use Rattle.dump_cut.specs.FollowedCopies.{ComeByFollowing}
+use Rattle.dump_cut.specs.steps.FollowedCopies.{ComeByFollowing}
 use Rattle.dump_cut.specs.steps.ExcludedPaths.{paths_of}
 use Rattle.dump_cut.specs.steps.FollowedPaths.{ArePlaced, added_paths}
 use Rattle.dump_cut.specs.steps.Returned.{way_meant}

@@ -1,17 +1,17 @@
 use Rattle.std.proofs.Common.{◌≡◌, ◌<◌, [], arith, length, map, sym, ap, subst, ◌∙◌}
 use Rattle.std.specs.List.{AllZip, list_all, slice_get}
 use Rattle.std.proofs.lemmas.List.{length-map}
-use Rattle.dump_index.specs.IndexLaws.{IsListed}
-use Rattle.dump_index.specs.Listed.{listed_of}
-use Rattle.dump_index.specs.ToldKinds.{kinds_told_by}
+use Rattle.dump_index.specs.steps.IndexLaws.{IsListed}
+use Rattle.dump_index.specs.steps.Listed.{listed_of}
+use Rattle.dump_index.specs.steps.ToldKinds.{kinds_told_by}
 use Rattle.dump_index.proofs.KeyLemmas.{listed_at}
-use Rattle.dump_trees.specs.FollowedRests.{rests_at}
+use Rattle.dump_trees.specs.steps.FollowedRests.{rests_at}
 use Rattle.dump_trees.specs.Paths.{names_of}
 use Rattle.dump_trees.specs.Returns.{is_covered}
 use Rattle.dump_cut.specs.steps.ExcludedPaths.{paths_of}
 use Rattle.dump_cut.specs.steps.FollowedPaths.{AreFollowedTo}
 use Rattle.dump_cut.specs.steps.Returned.{way_meant}
-use Rattle.dump_cut.specs.NamedPaths.{has_named_paths}
+use Rattle.dump_cut.specs.steps.NamedPaths.{has_named_paths}
 use Rattle.dump_cut.proofs.CheckLemmas.{named_at, stands_at}
 use Rattle.dump_cut.proofs.FollowedLemmas.{none_there, nothing_made}
 use Rattle.dump_cut.proofs.followed.follow_at.Goals as goal

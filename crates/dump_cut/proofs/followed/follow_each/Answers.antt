@@ -1,7 +1,7 @@
 use Rattle.std.proofs.Common.{◌≡◌, [], arith, length, sym, subst, ◌∙◌}
 use Rattle.std.specs.List.{slice_get}
-use Rattle.dump_index.specs.ToldKinds.{kinds_told_by}
-use Rattle.dump_trees.specs.FollowedRests.{rests_at}
+use Rattle.dump_index.specs.steps.ToldKinds.{kinds_told_by}
+use Rattle.dump_trees.specs.steps.FollowedRests.{rests_at}
 use Rattle.dump_cut.specs.steps.ExcludedPaths.{paths_of}
 use Rattle.dump_cut.specs.steps.FollowedPaths.{added_paths, place_at_turn}
 use Rattle.dump_cut.specs.steps.Returned.{way_meant}

@@ -1,9 +1,9 @@
 use Rattle.std.proofs.Common.{◌≡◌, ◌<◌, ◌≤◌, [], ℕ, List, length}
 use Rattle.std.specs.List.{AllZip, slice_get}
-use Rattle.dump_trees.specs.FollowedRests.{rests_at}
-use Rattle.dump_trees.specs.Looking.{Placed}
-use Rattle.dump_index.specs.IndexLaws.{IsListed}
-use Rattle.dump_index.specs.ToldKinds.{kinds_told_by}
+use Rattle.dump_trees.specs.steps.FollowedRests.{rests_at}
+use Rattle.dump_trees.specs.steps.Looking.{Placed}
+use Rattle.dump_index.specs.steps.IndexLaws.{IsListed}
+use Rattle.dump_index.specs.steps.ToldKinds.{kinds_told_by}
 use Rattle.dump_cut.specs.steps.ExcludedPaths.{paths_of}
 use Rattle.dump_cut.specs.steps.FollowedPaths.{ArePlaced, KeepsFollowing, added_paths, place_at_turn}
 use Rattle.dump_cut.specs.steps.Returned.{way_meant}

@@ -1,9 +1,9 @@
 use Rattle.std.proofs.Common.{refl, map}
-use Rattle.dump_trees.specs.Looking.{placed_from}
+use Rattle.dump_trees.specs.steps.Looking.{placed_from}
 use Rattle.dump_trees.proofs.cuts.FollowLemmas.{following_is_least}
 use Rattle.dump_trees.proofs.cuts.RestLemmas.{all_rests_are_listed}
-use Rattle.dump_index.specs.Listed.{listed_of}
-use Rattle.dump_index.specs.ToldKinds.{kinds_told_by}
+use Rattle.dump_index.specs.steps.Listed.{listed_of}
+use Rattle.dump_index.specs.steps.ToldKinds.{kinds_told_by}
 use Rattle.dump_index.proofs.ToldLemmas.{index_tells_kinds}
 use Rattle.dump_cut.proofs.laws.followed_paths_are_least.Goals as goal
 

@@ -1,10 +1,10 @@
 use Rattle.std.proofs.Common.{◌≡◌, length, sym, ap, refl, ◌∙◌, subst, arith, below_more}
 use Rattle.std.proofs.lemmas.List.{length-map}
 use Rattle.std.specs.List.{AllZip, list_all}
-use Rattle.dump_index.specs.IndexLaws.{IsListed}
-use Rattle.dump_index.specs.Listed.{listed_of}
-use Rattle.dump_index.specs.ToldKinds.{kinds_told_by}
-use Rattle.dump_cut.specs.NamedPaths.{has_named_paths}
+use Rattle.dump_index.specs.steps.IndexLaws.{IsListed}
+use Rattle.dump_index.specs.steps.Listed.{listed_of}
+use Rattle.dump_index.specs.steps.ToldKinds.{kinds_told_by}
+use Rattle.dump_cut.specs.steps.NamedPaths.{has_named_paths}
 use Rattle.dump_cut.proofs.CheckLemmas.{named_at, reason_is, same_length, stands_at}
 use Rattle.dump_cut.proofs.SeenLemmas.{are_for, known_length, known_next, same_listed, both_next, told_before}
 use Rattle.dump_cut.proofs.load_check.first_rejected.Goals as goal

@@ -1,10 +1,10 @@
 use Rattle.std.proofs.Common.{◌≡◌, List, length}
 use Rattle.std.specs.List.{AllZip}
-use Rattle.dump_trees.specs.Looking.{Placed}
-use Rattle.dump_index.specs.IndexLaws.{IsListed}
-use Rattle.dump_index.specs.ToldKinds.{kinds_told_by}
+use Rattle.dump_trees.specs.steps.Looking.{Placed}
+use Rattle.dump_index.specs.steps.IndexLaws.{IsListed}
+use Rattle.dump_index.specs.steps.ToldKinds.{kinds_told_by}
 use Rattle.dump_index.specs.steps.KnownKinds.{AreKindsBehind}
-use Rattle.dump_cut.specs.LoadChecks.{NoneRejected}
+use Rattle.dump_cut.specs.steps.LoadChecks.{NoneRejected}
 use Rattle.dump_cut.specs.steps.KindsBefore.{AreSeen}
 use Rattle.dump_cut.proofs.load_check.first_rejected.Given as goal
 

@@ -2,8 +2,8 @@ use Rattle.std.proofs.Common.{option_map}
 use Rattle.std.proofs.lemmas.Bool.{and_parts}
 use Rattle.dump_trees.specs.Paths.{names_of}
 use Rattle.dump_trees.specs.Siblings.{has_node_names}
-use Rattle.dump_index.specs.Listed.{listed_made}
-use Rattle.dump_cut.specs.NamedPaths.{has_named_source}
+use Rattle.dump_index.specs.steps.Listed.{listed_made}
+use Rattle.dump_cut.specs.steps.NamedPaths.{has_named_source}
 use Rattle.dump_cut.proofs.ParentLemmas.{ends_named}
 use Rattle.dump_cut.proofs.load_check.kinds_before.Goals as goal
 

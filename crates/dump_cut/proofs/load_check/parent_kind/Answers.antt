@@ -1,7 +1,7 @@
 use Rattle.std.proofs.Common.{length, option_and_then, sym, ap, ◌∙◌}
 use Rattle.dump_trees.specs.Paths.{names_of}
 use Rattle.dump_trees.specs.Siblings.{has_node_names}
-use Rattle.dump_index.specs.Kinds.{kind_look}
+use Rattle.dump_index.specs.steps.Kinds.{kind_look}
 use Rattle.dump_cut.proofs.ParentLemmas.{ends_named, parent_named}
 use Rattle.dump_cut.proofs.RejectionLemmas.{in_ok}
 use Rattle.dump_cut.proofs.load_check.parent_kind.Goals as goal

@@ -6,7 +6,7 @@ use Rattle.dump_trees.specs.CanonicalPaths.{canonical_path}
 use Rattle.dump_trees.specs.Paths.{NodePath, names_of}
 use Rattle.dump_trees.specs.Siblings.{has_node_names}
 use Rattle.dump_trees.proofs.cuts.CoveredPaths.{all_has, contains_none}
-use Rattle.dump_cut.specs.NamedLines.{is_left_by}
+use Rattle.dump_cut.specs.steps.NamedLines.{is_left_by}
 use Rattle.dump_cut.specs.steps.ExcludedPaths.{paths_of}
 use Rattle.dump_cut.proofs.FollowedLemmas.{contains_at}
 use Rattle.dump_cut.proofs.MergePathLemmas.{named_canonical}

@@ -1,7 +1,7 @@
 use Rattle.std.proofs.Common.{◌≡◌, map, true}
 use Rattle.std.specs.Prelude.{Contains}
 use Rattle.dump_trees.specs.Paths.{NodePath, names_of}
-use Rattle.dump_cut.specs.NamedLines.{is_left_by}
+use Rattle.dump_cut.specs.steps.NamedLines.{is_left_by}
 use Rattle.dump_cut.specs.steps.ExcludedPaths.{paths_of}
 use Rattle.dump_cut.specs.steps.MoreSiblings.{AreMore}
 use Rattle.dump_cut.proofs.named_siblings.add_named_siblings.Given as goal

@@ -7,10 +7,11 @@ use Rattle.std.specs.Slice.Iter.{split_rest, split_done, split_callee}
 use Rattle.dump_trees.specs.CanonicalPaths.{canonical_path}
 use Rattle.dump_trees.specs.Paths.{names_of}
 use Rattle.dump_trees.specs.Returns.{is_covered}
-use Rattle.dump_trees.specs.Siblings.{has_node_names, is_in_cut, is_node_name}
+use Rattle.dump_trees.specs.Siblings.{has_node_names, is_node_name}
+use Rattle.dump_trees.specs.steps.Siblings.{is_in_cut}
 use Rattle.dump_trees.proofs.paths.PathNames.{split}
 use Rattle.dump_trees.proofs.paths.PrefixPaths.{split_names}
-use Rattle.dump_cut.specs.NamedLines.{is_left_by}
+use Rattle.dump_cut.specs.steps.NamedLines.{is_left_by}
 use Rattle.dump_cut.specs.steps.ExcludedPaths.{IsGrownIf, paths_of}
 use Rattle.dump_cut.specs.steps.MoreSiblings.{AreMore}
 use Rattle.dump_cut.proofs.NamedSiblings.{added_on_way, more_then, next_names, pushed_named_path, same_more}

@@ -1,7 +1,8 @@
 use Rattle.std.proofs.Common.{◌≡◌, filter, length, nat_eq, take, true}
 use Rattle.std.specs.List.{slice_split}
 use Rattle.dump_trees.specs.Paths.{names_of}
-use Rattle.dump_trees.specs.Siblings.{is_in_cut, is_node_name}
+use Rattle.dump_trees.specs.Siblings.{is_node_name}
+use Rattle.dump_trees.specs.steps.Siblings.{is_in_cut}
 use Rattle.dump_cut.specs.steps.ExcludedPaths.{paths_of}
 use Rattle.dump_cut.proofs.named_siblings.add_on_way.Given as goal
 

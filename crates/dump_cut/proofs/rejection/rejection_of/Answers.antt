@@ -1,9 +1,9 @@
 use Rattle.std.proofs.Common.{◌≡◌, Option, None, sym, ap, ◌∙◌}
-use Rattle.dump_trees.specs.LoadCheck.{kind_made}
+use Rattle.dump_trees.specs.steps.LoadCheck.{kind_made}
 use Rattle.dump_trees.specs.Paths.{names_of}
 use Rattle.dump_trees.specs.Restriction.{is_root}
-use Rattle.dump_index.specs.Listed.{listed_of}
-use Rattle.dump_cut.specs.Rejections.{first_reason, making_rejected, setting_rejected}
+use Rattle.dump_index.specs.steps.Listed.{listed_of}
+use Rattle.dump_cut.specs.steps.Rejections.{first_reason, making_rejected, setting_rejected}
 use Rattle.dump_cut.specs.steps.KindViews.{kinds_meant, sets_some}
 use Rattle.dump_cut.specs.declared.rejection.Rejection.{Rejection}
 use Rattle.dump_cut.proofs.RejectionLemmas.{listed_rejected}

@@ -1,13 +1,13 @@
 use Rattle.std.proofs.Common.{◌≡◌, arith, length, sym, ap, ◌∙◌, subst}
 use Rattle.std.proofs.lemmas.List.{length-map}
 use Rattle.std.specs.List.{AllZip, list_all}
-use Rattle.dump_index.specs.IndexLaws.{IsListed}
-use Rattle.dump_index.specs.Listed.{listed_of}
-use Rattle.dump_index.specs.ToldKinds.{kinds_told_by}
+use Rattle.dump_index.specs.steps.IndexLaws.{IsListed}
+use Rattle.dump_index.specs.steps.Listed.{listed_of}
+use Rattle.dump_index.specs.steps.ToldKinds.{kinds_told_by}
 use Rattle.dump_cut.specs.steps.ExcludedPaths.{paths_of}
-use Rattle.dump_trees.specs.FollowedRests.{all_rests}
+use Rattle.dump_trees.specs.steps.FollowedRests.{all_rests}
 use Rattle.dump_cut.specs.steps.Returned.{way_meant}
-use Rattle.dump_cut.specs.NamedPaths.{has_named_paths}
+use Rattle.dump_cut.specs.steps.NamedPaths.{has_named_paths}
 use Rattle.dump_cut.proofs.CheckLemmas.{named_at, same_length, stands_at}
 use Rattle.dump_cut.proofs.ReturnedLemmas.{rests_next}
 use Rattle.dump_cut.proofs.returns.all_followed.Goals as goal

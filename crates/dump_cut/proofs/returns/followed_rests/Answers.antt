@@ -2,13 +2,14 @@ use Rattle.std.proofs.Common.{◌≡◌, ◌++◌, ◌&&◌, take, filter, is_so
 use Rattle.std.proofs.lemmas.List.{take_all}
 use Rattle.dump_trees.specs.Following.{from_of}
 use Rattle.dump_trees.specs.Paths.{names_of}
-use Rattle.dump_trees.specs.Returns.{is_covered, rests_covered}
-use Rattle.dump_index.specs.ToldKinds.{kinds_told_by}
+use Rattle.dump_trees.specs.Returns.{is_covered}
+use Rattle.dump_trees.specs.steps.Returns.{rests_covered}
+use Rattle.dump_index.specs.steps.ToldKinds.{kinds_told_by}
 use Rattle.dump_index.proofs.LawLemmas.{end_same}
 use Rattle.dump_cut.specs.steps.ExcludedPaths.{paths_of}
 use Rattle.dump_cut.specs.steps.Returned.{way_meant}
 use Rattle.std.specs.List.{list_all}
-use Rattle.dump_index.specs.InOrder.{ends_in_slash}
+use Rattle.dump_index.specs.steps.InOrder.{ends_in_slash}
 use Rattle.dump_trees.specs.Siblings.{has_node_names}
 use Rattle.dump_cut.proofs.FollowedLemmas.{filtered_named, named_shown}
 use Rattle.dump_cut.proofs.ParentLemmas.{ends_named}

@@ -1,7 +1,7 @@
 use Rattle.std.proofs.Common.{◌≡◌, ◌++◌, ◌&&◌, not, is_some, filter, map, take}
 use Rattle.dump_trees.specs.Paths.{names_of}
 use Rattle.dump_trees.specs.Returns.{is_covered}
-use Rattle.dump_index.specs.ToldKinds.{kinds_told_by}
+use Rattle.dump_index.specs.steps.ToldKinds.{kinds_told_by}
 use Rattle.dump_cut.specs.steps.ExcludedPaths.{paths_of}
 use Rattle.dump_cut.proofs.returns.followed_rests.Given as goal
 

@@ -1,11 +1,11 @@
 use Rattle.std.proofs.Common.{◌≡◌, ◌++◌, ◌&&◌, not, true, false, is_some, sym, ap, ◌∙◌}
 use Rattle.std.proofs.lemmas.Bool.{and_right}
-use Rattle.dump_index.specs.Kinds.{kind_look}
+use Rattle.dump_index.specs.steps.Kinds.{kind_look}
 use Rattle.dump_cut.proofs.ReturnedLemmas.{kind_some}
 use Rattle.dump_trees.specs.Paths.{names_of}
 use Rattle.dump_trees.specs.Returns.{is_covered}
-use Rattle.dump_index.specs.InOrder.{ends_in_slash}
-use Rattle.dump_index.specs.ToldKinds.{kinds_told_by}
+use Rattle.dump_index.specs.steps.InOrder.{ends_in_slash}
+use Rattle.dump_index.specs.steps.ToldKinds.{kinds_told_by}
 use Rattle.dump_index.proofs.SlashLemmas.{ends_joined, names_joined}
 use Rattle.dump_cut.specs.steps.ExcludedPaths.{paths_of}
 use Rattle.dump_cut.proofs.returns.is_new_there.Goals as goal

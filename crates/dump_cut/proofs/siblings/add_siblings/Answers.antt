@@ -1,8 +1,9 @@
 use Rattle.std.proofs.Common.{◌≡◌, true, [], get_or, not, refl, ◌∙◌, ap, sym, subst}
 use Rattle.dump_trees.specs.Paths.{names_of}
 use Rattle.dump_trees.specs.Returns.{is_covered}
-use Rattle.dump_trees.specs.Siblings.{has_node_names, is_in_cut, is_sibling}
-use Rattle.dump_index.specs.NamesEver.{AreNamesEver}
+use Rattle.dump_trees.specs.Siblings.{has_node_names}
+use Rattle.dump_trees.specs.steps.Siblings.{is_in_cut, is_sibling}
+use Rattle.dump_index.specs.steps.NamesEver.{AreNamesEver}
 use Rattle.dump_index.specs.steps.Names.{texts_of}
 use Rattle.dump_cut.specs.steps.ExcludedPaths.{IsGrownIf, paths_of}
 use Rattle.dump_cut.proofs.FoundSiblings.{AddsChild, adds_none, adds_sibling, child, child_named, child_names, ever_named, one_more}

@@ -2,8 +2,8 @@ use Rattle.std.proofs.Common.{◌≡◌, true, ◌∙◌, ap, subst, take}
 use Rattle.std.proofs.lemmas.List.{take_all}
 use Rattle.dump_rules.specs.Prefix.{bare_path}
 use Rattle.dump_trees.specs.Paths.{names_of, path_text}
-use Rattle.dump_trees.specs.Siblings.{is_above_included}
-use Rattle.dump_index.specs.Children.{is_child_named}
+use Rattle.dump_trees.specs.steps.Siblings.{is_above_included}
+use Rattle.dump_index.specs.steps.Children.{is_child_named}
 use Rattle.dump_index.specs.steps.Names.{texts_of}
 use Rattle.dump_cut.specs.steps.ExcludedPaths.{paths_of}
 use Rattle.dump_cut.specs.steps.MoreSiblings.{CoversSiblingsIn}

@@ -1,8 +1,8 @@
 use Rattle.std.proofs.Common.{◌≡◌, ℕ, List, true, take}
 use Rattle.std.specs.List.{list_all}
 use Rattle.dump_trees.specs.Paths.{names_of}
-use Rattle.dump_trees.specs.Siblings.{is_sibling}
-use Rattle.dump_index.specs.Children.{is_child_named}
+use Rattle.dump_trees.specs.steps.Siblings.{is_sibling}
+use Rattle.dump_index.specs.steps.Children.{is_child_named}
 use Rattle.dump_index.specs.steps.Names.{texts_of}
 use Rattle.dump_cut.specs.steps.ExcludedPaths.{paths_of}
 use Rattle.dump_cut.specs.steps.MoreSiblings.{CoversSiblingsIn}

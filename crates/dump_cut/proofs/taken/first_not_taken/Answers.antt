@@ -1,11 +1,11 @@
 use Rattle.std.proofs.Common.{◌≡◌, arith, below_more, length, sym, ap, ◌∙◌, subst}
 use Rattle.std.proofs.lemmas.List.{length-map}
 use Rattle.std.specs.List.{AllZip, list_all}
-use Rattle.dump_index.specs.IndexLaws.{IsListed}
-use Rattle.dump_index.specs.Listed.{listed_of}
-use Rattle.dump_index.specs.ToldKinds.{kinds_told_by}
+use Rattle.dump_index.specs.steps.IndexLaws.{IsListed}
+use Rattle.dump_index.specs.steps.Listed.{listed_of}
+use Rattle.dump_index.specs.steps.ToldKinds.{kinds_told_by}
 use Rattle.dump_cut.specs.steps.ExcludedPaths.{paths_of}
-use Rattle.dump_cut.specs.NamedPaths.{has_named_paths}
+use Rattle.dump_cut.specs.steps.NamedPaths.{has_named_paths}
 use Rattle.dump_cut.proofs.CheckLemmas.{named_at, same_length, stands_at}
 use Rattle.dump_cut.proofs.ReturnedLemmas.{taken_there}
 use Rattle.dump_cut.proofs.taken.first_not_taken.Goals as goal

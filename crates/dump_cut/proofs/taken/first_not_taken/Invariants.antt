@@ -1,10 +1,10 @@
 use Rattle.std.proofs.Common.{List}
 use Rattle.std.specs.List.{AllZip}
-use Rattle.dump_trees.specs.Looking.{Placed}
-use Rattle.dump_index.specs.IndexLaws.{IsListed}
-use Rattle.dump_index.specs.ToldKinds.{kinds_told_by}
+use Rattle.dump_trees.specs.steps.Looking.{Placed}
+use Rattle.dump_index.specs.steps.IndexLaws.{IsListed}
+use Rattle.dump_index.specs.steps.ToldKinds.{kinds_told_by}
 use Rattle.dump_cut.specs.steps.ExcludedPaths.{paths_of}
-use Rattle.dump_cut.specs.TakenCopies.{AllTaken}
+use Rattle.dump_cut.specs.steps.TakenCopies.{AllTaken}
 use Rattle.dump_cut.proofs.taken.first_not_taken.Given as goal
 
 abbrev pub invariant-loop-place : goal.invariant-loop-place

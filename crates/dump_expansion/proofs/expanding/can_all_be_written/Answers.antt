@@ -3,7 +3,7 @@ use Rattle.std.proofs.lemmas.Grind.{common_steps}
 use Rattle.std.proofs.lemmas.List.Folds.{list_all-map}
 use Rattle.std.specs.List.{list_all}
 use Rattle.dump_history.specs.WrittenNodes.{can_be_written}
-use Rattle.dump_expansion.specs.GivenSteads.{GivenStead}
+use Rattle.dump_expansion.specs.steps.GivenSteads.{GivenStead}
 use Rattle.dump_expansion.specs.steps.Given.{given_of}
 use Rattle.dump_expansion.specs.declared.expanding.Stead.{Stead}
 use Rattle.dump_expansion.proofs.expanding.can_all_be_written.Goals as goal

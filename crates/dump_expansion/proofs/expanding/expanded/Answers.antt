@@ -2,7 +2,7 @@ use Rattle.std.proofs.Common.{◌≡◌, ◌==◌, ◌≤◌, false, ◌∷◌, 
 use Rattle.std.proofs.lemmas.List.{nil_from_length, take_rest}
 use Rattle.dump_records.specs.declared.cutter.Cut.{Cut}
 use Rattle.dump_records.specs.steps.RecordViews.{CutStep, record_item}
-use Rattle.dump_expansion.specs.GivenSteads.{GivenStead}
+use Rattle.dump_expansion.specs.steps.GivenSteads.{GivenStead}
 use Rattle.dump_expansion.specs.steps.ExpandedBytes.{IsExactlyExpandedBy}
 use Rattle.dump_expansion.specs.steps.Given.{given_of}
 use Rattle.dump_expansion.specs.steps.NewNodes.{written_of}

@@ -1,6 +1,6 @@
 use Rattle.std.proofs.Common.{map, rules}
 use Rattle.std.proofs.lemmas.List.Sorted.{IsPartitionPoint-from_clause}
-use Rattle.dump_index.specs.Listed.{listed_of}
+use Rattle.dump_index.specs.steps.Listed.{listed_of}
 use Rattle.dump_index.proofs.WalkLemmas.{is_key_up_to, up_to_parted, is_behind}
 use Rattle.dump_index.proofs.order.behind.Goals as goal
 

@@ -2,7 +2,7 @@ use Rattle.std.proofs.Common.{◌≡◌, ◌∷◌, ◌++◌, List, ℕ, [], All
 use Rattle.std.proofs.lemmas.List.{map-append}
 use Rattle.std.proofs.lemmas.List.Elements.{All-push}
 use Rattle.std.proofs.lemmas.Result.{OkIff-at_ok}
-use Rattle.dump_index.specs.Listed.{listed_of}
+use Rattle.dump_index.specs.steps.Listed.{listed_of}
 use Rattle.dump_index.specs.declared.order.Key.{Key}
 use Rattle.dump_index.specs.steps.Keys.{AreFirstPlaces, IsKeyIn, path_there, place_of}
 use Rattle.dump_index.proofs.KeyLemmas.{places_more, listed_at}

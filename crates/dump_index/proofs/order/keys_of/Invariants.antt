@@ -1,5 +1,5 @@
 use Rattle.std.proofs.Common.{All, map}
-use Rattle.dump_index.specs.Listed.{listed_of}
+use Rattle.dump_index.specs.steps.Listed.{listed_of}
 use Rattle.dump_index.specs.steps.Keys.{AreFirstPlaces, IsKeyIn, place_of}
 use Rattle.dump_index.proofs.order.keys_of.Given as goal
 

@@ -1,6 +1,6 @@
 use Rattle.dump_changes.proofs.Prelude.{ℕ, record_item}
-use Rattle.dump_index.specs.IndexLaws.{IsListed}
-use Rattle.dump_index.specs.Listed.{listed_of}
+use Rattle.dump_index.specs.steps.IndexLaws.{IsListed}
+use Rattle.dump_index.specs.steps.Listed.{listed_of}
 use Rattle.std.proofs.Common.{subst}
 use Rattle.dump_changes.proofs.StepLemmas.{node_reads}
 use Rattle.dump_changes.proofs.read.Position.node.Goals as goal

@@ -1,6 +1,6 @@
 use Rattle.dump_changes.proofs.Prelude.{refl, sym, record_item}
 use Rattle.dump_filter.proofs.groups.KindLemmas.{found_kind}
-use Rattle.dump_changes.specs.ListedDumps.{OtherRecord}
+use Rattle.dump_changes.specs.steps.ListedDumps.{OtherRecord}
 use Rattle.dump_changes.proofs.StepLemmas.{is_other}
 use Rattle.dump_changes.proofs.read.Position.step.Goals as goal
 

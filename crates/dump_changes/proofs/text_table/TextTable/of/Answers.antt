@@ -1,6 +1,6 @@
 use Rattle.std.proofs.Common.{subst, arith}
 use Rattle.dump_records.specs.declared.cutter.Cut.{Cut}
-use Rattle.dump_changes.specs.FileTexts.{told_text}
+use Rattle.dump_changes.specs.steps.FileTexts.{told_text}
 use Rattle.dump_changes.specs.steps.StoredTexts.{told_of}
 use Rattle.dump_records.proofs.CutterLemmas.{read_nearer}
 use Rattle.dump_changes.proofs.Prelude.{CutStep}

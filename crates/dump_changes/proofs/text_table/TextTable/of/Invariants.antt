@@ -1,5 +1,5 @@
 use Rattle.std.proofs.Common.{◌-◌, length}
-use Rattle.dump_changes.specs.FileTexts.{told_text}
+use Rattle.dump_changes.specs.steps.FileTexts.{told_text}
 use Rattle.dump_changes.specs.steps.StoredTexts.{told_of}
 use Rattle.dump_changes.proofs.TableLemmas.{PartsSoFar}
 use Rattle.dump_changes.proofs.text_table.TextTable.of.Given as goal

@@ -2,11 +2,11 @@ use Rattle.std.proofs.Common.{◌≡◌, true, arith, length, map, sym, ap, ◌�
 use Rattle.std.proofs.lemmas.List.{length-map}
 use Rattle.std.specs.List.{AllZip, list_all}
 use Rattle.dump_history.specs.WrittenNodes.{is_plain_path}
-use Rattle.dump_index.specs.IndexLaws.{IsListed}
-use Rattle.dump_index.specs.Listed.{listed_of}
-use Rattle.dump_index.specs.ToldKinds.{kinds_told_by}
+use Rattle.dump_index.specs.steps.IndexLaws.{IsListed}
+use Rattle.dump_index.specs.steps.Listed.{listed_of}
+use Rattle.dump_index.specs.steps.ToldKinds.{kinds_told_by}
 use Rattle.dump_trees.specs.Returns.{is_covered}
-use Rattle.dump_cut.specs.NamedPaths.{has_named_paths}
+use Rattle.dump_cut.specs.steps.NamedPaths.{has_named_paths}
 use Rattle.dump_cut.specs.steps.ExcludedPaths.{paths_of}
 use Rattle.dump_cut.proofs.CheckLemmas.{named_at, same_length, stands_at}
 use Rattle.dump_cut.proofs.FoundDeletes.{all_deletes, lost_told, none_there, one_shown, plain_more, some_there}

@@ -1,9 +1,9 @@
 use Rattle.std.proofs.Common.{◌≡◌, List, true}
 use Rattle.std.specs.List.{AllZip}
-use Rattle.dump_trees.specs.Looking.{Placed}
-use Rattle.dump_index.specs.IndexLaws.{IsListed}
-use Rattle.dump_index.specs.ToldKinds.{kinds_told_by}
-use Rattle.dump_cut.specs.TrimmedCopies.{are_plain}
+use Rattle.dump_trees.specs.steps.Looking.{Placed}
+use Rattle.dump_index.specs.steps.IndexLaws.{IsListed}
+use Rattle.dump_index.specs.steps.ToldKinds.{kinds_told_by}
+use Rattle.dump_cut.specs.steps.TrimmedCopies.{are_plain}
 use Rattle.dump_cut.specs.steps.Deletes.{delete_texts_of}
 use Rattle.dump_cut.specs.steps.ExcludedPaths.{paths_of}
 use Rattle.dump_cut.proofs.FoundDeletes.{AreDeletesUpTo}

@@ -1,5 +1,5 @@
 use Rattle.std.proofs.Common.{ap, ◌∙◌}
-use Rattle.dump_cut.specs.TrimmedCopies.{are_plain}
+use Rattle.dump_cut.specs.steps.TrimmedCopies.{are_plain}
 use Rattle.dump_cut.specs.steps.Deletes.{delete_texts_of}
 use Rattle.dump_cut.proofs.FoundDeletes.{plain_shown}
 use Rattle.dump_cut.proofs.deletes.Deletes.write_behind.Goals as goal

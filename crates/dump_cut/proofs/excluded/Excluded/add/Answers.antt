@@ -1,6 +1,6 @@
 use Rattle.std.proofs.Common.{◌≡◌, [], map, not, filter, ◌==◌, false, rules, refl, sym, ap, subst, ◌∙◌}
 use Rattle.std.proofs.lemmas.Fn.{filter_same}
-use Rattle.dump_trees.specs.Following.{IsGrown}
+use Rattle.dump_trees.specs.steps.Following.{IsGrown}
 use Rattle.dump_trees.specs.Paths.{names_of}
 use Rattle.dump_trees.specs.Returns.{is_covered}
 use Rattle.dump_cut.specs.steps.ExcludedPaths.{paths_of}

@@ -2,8 +2,8 @@ use Rattle.std.proofs.Common.{◌||◌, [], bytes_eq, map, ap, sym, ◌∙◌}
 use Rattle.std.specs.List.{list_any}
 use Rattle.std.proofs.lemmas.Iterator.Consumers.{YieldsList-end, YieldsList-from_rest}
 use Rattle.std.proofs.lemmas.List.Filters.{dedup_is}
-use Rattle.dump_index.specs.Children.{is_child_named}
-use Rattle.dump_index.specs.Effects.{goes_on}
+use Rattle.dump_index.specs.steps.Children.{is_child_named}
+use Rattle.dump_index.specs.steps.Effects.{goes_on}
 use Rattle.dump_index.specs.steps.Names.{texts_of}
 use Rattle.dump_index.proofs.ChildLemmas.{dedup_named, moved_named}
 use Rattle.dump_cut.proofs.DirectoryLemmas.{above_texts, once_ordered}

@@ -1,7 +1,7 @@
 use Rattle.std.proofs.Common.{◌≡◌, ◌||◌, ℕ, List, [], bytes_eq, map}
 use Rattle.std.specs.List.{list_any}
-use Rattle.dump_index.specs.Children.{is_child_named}
-use Rattle.dump_index.specs.Effects.{goes_on}
+use Rattle.dump_index.specs.steps.Children.{is_child_named}
+use Rattle.dump_index.specs.steps.Effects.{goes_on}
 use Rattle.dump_index.specs.steps.Names.{texts_of}
 use Rattle.dump_cut.proofs.excluded.Excluded.directories_above.Given as goal
 

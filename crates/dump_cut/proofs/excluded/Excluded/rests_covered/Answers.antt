@@ -1,8 +1,8 @@
 use Rattle.std.proofs.Common.{ℕ, List, [], ◌∷◌, map, not, cond, sym, ap, ◌∙◌}
 use Rattle.std.specs.List.{list_all}
 use Rattle.dump_trees.specs.Paths.{names_of}
-use Rattle.dump_trees.specs.Returns.{rests_below}
-use Rattle.dump_index.specs.InOrder.{ends_in_slash}
+use Rattle.dump_trees.specs.steps.Returns.{rests_below}
+use Rattle.dump_index.specs.steps.InOrder.{ends_in_slash}
 use Rattle.dump_cut.specs.steps.ExcludedPaths.{paths_of}
 use Rattle.dump_trees.specs.Siblings.{has_node_names}
 use Rattle.dump_cut.proofs.FollowedLemmas.{named_below, named_shown}

@@ -1,6 +1,7 @@
 use Rattle.std.proofs.Common.{◌≡◌, ℕ, List, ◌++◌, map, OnOk, option_copied, sym, ap, ◌∙◌, subst}
 use Rattle.dump_text.specs.PropertyList.{property_block_text}
-use Rattle.dump_history.specs.WrittenNodes.{WrittenNode, node_bytes}
+use Rattle.dump_history.specs.WrittenNodes.{WrittenNode}
+use Rattle.dump_history.specs.steps.WrittenNodes.{node_bytes}
 use Rattle.dump_changes.specs.steps.ChangedProperties.{as_property}
 use Rattle.dump_expansion.specs.steps.NewNodes.{written_of}
 use Rattle.dump_expansion.specs.declared.written_node.NewNode.{NewNode}

@@ -3,9 +3,9 @@ use Rattle.std.proofs.lemmas.Result.{IfOk-weaker}
 use Rattle.std.proofs.lemmas.List.Filters.{dedup_is}
 use Rattle.std.specs.List.{filter}
 use Rattle.dump_trees.specs.Paths.{names_of}
-use Rattle.dump_trees.specs.Listing.{names_look}
-use Rattle.dump_index.specs.Listed.{all_placed}
-use Rattle.dump_index.specs.Children.{AreChildren, is_child_named, stands_in}
+use Rattle.dump_trees.specs.steps.Listing.{names_look}
+use Rattle.dump_index.specs.steps.Listed.{all_placed}
+use Rattle.dump_index.specs.steps.Children.{AreChildren, is_child_named, stands_in}
 use Rattle.dump_index.specs.steps.Names.{texts_of}
 use Rattle.dump_index.proofs.ChildLemmas.{children_are, moved_named, dedup_named}
 use Rattle.dump_index.proofs.index.ChangeIndex.children.Goals as goal

@@ -1,8 +1,8 @@
 use Rattle.std.proofs.Common.{◌≡◌, ◌≤◌, List, length, nat_le, rules, true, false, ap, subst, sym, ◌∙◌}
 use Rattle.std.proofs.lemmas.List.Sorted.{IsPartitionPoint-from_clause}
 use Rattle.std.specs.List.Sorted.{IsPartitionPoint, IsPartitionedBy}
-use Rattle.dump_trees.specs.Looking.{end_of}
-use Rattle.dump_index.specs.Listed.{Listed, all_placed}
+use Rattle.dump_trees.specs.steps.Looking.{end_of}
+use Rattle.dump_index.specs.steps.Listed.{Listed, all_placed}
 use Rattle.dump_index.specs.declared.change.NodeChange.{NodeChange}
 use Rattle.dump_index.proofs.OrderLemmas.{changes_parted, point_is_end}
 use Rattle.dump_index.proofs.index.ChangeIndex.end_of.Goals as goal

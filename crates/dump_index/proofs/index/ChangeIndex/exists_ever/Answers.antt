@@ -1,7 +1,7 @@
 use Rattle.std.proofs.Common.{List, arith, is_some, ap, sym, subst, ◌∙◌}
 use Rattle.dump_trees.specs.Paths.{names_of}
 use Rattle.dump_trees.proofs.expansions.BackLemmas.{LooksBack}
-use Rattle.dump_index.specs.Listed.{Listed, all_placed}
+use Rattle.dump_index.specs.steps.Listed.{Listed, all_placed}
 use Rattle.dump_index.proofs.OrderLemmas.{all_look_back}
 use Rattle.dump_index.proofs.ExistsLemmas.{within_some, none_since, none_ever, touching_low}
 use Rattle.dump_index.proofs.index.ChangeIndex.exists_ever.Goals as goal

@@ -1,6 +1,6 @@
 use Rattle.std.proofs.Common.{◌≡◌}
 use Rattle.dump_trees.specs.Paths.{names_of}
-use Rattle.dump_index.specs.ExistsEver.{exists_ever, exists_within}
+use Rattle.dump_index.specs.steps.ExistsEver.{exists_ever, exists_within}
 use Rattle.dump_index.proofs.index.ChangeIndex.exists_ever.Given as goal
 
 abbrev pub invariant-loop-kind : goal.invariant-loop-kind

@@ -1,7 +1,7 @@
 use Rattle.std.proofs.Common.{◌∙◌, Bool, Option, suc, ap, ap₂}
 use Rattle.dump_trees.specs.Paths.{names_of}
-use Rattle.dump_index.specs.Kinds.{kind_look}
-use Rattle.dump_index.specs.Listed.{Listed}
+use Rattle.dump_index.specs.steps.Kinds.{kind_look}
+use Rattle.dump_index.specs.steps.Listed.{Listed}
 use Rattle.dump_index.specs.declared.change.NodeKind.{NodeKind}
 use Rattle.dump_index.specs.steps.Looks.{kind_with_text}
 use Rattle.dump_index.proofs.KnownLemmas.{back_in, inside_in, left_in, same_in, shorter_stays, stands_in}

@@ -1,7 +1,7 @@
 use Rattle.std.proofs.Common.{◌≡◌, false}
 use Rattle.dump_trees.specs.Paths.{names_of}
-use Rattle.dump_index.specs.InOrder.{ends_in_slash}
-use Rattle.dump_index.specs.Kinds.{kind_look}
+use Rattle.dump_index.specs.steps.InOrder.{ends_in_slash}
+use Rattle.dump_index.specs.steps.Kinds.{kind_look}
 use Rattle.dump_index.specs.steps.Looks.{kind_with_text}
 use Rattle.dump_index.proofs.index.ChangeIndex.kind_since.Given as goal
 

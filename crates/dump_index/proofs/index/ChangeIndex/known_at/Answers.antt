@@ -1,6 +1,6 @@
 use Rattle.std.proofs.Common.{◌≡◌, ◌<◌, ◌∙◌, ℕ, List, Option, length, get_or, ap, sym, subst}
 use Rattle.dump_trees.specs.Paths.{names_of}
-use Rattle.dump_index.specs.Kinds.{kind_look}
+use Rattle.dump_index.specs.steps.Kinds.{kind_look}
 use Rattle.dump_index.specs.declared.change.NodeChange.{NodeChange}
 use Rattle.dump_index.specs.steps.KnownKinds.{count_through}
 use Rattle.dump_index.proofs.KnownLemmas.{known_in}

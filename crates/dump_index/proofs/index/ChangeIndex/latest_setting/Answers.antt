@@ -1,6 +1,6 @@
 use Rattle.std.proofs.Common.{◌≡◌, List, map, ap, subst, sym, ◌∙◌}
-use Rattle.dump_index.specs.Listed.{Listed, listed_of}
-use Rattle.dump_index.specs.Settings.{sets_at}
+use Rattle.dump_index.specs.steps.Listed.{Listed, listed_of}
+use Rattle.dump_index.specs.steps.Settings.{sets_at}
 use Rattle.dump_index.specs.declared.trail.Part.{Part}
 use Rattle.dump_index.specs.declared.order.Effect.TheVariants.{Props, Texts}
 use Rattle.dump_index.specs.steps.Keys.{IsOrder, has_effect_at, latest_place}

@@ -1,9 +1,9 @@
 use Rattle.std.proofs.Common.{◌≡◌, ◌||◌, ℕ, Option, List, map, ap, sym, subst, ◌∙◌}
 use Rattle.dump_trees.specs.Paths.{names_of}
 use Rattle.dump_trees.proofs.expansions.BackLemmas.{LooksBack}
-use Rattle.dump_trees.specs.Listing.{names_behind, names_look, names_made}
-use Rattle.dump_index.specs.Listed.{Listed, listed_of, all_placed}
-use Rattle.dump_index.specs.Children.{is_child_named}
+use Rattle.dump_trees.specs.steps.Listing.{names_behind, names_look, names_made}
+use Rattle.dump_index.specs.steps.Listed.{Listed, listed_of, all_placed}
+use Rattle.dump_index.specs.steps.Children.{is_child_named}
 use Rattle.dump_index.specs.declared.order.Effect.TheVariants.{Shaping, Moving, Texts}
 use Rattle.dump_index.specs.steps.Keys.{IsOrder, latest_place, has_effect_at}
 use Rattle.dump_index.specs.steps.Touching.{moves_above, shapes}

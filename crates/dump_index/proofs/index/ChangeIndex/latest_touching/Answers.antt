@@ -1,5 +1,5 @@
 use Rattle.std.proofs.Common.{◌≡◌, ◌||◌, List, map, ap, ap₂, subst, sym, ◌∙◌}
-use Rattle.dump_index.specs.Listed.{Listed, listed_of}
+use Rattle.dump_index.specs.steps.Listed.{Listed, listed_of}
 use Rattle.dump_index.specs.declared.order.Effect.TheVariants.{Shaping, Moving, Props, Texts}
 use Rattle.dump_index.specs.steps.Keys.{IsOrder, has_effect_at, latest_place}
 use Rattle.dump_index.specs.steps.Touching.{later, moves_above}

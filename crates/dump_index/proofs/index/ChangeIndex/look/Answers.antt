@@ -1,7 +1,7 @@
 use Rattle.std.proofs.Common.{◌≡◌, ◌∙◌, ℕ, List, Option, ap, map, sym, subst, arith}
-use Rattle.dump_trees.specs.Looking.{end_of}
-use Rattle.dump_index.specs.Listed.{Listed, listed_of, all_placed}
-use Rattle.dump_index.specs.Kinds.{kind_look}
+use Rattle.dump_trees.specs.steps.Looking.{end_of}
+use Rattle.dump_index.specs.steps.Listed.{Listed, listed_of, all_placed}
+use Rattle.dump_index.specs.steps.Kinds.{kind_look}
 use Rattle.dump_index.specs.declared.order.Effect.TheVariants.{Texts}
 use Rattle.dump_index.specs.steps.Keys.{IsOrder, has_effect_at, latest_place}
 use Rattle.dump_index.specs.steps.Touching.{shapes}

@@ -2,12 +2,12 @@ use Rattle.std.proofs.Common.{◌≡◌, ◌||◌, false, ℕ, List, Bor, Some, 
 use Rattle.std.specs.Prelude.{slice_get}
 use Rattle.std.proofs.lemmas.List.Filters.{dedup_is}
 use Rattle.dump_trees.specs.Paths.{names_of}
-use Rattle.dump_trees.specs.Looking.{end_of}
-use Rattle.dump_trees.specs.Listing.{names_look, names_made}
+use Rattle.dump_trees.specs.steps.Looking.{end_of}
+use Rattle.dump_trees.specs.steps.Listing.{names_look, names_made}
 use Rattle.dump_trees.proofs.expansions.BackLemmas.{LooksBack}
-use Rattle.dump_index.specs.Listed.{Listed, listed_of, all_placed}
-use Rattle.dump_index.specs.InOrder.{ends_in_slash}
-use Rattle.dump_index.specs.Children.{is_child_named}
+use Rattle.dump_index.specs.steps.Listed.{Listed, listed_of, all_placed}
+use Rattle.dump_index.specs.steps.InOrder.{ends_in_slash}
+use Rattle.dump_index.specs.steps.Children.{is_child_named}
 use Rattle.dump_index.specs.steps.Names.{texts_of}
 use Rattle.dump_index.specs.steps.Touching.{shapes}
 use Rattle.dump_index.proofs.PlaceLemmas.{latest_low, latest_holds}

@@ -1,7 +1,7 @@
 use Rattle.std.proofs.Common.{◌≡◌, ℕ, List, Option, map, true, ap, sym, subst, ◌∙◌, arith}
 use Rattle.dump_trees.specs.Paths.{names_of}
-use Rattle.dump_trees.specs.Listing.{names_behind, names_look}
-use Rattle.dump_index.specs.Listed.{Listed, listed_of, all_placed}
+use Rattle.dump_trees.specs.steps.Listing.{names_behind, names_look}
+use Rattle.dump_index.specs.steps.Listed.{Listed, listed_of, all_placed}
 use Rattle.dump_index.specs.steps.Touching.{shapes}
 use Rattle.dump_index.specs.steps.Looks.{came, origin_kind, origin_names, GoesBack}
 use Rattle.dump_index.proofs.OriginLemmas.{in_range, origin_came, origin_back}

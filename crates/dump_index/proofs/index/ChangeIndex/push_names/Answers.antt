@@ -1,10 +1,10 @@
 use Rattle.std.proofs.Common.{◌≡◌, ◌||◌, ◌++◌, ℕ, List, map, ap, ap₂, sym, ◌∙◌, arith}
 use Rattle.dump_trees.specs.Paths.{names_of}
-use Rattle.dump_trees.specs.Looking.{end_of}
-use Rattle.dump_trees.specs.Listing.{names_look, names_made}
-use Rattle.dump_index.specs.InOrder.{ends_in_slash}
-use Rattle.dump_index.specs.Listed.{Listed, listed_of, all_placed}
-use Rattle.dump_index.specs.Children.{is_child_named}
+use Rattle.dump_trees.specs.steps.Looking.{end_of}
+use Rattle.dump_trees.specs.steps.Listing.{names_look, names_made}
+use Rattle.dump_index.specs.steps.InOrder.{ends_in_slash}
+use Rattle.dump_index.specs.steps.Listed.{Listed, listed_of, all_placed}
+use Rattle.dump_index.specs.steps.Children.{is_child_named}
 use Rattle.dump_index.specs.steps.Names.{texts_of}
 use Rattle.dump_index.specs.steps.Touching.{shapes}
 use Rattle.dump_index.specs.steps.Looks.{origin_names}

@@ -1,11 +1,10 @@
 use Rattle.std.proofs.Common.{◌≡◌, ◌||◌, false, List, ℕ}
 use Rattle.dump_trees.specs.Paths.{names_of}
-use Rattle.dump_trees.specs.Listing.{names_look}
-use Rattle.dump_index.specs.InOrder.{ends_in_slash}
-use Rattle.dump_index.specs.Listed.{all_placed}
-use Rattle.dump_index.specs.Children.{is_child_named}
-use Rattle.dump_index.specs.steps.Names.{texts_of}
-use Rattle.dump_index.specs.steps.Names.{AreNames}
+use Rattle.dump_trees.specs.steps.Listing.{names_look}
+use Rattle.dump_index.specs.steps.InOrder.{ends_in_slash}
+use Rattle.dump_index.specs.steps.Listed.{all_placed}
+use Rattle.dump_index.specs.steps.Children.{is_child_named}
+use Rattle.dump_index.specs.steps.Names.{texts_of, AreNames}
 use Rattle.dump_index.proofs.index.ChangeIndex.push_names.Given as goal
 
 abbrev pub invariant-loop-at : goal.invariant-loop-at

@@ -1,6 +1,6 @@
 use Rattle.std.proofs.Common.{◌≡◌, false, List, ℕ, ◌++◌}
-use Rattle.dump_index.specs.InOrder.{ends_in_slash}
-use Rattle.dump_index.specs.Settings.{IsTrail}
+use Rattle.dump_index.specs.steps.InOrder.{ends_in_slash}
+use Rattle.dump_index.specs.steps.Settings.{IsTrail}
 use Rattle.dump_index.proofs.index.ChangeIndex.settings_at.Given as goal
 
 abbrev pub invariant-loop-at : goal.invariant-loop-at

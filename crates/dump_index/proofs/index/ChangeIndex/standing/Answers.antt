@@ -1,7 +1,7 @@
 use Rattle.std.proofs.Common.{ap, sym, ◌∙◌}
 use Rattle.dump_trees.specs.Paths.{names_of}
-use Rattle.dump_index.specs.InOrder.{ends_in_slash}
-use Rattle.dump_index.specs.Children.{stands_in}
+use Rattle.dump_index.specs.steps.InOrder.{ends_in_slash}
+use Rattle.dump_index.specs.steps.Children.{stands_in}
 use Rattle.dump_index.proofs.ChildLemmas.{name_at, bare_child, child_kind, stands_more, stands_same}
 use Rattle.dump_index.proofs.index.ChangeIndex.standing.Goals as goal
 use Rattle.dump_index.proofs.index.ChangeIndex.standing.Goals.{then-is_some+in_ok-push, else-is_some}

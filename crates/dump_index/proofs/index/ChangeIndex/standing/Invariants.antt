@@ -1,7 +1,7 @@
 use Rattle.std.proofs.Common.{◌≡◌, take}
 use Rattle.std.specs.List.{filter}
 use Rattle.dump_trees.specs.Paths.{names_of}
-use Rattle.dump_index.specs.Children.{stands_in}
+use Rattle.dump_index.specs.steps.Children.{stands_in}
 use Rattle.dump_index.specs.steps.Names.{texts_of}
 use Rattle.dump_index.proofs.index.ChangeIndex.standing.Given as goal
 

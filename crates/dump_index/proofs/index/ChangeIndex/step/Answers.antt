@@ -1,5 +1,5 @@
 use Rattle.std.proofs.Common.{◌≡◌, ◌||◌, ℕ, Option, Some, None, ap, ap₂, sym, ◌∙◌}
-use Rattle.dump_index.specs.Settings.{latest_for, sets_at, Unset}
+use Rattle.dump_index.specs.steps.Settings.{Unset, latest_for, sets_at}
 use Rattle.dump_index.specs.steps.Touching.{shapes, later}
 use Rattle.dump_index.specs.steps.Looks.{is_place}
 use Rattle.dump_index.proofs.PlaceLemmas.{latest_or, latest_first, latest_second, place_is}

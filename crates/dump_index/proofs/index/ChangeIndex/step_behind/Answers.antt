@@ -1,8 +1,8 @@
 use Rattle.std.proofs.Common.{◌≡◌, ◌<◌, ℕ, List, Some, map, length, ap, sym, subst, ◌∙◌, inl, inr}
 use Rattle.std.specs.Prelude.{option_to_list}
 use Rattle.std.proofs.lemmas.Bool.{or_cases}
-use Rattle.dump_index.specs.Listed.{Listed, listed_of}
-use Rattle.dump_index.specs.Settings.{latest_for, sets_at, IsTrail}
+use Rattle.dump_index.specs.steps.Listed.{Listed, listed_of}
+use Rattle.dump_index.specs.steps.Settings.{latest_for, sets_at, IsTrail}
 use Rattle.dump_index.specs.declared.trail.Next.TheVariants.{Before, Copied}
 use Rattle.dump_index.specs.steps.Touching.{shapes}
 use Rattle.dump_index.specs.steps.Trails.{TrailGoesOn}

@@ -1,8 +1,8 @@
 use Rattle.std.proofs.Common.{◌≡◌, true, List, IfOk, map, take, sym, ap, ◌∙◌, subst}
 use Rattle.std.proofs.lemmas.List.{take-map}
-use Rattle.dump_trees.specs.Looking.{end_of}
-use Rattle.dump_index.specs.InOrder.{are_in_order}
-use Rattle.dump_index.specs.Listed.{Listed, all_placed, listed_of}
+use Rattle.dump_trees.specs.steps.Looking.{end_of}
+use Rattle.dump_index.specs.steps.InOrder.{are_in_order}
+use Rattle.dump_index.specs.steps.Listed.{Listed, all_placed, listed_of}
 use Rattle.dump_index.specs.declared.change.NodeChange.{NodeChange}
 use Rattle.dump_index.proofs.OrderLemmas.{first_ordered}
 use Rattle.dump_index.proofs.index.ChangeIndex.up_to.Goals as goal

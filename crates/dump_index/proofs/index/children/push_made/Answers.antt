@@ -2,13 +2,12 @@ use Rattle.std.proofs.Common.{◌≡◌, ◌||◌, ◌&&◌, ◌++◌, Bool, tru
 use Rattle.std.proofs.lemmas.Bool.{lt-ltb, or_cases}
 use Rattle.std.specs.List.{list_any}
 use Rattle.dump_trees.specs.Paths.{names_of, is_name}
-use Rattle.dump_trees.specs.Listing.{names_made}
-use Rattle.dump_index.specs.Listed.{listed_of, all_placed}
-use Rattle.dump_index.specs.Children.{is_child_named}
+use Rattle.dump_trees.specs.steps.Listing.{names_made}
+use Rattle.dump_index.specs.steps.Listed.{listed_of, all_placed}
+use Rattle.dump_index.specs.steps.Children.{is_child_named}
 use Rattle.dump_index.specs.steps.Keys.{keys_in}
-use Rattle.dump_index.specs.steps.Names.{texts_of}
+use Rattle.dump_index.specs.steps.Names.{texts_of, makes_at, makes_key}
 use Rattle.dump_index.specs.steps.Below.{AreFrom, NoneBelow, HasChild}
-use Rattle.dump_index.specs.steps.Names.{makes_at, makes_key}
 use Rattle.dump_index.proofs.OrderLemmas.{bare_at}
 use Rattle.dump_index.proofs.WalkLemmas.{get_inside}
 use Rattle.dump_index.proofs.NameLemmas.{among, among_more, among_all, among_none, keys_are, made_name}

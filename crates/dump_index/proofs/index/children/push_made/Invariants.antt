@@ -1,6 +1,6 @@
 use Rattle.std.proofs.Common.{◌≡◌, ◌||◌, ◌-◌, List, ℕ, length, map}
-use Rattle.dump_index.specs.Listed.{listed_of}
-use Rattle.dump_index.specs.Children.{is_child_named}
+use Rattle.dump_index.specs.steps.Listed.{listed_of}
+use Rattle.dump_index.specs.steps.Children.{is_child_named}
 use Rattle.dump_index.specs.steps.Keys.{keys_in}
 use Rattle.dump_index.specs.steps.Names.{texts_of}
 use Rattle.dump_index.specs.steps.Below.{AreFrom}

@@ -2,7 +2,7 @@ use Rattle.std.proofs.Common.{List, ℕ, map, sym, rules, subst}
 use Rattle.std.proofs.Math.Seq.{take-length}
 use Rattle.std.proofs.lemmas.List.Sorted.{IsPartitionPoint-from_clause}
 use Rattle.std.specs.List.Sorted.{IsPartitionedBy}
-use Rattle.dump_index.specs.Listed.{listed_of}
+use Rattle.dump_index.specs.steps.Listed.{listed_of}
 use Rattle.dump_index.specs.steps.Keys.{PathKey, IsSortedKeys, is_key_before, key_in, keys_in}
 use Rattle.dump_index.specs.steps.Below.{AreFrom, NoneBelow}
 use Rattle.dump_index.proofs.KeyLemmas.{IsPointOf, keys_parted}

@@ -1,6 +1,6 @@
 use Rattle.std.proofs.Common.{map, rules, subst, sym}
 use Rattle.std.proofs.lemmas.Fn.{filter_same}
-use Rattle.dump_index.specs.Listed.{listed_of}
+use Rattle.dump_index.specs.steps.Listed.{listed_of}
 use Rattle.dump_index.specs.declared.order.Effect.TheVariants.{Any}
 use Rattle.dump_index.specs.steps.Keys.{IsOrder, has_effect_here}
 use Rattle.dump_index.proofs.KeyLemmas.{order_chosen}

@@ -1,6 +1,6 @@
 use Rattle.std.proofs.Common.{◌≡◌, ℕ, false, ◌||◌, nat_eq, get_or, take, ap₂, ◌∙◌, ◌≢◌, [], eq-eqb, map}
 use Rattle.std.proofs.lemmas.Bool.{eqb-true, false_from_ne_true}
-use Rattle.dump_index.specs.Listed.{listed_of}
+use Rattle.dump_index.specs.steps.Listed.{listed_of}
 use Rattle.dump_index.specs.steps.Keys.{has_effect_at}
 use Rattle.dump_index.specs.declared.order.Effect.TheVariants.{Moving}
 use Rattle.dump_index.specs.steps.Touching.{later, moves_within}

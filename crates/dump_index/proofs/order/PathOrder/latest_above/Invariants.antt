@@ -1,5 +1,5 @@
 use Rattle.std.proofs.Common.{◌≡◌, ℕ, Bool, ◌||◌, map}
-use Rattle.dump_index.specs.Listed.{listed_of}
+use Rattle.dump_index.specs.steps.Listed.{listed_of}
 use Rattle.dump_index.specs.declared.order.Effect.TheVariants.{Moving}
 use Rattle.dump_index.specs.steps.Keys.{IsOrder, latest_place}
 use Rattle.dump_index.specs.steps.Touching.{moves_within}

@@ -2,7 +2,7 @@ use Rattle.std.proofs.Common.{◌≤◌, List, ℕ, ap, bytes_eq, sym, arith, ru
 use Rattle.std.proofs.Math.Seq.{take-length}
 use Rattle.std.proofs.lemmas.List.Sorted.{IsPartitionPoint-from_clause}
 use Rattle.std.specs.List.Sorted.{IsPartitionedBy}
-use Rattle.dump_index.specs.Listed.{listed_of}
+use Rattle.dump_index.specs.steps.Listed.{listed_of}
 use Rattle.dump_index.specs.declared.order.Effect.{Effect}
 use Rattle.dump_index.specs.steps.Keys.{PathKey, is_key_before, key_in, has_effect_at, IsOrder}
 use Rattle.dump_index.proofs.KeyLemmas.{IsPointOf, keys_parted, found_none, found_here, found_other}

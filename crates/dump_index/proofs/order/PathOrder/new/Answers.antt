@@ -2,7 +2,7 @@ use Rattle.std.proofs.Common.{List, ℕ, length, map, rules, subst, sym, ap, ◌
 use Rattle.std.proofs.lemmas.Fn.{always_returns_same}
 use Rattle.std.proofs.lemmas.List.{length-map}
 use Rattle.std.proofs.lemmas.List.Sorted.{ranks_by, All-permutation, IsPermutation-map}
-use Rattle.dump_index.specs.Listed.{listed_of}
+use Rattle.dump_index.specs.steps.Listed.{listed_of}
 use Rattle.dump_index.specs.declared.order.Key.{Key}
 use Rattle.dump_index.specs.declared.order.Effect.TheVariants.{Any}
 use Rattle.dump_index.specs.steps.Keys.{AreFirstPlaces, IsKeyIn, IsOrder, is_key_before, key_of, place_of}

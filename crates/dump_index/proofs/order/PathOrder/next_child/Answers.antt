@@ -2,7 +2,7 @@ use Rattle.std.proofs.Common.{◌≡◌, List, ℕ, Some, option_map, length, ma
 use Rattle.std.proofs.lemmas.Option.{slice_get-get_or}
 use Rattle.std.specs.Prelude.{slice_get}
 use Rattle.std.proofs.lemmas.List.{length-map}
-use Rattle.dump_index.specs.Listed.{Listed, listed_of}
+use Rattle.dump_index.specs.steps.Listed.{Listed, listed_of}
 use Rattle.dump_index.specs.steps.Keys.{PathKey, key_in, keys_in, IsSortedKeys}
 use Rattle.dump_index.specs.steps.Below.{AreFrom, NoneBelow}
 use Rattle.dump_index.proofs.KeyLemmas.{get-map}

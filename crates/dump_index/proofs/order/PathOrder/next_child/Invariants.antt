@@ -1,5 +1,5 @@
 use Rattle.std.proofs.Common.{◌≤◌, ◌-◌, length, map}
-use Rattle.dump_index.specs.Listed.{listed_of}
+use Rattle.dump_index.specs.steps.Listed.{listed_of}
 use Rattle.dump_index.specs.steps.Keys.{keys_in}
 use Rattle.dump_index.specs.steps.Below.{NoneBelow}
 use Rattle.dump_index.proofs.order.PathOrder.next_child.Given as goal
