@@ -224,7 +224,7 @@ def finished(build):
             build.failed = build.failed or "the crate at work"
             build.end()
             build.turn.notify_all()
-        raise
+        sys.exit("\nbuild: interrupted")
     build.log.close()
     build.progress.close()
     if build.failed:
