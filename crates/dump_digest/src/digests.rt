@@ -3,7 +3,7 @@ ghost use Rattle.std.specs.Prelude.{◌≡◌, ◌↔◌, ◌||◌, IsFalse, IsT
 ghost use Rattle.dump_text.specs.Names.{md5_name, sha1_name};
 ghost use Rattle.dump_records.specs.steps.RecordViews.{record_item};
 ghost use Rattle.dump_digest.specs.RecordParts.{has_whole_text};
-ghost use Rattle.dump_digest.specs.steps.Checks.{HasOtherDigest, TellsOther, is_told_text};
+ghost use Rattle.dump_digest.specs.steps.Checks.{HasOtherDigest, TellsOtherMd5, TellsOtherSha1, is_told_text};
 ghost use Rattle.md5.specs.Md5.{md5};
 ghost use Rattle.sha1.specs.Sha1.{sha1};
 ghost use Rattle.hex.specs.Hex.{decode_sized};
@@ -59,8 +59,8 @@ fn is_sha1(digits: &[u8], text: &[u8]) -> bool
 }
 
 /// Whether there is no header with an MD5 digest, or it is that of the text.
-fn md5_ok(told: Option<&[u8]>, text: &[u8]) -> bool
-    ensures { IsFalse result ↔ TellsOther (option_copied told.entry) 16 (md5 text.now) }
+pub fn md5_ok(told: Option<&[u8]>, text: &[u8]) -> bool
+    ensures { IsFalse result ↔ TellsOtherMd5 (option_copied told.entry) text.now }
 {
     match told {
         Some(digits) => is_md5(digits, text),
@@ -69,8 +69,8 @@ fn md5_ok(told: Option<&[u8]>, text: &[u8]) -> bool
 }
 
 /// Whether there is no header with a SHA-1 digest, or it is that of the text.
-fn sha1_ok(told: Option<&[u8]>, text: &[u8]) -> bool
-    ensures { IsFalse result ↔ TellsOther (option_copied told.entry) 20 (sha1 text.now) }
+pub fn sha1_ok(told: Option<&[u8]>, text: &[u8]) -> bool
+    ensures { IsFalse result ↔ TellsOtherSha1 (option_copied told.entry) text.now }
 {
     match told {
         Some(digits) => is_sha1(digits, text),

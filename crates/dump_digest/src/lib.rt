@@ -33,7 +33,7 @@
 //! delta. It reads the text in place: nothing is copied or allocated, and nothing waits. A node under
 //! format version 3 may delete properties, and deleted mergeinfo is no mergeinfo. This crate checks
 //! nothing that depends on other records: the order of revisions, copy sources and the numbers in
-//! mergeinfo.
+//! mergeinfo. [`md5_ok`] and [`sha1_ok`] compare the digests of a header with those of any text.
 #![tactic(auto)]
 
 mod content;
@@ -43,6 +43,7 @@ mod node_mergeinfo;
 mod verdict;
 
 pub use content::{is_kept, properties_of};
+pub use digests::{md5_ok, sha1_ok};
 pub use done::Done;
 pub use node_mergeinfo::is_mergeinfo;
 pub use verdict::{Verdict, check};
