@@ -3,12 +3,14 @@ use Rattle.cli_support.proofs.Prelude.{◌≡◌, refl, true, false, List, [], �
 use Rattle.std.proofs.Common.{inl, inr}
 use Rattle.clap.specs.Words.{Row}
 use Rattle.cli_support.specs.FilterCommand.{any_prefixes, repeated, valued}
-use Rattle.cli_support.specs.Info.{Prints, TakesFront, info_in, info_of, named_info}
+use Rattle.cli_support.specs.Info.{Prints, info_in, info_of, named_info}
 use Rattle.cli_support.specs.NamedOutputs.{Replaces}
 use Rattle.cli_support.specs.Targets.{AreTextsOf, after_blanks, before_blanks, begun_by, is_blank, is_line_end, prefix_of_line, prefixes_of_text, prefixes_of_texts, lines_in_text}
 use Rattle.cli_support.specs.declared.info.Info.TheVariants.{Help, Version}
 use Rattle.clap.specs.declared.builder.value_parser.Reading.TheVariants as reading
 use Rattle.clap.proofs.OnLiterals.{clap_on_literals}
+use Rattle.dump_rules.specs.PlainSettings.{plain_settings}
+use Rattle.dump_writer.specs.SinkWords.{TakesPart}
 
 -- filterCommand
 
@@ -82,14 +84,7 @@ drops_both : empty_of true true ≡ None
 drops_both = refl
 
 settings : settings_of Exclude (rows (codes "false") (codes "true"))
-    ≡ Ok (record {
-      side = Exclude;
-      prefixes = codes "trunk" ∷ [];
-      empty = DropAll;
-      renumber = true;
-      preserve = false;
-      skip_missing = false;
-    })
+    ≡ Ok (record (plain_settings Exclude (codes "trunk" ∷ [])) { empty = DropAll; renumber = true })
 settings = refl
 
 both_drops : settings_of Exclude (rows (codes "true") (codes "true")) ≡ Err BothDrops
@@ -99,14 +94,7 @@ both_drops = refl
 
 abbrev plain : FilterCall
 plain = record {
-  options = record {
-    side = Include;
-    prefixes = codes "a" ∷ [];
-    empty = Pad;
-    renumber = false;
-    preserve = false;
-    skip_missing = false;
-  };
+  options = plain_settings Include (codes "a" ∷ []);
   workers = 4;
   window = 64;
   quiet = false;
@@ -187,7 +175,7 @@ both_texts = refl
 prefix_behind : info_in (codes "exclude" ∷ codes "--" ∷ codes "--help" ∷ []) ≡ None
 prefix_behind = refl
 
-first_byte_alone : TakesFront (Some []) (Some (codes "a")) (codes "ab")
+first_byte_alone : TakesPart (Some []) (Some (codes "a")) (codes "ab")
 first_byte_alone = (codes "a", (codes "b", refl), refl)
 
 printed : Prints 1 (codes "ab") (Some []) (Some (codes "ab")) 0

@@ -21,7 +21,7 @@ use Rattle.dump_trees.proofs.cuts.CoveredPaths.{contains_cases, contains_none}
 use Rattle.dump_trees.proofs.paths.SiblingLemmas.{excluded_match}
 use Rattle.dump_filter.specs.NewContent.{IsNewProperty}
 use Rattle.dump_rules.specs.Settings.{Settings}
-use Rattle.dump_rules.specs.declared.options.Empty.TheVariants.{Pad}
+use Rattle.dump_rules.specs.PlainSettings.{plain_settings}
 use Rattle.dump_history.proofs.restricted.LoadsOnce.{later_once, trees_once, whole_records_once}
 use Rattle.dump_history.proofs.values.WorkedDump as worked
 use Rattle.dump_cut.specs.LaterParts.{IsFirstPart, IsLaterPart, KeepsVersion, head_part, part_from, part_up_to}
@@ -452,14 +452,7 @@ abbrev three : Change
 three = worked.directory (codes "trunk/b") (Some (Made.Copied 2 trunk))
 
 abbrev excluding : Settings
-excluding = record {
-  side = Exclude;
-  prefixes = path_text other ∷ [];
-  empty = Pad;
-  renumber = false;
-  preserve = true;
-  skip_missing = true;
-}
+excluding = record (plain_settings Exclude (path_text other ∷ [])) { preserve = true; skip_missing = true }
 
 of_kept : (patched : Patching)
     → IsOfKept without_other patched worked.records worked.revisions worked.trees worked.dump

@@ -20,7 +20,7 @@ ghost use Rattle.dump_cut.specs.steps.ExcludedTexts.{is_text_below, texts_below}
 
 use crate::canonical::canonical_prefix;
 use dump_index::rest_behind;
-use dump_rules::{Empty, Memory, Options, Side};
+use dump_rules::{Empty, Memory, Options};
 use std::alloc::Global;
 use std::collections::BTreeSet;
 use std::marker::Model;
@@ -258,6 +258,8 @@ impl Excluded {
         } else {
             Empty::Pad
         };
-        Options::new(alloc, Side::Exclude, &texts, empty, drops, true, true)
+        let options = Options::exclude(alloc, &texts)?.with_empty(empty);
+        let options = options.with_renumber(drops).with_preserve(true);
+        Ok(options.with_skip_missing(true))
     }
 }

@@ -1,7 +1,8 @@
 -- Worked values of the definitions, computed by the kernel.
-use Rattle.dump_digest.proofs.Prelude.{◌≡◌, ℕ, refl, ap, sym, ◌∙◌, true, false, inl, inr, List, [], ◌∷◌, Some, None, Ok, codes, unwrap_or, lit<, md5_name, sha1_name, Property, IsPropertyBlock, has_deletes, property_block_once, no_changes, Header, Include, Pad, Settings, DumpRecord, is_revision_record, is_node, node_path, is_kept_node, is_copy, has_lost_source, has_text, has_whole_text, is_checked_text, takes_deletes, HasPropertyList, HasPropertyBlock, is_mergeinfo, value_of, HasBadProperties, DiffersFromDigest, HasBadMd5, HasBadSha1, IsMergeinfoValueOf, HasBadMergeinfo}
+use Rattle.dump_digest.proofs.Prelude.{◌≡◌, ℕ, refl, ap, sym, ◌∙◌, true, false, inl, inr, List, [], ◌∷◌, Some, None, Ok, codes, unwrap_or, lit<, md5_name, sha1_name, Property, IsPropertyBlock, has_deletes, property_block_once, no_changes, Header, Include, Settings, DumpRecord, is_revision_record, is_node, node_path, is_kept_node, is_copy, has_lost_source, has_text, has_whole_text, is_checked_text, takes_deletes, HasPropertyList, HasPropertyBlock, is_mergeinfo, value_of, HasBadProperties, DiffersFromDigest, HasBadMd5, HasBadSha1, IsMergeinfoValueOf, HasBadMergeinfo}
 use Rattle.std.proofs.Common.{is_ok}
 use Rattle.hex.specs.Hex.{decode_sized, decode_pairs}
+use Rattle.dump_rules.specs.PlainSettings.{plain_settings}
 
 -- a digest header has digits of either case, as many as the digest needs
 abbrev abc_md5 : List ℕ
@@ -31,14 +32,7 @@ no_digit = refl
 -- what counts as a checked text
 
 abbrev including_trunk : Settings
-including_trunk = record {
-  side = Include;
-  prefixes = codes "trunk" ∷ [];
-  empty = Pad;
-  renumber = false;
-  preserve = false;
-  skip_missing = false;
-}
+including_trunk = plain_settings Include (codes "trunk" ∷ [])
 
 abbrev header : List ℕ → List ℕ → Header
 header name value = record { name = name; value = value }

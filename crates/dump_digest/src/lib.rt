@@ -6,8 +6,7 @@
 //! any order.
 //!
 //! ```
-//! let (side, prefixes) = (Side::Include, [b"trunk".as_slice()]);
-//! let options = Options::new(rt.alloc(), side, &prefixes, Empty::Pad, true, false, false)?;
+//! let options = Options::include(rt.alloc(), &[b"trunk"])?.with_renumber(true);
 //! let done = Done::of(kept, &options);
 //! ```
 //!

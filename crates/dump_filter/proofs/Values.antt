@@ -2,6 +2,7 @@
 use Rattle.dump_filter.proofs.Prelude.{◌≡◌, ℕ, ◌+◌, ◌<◌, refl, ap, ◌∙◌, subst, length-append, Bool, true, false, List, [], ◌∷◌, ◌++◌, length, map, Some, None, codes, inl, inr, arith, lit<, lit≤, FaultKind, fault_code, NoFault, Header, Property, DumpRecord, Ending, HasRecords, Include, Empty, Pad, DropEmptied, DropAll, Settings, KeptRevisions, Group, group_of, groups, revision_number, group_number, has_kept_node, is_bare, is_emptied, keeps_empty, keeps_group, is_pad, is_padded, revision_numbers, first_number, present_revision, kept_revisions, with_length, with_lengths, written_number, is_whole_file, becomes_plain, stays_copy, without_copy_headers, IsWrittenCopyNumber, IsNewCopy, ends_in_group, IsOutOfOrder, present_number, HasBadCopyRevision, HoldsOfRecord, IsRecordFault, AreFaultFree, padding_log, is_date, padding_properties, revision_properties, IsNewProperty, AreNewProperties, new_block, whole_text, revision_text, IsRevisionOutput, IsNodeOutput, IsOutput, IsWrittenBlock, is_open, is_written, AreOutputs, IsWrittenText, IsCleanText, report_of}
 use Rattle.std.specs.Fmt.{digits}
 use Rattle.dump_text.specs.declared.fault.FaultKind.TheVariants as faults
+use Rattle.dump_rules.specs.PlainSettings.{plain_settings}
 
 abbrev header : List ℕ → List ℕ → Header
 header name value = record { name = name; value = value }
@@ -36,14 +37,7 @@ other = node (codes "other/a")
 
 -- include trunk
 abbrev including : Empty → Bool → Settings
-including empty renumber = record {
-  side = Include;
-  prefixes = codes "trunk" ∷ [];
-  empty = empty;
-  renumber = renumber;
-  preserve = false;
-  skip_missing = false;
-}
+including empty renumber = record (plain_settings Include (codes "trunk" ∷ [])) { empty = empty; renumber = renumber }
 
 -- the options that include trunk and pad emptied revisions
 abbrev pub padding : Settings

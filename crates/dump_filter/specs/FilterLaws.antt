@@ -4,8 +4,8 @@ use Rattle.dump_writer.specs.SinkWords.{IsPrefixOf}
 use Rattle.dump_records.specs.RecordText.{DumpRecord}
 use Rattle.dump_records.specs.DumpText.{BeginsWithRecords}
 use Rattle.dump_rules.specs.declared.options.Side.TheVariants.{Include}
-use Rattle.dump_rules.specs.declared.options.Empty.TheVariants.{Pad}
 use Rattle.dump_rules.specs.Settings.{Settings}
+use Rattle.dump_rules.specs.PlainSettings.{plain_settings}
 use Rattle.dump_filter.specs.Groups.{kept_revisions}
 use Rattle.dump_filter.specs.RecordFaults.{AreFaultFree}
 use Rattle.dump_filter.specs.RecordOutput.{IsWrittenBlock}
@@ -33,14 +33,7 @@ LengthsFit settings records = (before after : List DumpRecord) (r : DumpRecord) 
 
 -- the options that keep everything: include the root
 abbrev pub keep_all : Settings
-keep_all = record {
-  side = Include;
-  prefixes = (47 ∷ []) ∷ [];
-  empty = Pad;
-  renumber = false;
-  preserve = false;
-  skip_missing = false;
-}
+keep_all = plain_settings Include ((47 ∷ []) ∷ [])
 
 -- what the filter writes of a clean dump is a clean dump, which it leaves as it is if it keeps everything
 abbrev pub KeepsItsOwnText : Type 0

@@ -31,20 +31,13 @@ pub trait Run {
 }
 
 impl Run for Brand {
-    ghost use Rattle.std.specs.Prelude.{[], false};
-    ghost use Rattle.dump_rules.specs.declared.options.Empty.{Empty as Drops};
+    ghost use Rattle.std.specs.Prelude.{[]};
+    ghost use Rattle.dump_rules.specs.PlainSettings.{plain_settings};
     ghost use Rattle.dump_rules.specs.declared.options.Side.{Side as Sides};
 
     ghost dump = { [] };
 
-    ghost settings = { record {
-      side = Sides.Include;
-      prefixes = [];
-      empty = Drops.Pad;
-      renumber = false;
-      preserve = false;
-      skip_missing = false;
-    } };
+    ghost settings = { plain_settings Sides.Include [] };
 }
 
 /// How the list of records ends: the fault and its place, or `None` if it ends with the dump.

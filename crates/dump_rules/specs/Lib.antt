@@ -1,5 +1,6 @@
 pub mod Prefix
 pub mod Settings
+pub mod PlainSettings
 pub mod Renumbering
 pub mod RangeList
 pub mod Mergeinfo

@@ -9,7 +9,15 @@
 //! let given = Options::new(alloc, side, &prefixes, empty, renumber, preserve, skip)?;
 //! ```
 //!
-//! `rules::prefixes::is_handed_in` of `filter_tests` runs this. [`keeps`] says whether options keep a path. A prefix
+//! `rules::prefixes::is_handed_in` of `filter_tests` runs this. A caller that needs few of them begins with plain
+//! options:
+//!
+//! ```
+//! let options = Options::include(alloc, &[prefix])?.with_empty(Empty::DropEmptied);
+//! let options = options.with_renumber(renumber);
+//! ```
+//!
+//! `rules::rewriting::rules` of `filter_tests` runs this. [`keeps`] says whether options keep a path. A prefix
 //! matches whole names of a path: `trunk` matches `trunk` and `trunk/a`, but not `trunk2`. Slashes at
 //! both ends of a prefix are ignored, and so is one at the front of a path. A prefix that is empty or
 //! only slashes matches every path. Options that include the prefixes from `/p0000/` to `/p4999/` keep

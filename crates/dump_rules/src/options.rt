@@ -3,6 +3,7 @@ ghost use Rattle.std.specs.Prelude.{◌≡◌, IfOk, map, option_copied, slice_g
 ghost use Rattle.std.specs.List.{list_any};
 ghost use Rattle.dump_rules.specs.Prefix.{matches_path};
 ghost use Rattle.dump_rules.specs.Settings.{keeps_path};
+ghost use Rattle.dump_rules.specs.PlainSettings.{plain_settings};
 
 use crate::memory::Memory;
 use crate::prefix::bare_path;
@@ -60,6 +61,64 @@ impl Options {
         ensures { result ≡ list_any (λ prefix. matches_path prefix path.now) self.now.prefixes }
     {
         self.prefixes.begin(bare_path(path))
+    }
+
+    /// Options with copies of the prefixes that keep what some prefix matches. Emptied revisions are padded, and no
+    /// switch is set.
+    pub fn include(alloc: Global, prefixes: &[&[u8]]) -> Result<Options, Memory>
+        ensures { IfOk result (λ o. o ≡ plain_settings Side.Include (map (λ prefix. prefix.now) prefixes.now)) }
+    {
+        Options::new(
+            alloc,
+            Side::Include,
+            prefixes,
+            Empty::Pad,
+            false,
+            false,
+            false,
+        )
+    }
+
+    /// The same, but they keep what no prefix matches.
+    pub fn exclude(alloc: Global, prefixes: &[&[u8]]) -> Result<Options, Memory>
+        ensures { IfOk result (λ o. o ≡ plain_settings Side.Exclude (map (λ prefix. prefix.now) prefixes.now)) }
+    {
+        let options = Options::include(alloc, prefixes)?;
+        Ok(Options {
+            side: Side::Exclude,
+            ..options
+        })
+    }
+
+    /// The same options, but revisions without a kept node become this.
+    pub fn with_empty(self, empty: Empty) -> Options
+        ensures { result ≡ record self { empty = empty } }
+    {
+        Options { empty, ..self }
+    }
+
+    /// The same options, but kept revisions get new numbers without gaps if this is true.
+    pub fn with_renumber(self, renumber: bool) -> Options
+        ensures { result ≡ record self { renumber = renumber } }
+    {
+        Options { renumber, ..self }
+    }
+
+    /// The same options, but an emptied revision keeps its properties if this is true.
+    pub fn with_preserve(self, preserve: bool) -> Options
+        ensures { result ≡ record self { preserve = preserve } }
+    {
+        Options { preserve, ..self }
+    }
+
+    /// The same options, but lines of mergeinfo are omitted if this is true and their paths aren't kept.
+    pub fn with_skip_missing(self, skip_missing: bool) -> Options
+        ensures { result ≡ record self { skip_missing = skip_missing } }
+    {
+        Options {
+            skip_missing,
+            ..self
+        }
     }
 
     /// Makes options with copies of the prefixes.

@@ -1,19 +1,13 @@
 -- Examples of the lines of mergeinfo that are omitted; the checker computes and proves them. Also, each dump has only
 -- one number of omitted lines.
-use Rattle.dump_survey.proofs.Prelude.{◌≡◌, ℕ, Bool, true, false, List, [], ◌∷◌, Some, None, MatchBool, refl, ap, ◌∙◌, inl, inr, codes, sum_by, Property, DumpRecord, each_dump_has_one_list, Include, Pad, Settings, is_kept_node, HasPropertyBlock, HasPropertyList, property_list_once, block_or_not, other, AreOmittedFromValue, AddUpTo, mergeinfo_values, AreOmittedFromProperties, AreOmittedFrom, AreOmittedIn, AreOmittedFromRecords, properties_count}
+use Rattle.dump_survey.proofs.Prelude.{◌≡◌, ℕ, Bool, true, false, List, [], ◌∷◌, Some, None, MatchBool, refl, ap, ◌∙◌, inl, inr, codes, sum_by, Property, DumpRecord, each_dump_has_one_list, Include, Settings, is_kept_node, HasPropertyBlock, HasPropertyList, property_list_once, block_or_not, other, AreOmittedFromValue, AddUpTo, mergeinfo_values, AreOmittedFromProperties, AreOmittedFrom, AreOmittedIn, AreOmittedFromRecords, properties_count}
 use Rattle.std.specs.Fmt.{digits}
 use Rattle.dump_survey.specs.OmittedLine.{omitted_line}
 use Rattle.dump_survey.proofs.OmittedLemmas.{adds_up, adds_once, value_is, properties_are, properties_once}
+use Rattle.dump_rules.specs.PlainSettings.{plain_settings}
 
 abbrev call : Bool → Settings
-call skip_missing = record {
-  side = Include;
-  prefixes = codes "trunk" ∷ [];
-  empty = Pad;
-  renumber = false;
-  preserve = false;
-  skip_missing = skip_missing;
-}
+call skip_missing = record (plain_settings Include (codes "trunk" ∷ [])) { skip_missing = skip_missing }
 
 -- the lines of a value
 

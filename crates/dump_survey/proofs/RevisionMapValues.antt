@@ -4,20 +4,14 @@ use Rattle.std.specs.Fmt.{digits}
 use Rattle.dump_rules.specs.declared.options.Empty.{Empty}
 use Rattle.dump_history.proofs.values.WorkedDump.{zero}
 use Rattle.dump_survey.specs.RevisionMap.{map_line}
+use Rattle.dump_rules.specs.PlainSettings.{plain_settings}
 
 -- revision 0 has no node, 1 has a kept node, 2 has a dropped one, and 3 has none
 abbrev worked : List DumpRecord
 worked = version ∷ zero ∷ one ∷ trunk ∷ two ∷ other ∷ three ∷ []
 
 abbrev trunk_alone : Empty → Bool → Settings
-trunk_alone empty renumber = record {
-  side = Include;
-  prefixes = codes "trunk" ∷ [];
-  empty = empty;
-  renumber = renumber;
-  preserve = false;
-  skip_missing = false;
-}
+trunk_alone empty renumber = record (plain_settings Include (codes "trunk" ∷ [])) { empty = empty; renumber = renumber }
 
 -- padded revisions are kept
 padded_kept : (kept_revisions (trunk_alone Pad true) worked).numbers ≡ 0 ∷ 1 ∷ 2 ∷ 3 ∷ []

@@ -27,9 +27,7 @@
 //! A caller writes the lines that follow the findings as in this example:
 //!
 //! ```
-//! let (side, prefixes) = (Side::Include, [b"x/y".as_slice(), b"c"]);
-//! let made = Options::new(rt.alloc(), side, &prefixes, Empty::Pad, false, false, false);
-//! let Ok(options) = made else {
+//! let Ok(options) = Options::include(rt.alloc(), &[b"x/y", b"c"]) else {
 //!     return;
 //! };
 //! let mut sink = MemorySink::new(rt.alloc(), 8, Trouble::Never);

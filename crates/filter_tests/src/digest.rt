@@ -4,7 +4,7 @@ ghost use Rattle.dump_digest.specs.steps.DoneViews.{done_settings};
 
 use dump_digest::{Done, Verdict, check, is_kept, properties_of};
 use dump_records::{Cut, Cutter, Record};
-use dump_rules::{Empty, Options, Side};
+use dump_rules::Options;
 use dump_text::FaultKind;
 use std::alloc::Global;
 use std::process::Abort;
@@ -79,16 +79,7 @@ fn record(dump: &[u8], number: u64) -> Result<Record<'_>, Fail> {
 }
 
 fn include_trunk(alloc: Global) -> Result<Options, Fail> {
-    let options = Options::new(
-        alloc,
-        Side::Include,
-        &[b"trunk"],
-        Empty::Pad,
-        false,
-        false,
-        false,
-    )?;
-    Ok(options)
+    Ok(Options::include(alloc, &[b"trunk"])?)
 }
 
 /// Whether the record with this number in the dump above has this place and this verdict.
@@ -408,8 +399,7 @@ fn is_dropped(done: &Done<'_>) -> bool {
 fn a_done_tells_what_its_check_read(rt: HostRuntime) -> Result<(), Fail> {
     let kept = record(COPY, 1)?;
     let other = record(COPY, 2)?;
-    let (side, prefixes) = (Side::Include, [b"trunk".as_slice()]);
-    let options = Options::new(rt.alloc(), side, &prefixes, Empty::Pad, true, false, false)?;
+    let options = Options::include(rt.alloc(), &[b"trunk"])?.with_renumber(true);
     let done = Done::of(kept, &options);
     let read = is_read(&done, &options) && has_copied_mergeinfo(&done);
     assert!(rt; read && is_dropped(&Done::of(other, &options)));

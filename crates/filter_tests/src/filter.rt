@@ -140,14 +140,16 @@ fn renumber(prefix: &[u8]) -> Asked<'_> {
 }
 
 fn options(alloc: Global, asked: &Asked<'_>) -> Result<Options, Memory> {
-    Options::new(
-        alloc,
-        asked.side,
-        &[asked.prefix],
-        asked.empty,
-        asked.renumber,
-        asked.preserve,
-        false,
+    let prefixes = [asked.prefix];
+    let options = match asked.side {
+        Side::Include => Options::include(alloc, &prefixes)?,
+        Side::Exclude => Options::exclude(alloc, &prefixes)?,
+    };
+    Ok(
+        options
+            .with_empty(asked.empty)
+            .with_renumber(asked.renumber)
+            .with_preserve(asked.preserve),
     )
 }
 

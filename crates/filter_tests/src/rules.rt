@@ -1,7 +1,6 @@
 //! What no contract says: worked examples, one call of each function, and allocations that fail.
 use dump_rules::{
-    Empty, Memory, Options, Reach, Side, bare_path, bare_prefix, merge_path_of, merge_reads,
-    without_lf,
+    Memory, Options, Reach, Side, bare_path, bare_prefix, merge_path_of, merge_reads, without_lf,
 };
 use std::alloc::{AllocError, Global};
 use std::process::Abort;
@@ -12,7 +11,10 @@ mod prefixes;
 mod rewriting;
 
 fn options(alloc: Global, side: Side, prefixes: &[&[u8]]) -> Result<Options, Memory> {
-    Options::new(alloc, side, prefixes, Empty::Pad, false, false, false)
+    match side {
+        Side::Include => Options::include(alloc, prefixes),
+        Side::Exclude => Options::exclude(alloc, prefixes),
+    }
 }
 
 fn has_images(reach: &Reach, rows: &[(u64, Option<u64>)]) -> bool {

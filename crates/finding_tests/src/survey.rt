@@ -18,11 +18,14 @@ mod parents;
 mod prefixes;
 mod text;
 
+fn plain(alloc: Global, side: Side, prefixes: &[&[u8]]) -> Result<Options, Memory> {
+    Options::new(alloc, side, prefixes, Empty::Pad, false, false, false)
+}
+
 /// Options with these prefixes; `words` has them with a blank between two.
 fn rules(alloc: Global, side: Side, words: &str) -> Result<Options, Fail> {
     let prefixes = prefixes_in(alloc, words)?;
-    let options = Options::new(alloc, side, &prefixes, Empty::Pad, false, false, false)?;
-    Ok(options)
+    Ok(plain(alloc, side, &prefixes)?)
 }
 
 fn prefixes_in<'a>(alloc: Global, words: &'a str) -> Result<Vec<&'a [u8]>, AllocError> {
@@ -244,15 +247,8 @@ Revision-number: 2\n\nNode-path: o\nNode-action: add\n\n\nRevision-number: 3\n\n
 fn leaves_numbers(alloc: Global, empty: Empty, renumber: bool, node: &str) -> Result<bool, Fail> {
     let dump = behind_a_dropped_one(alloc, node)?;
     let prefixes = [b"t".as_slice()];
-    let options = Options::new(
-        alloc,
-        Side::Include,
-        &prefixes,
-        empty,
-        renumber,
-        false,
-        false,
-    )?;
+    let options = Options::include(alloc, &prefixes)?;
+    let options = options.with_empty(empty).with_renumber(renumber);
     let survey = survey_dump(alloc, dump.as_bytes(), &options)?;
     Ok(survey.end.dump.numbers_left)
 }
@@ -273,7 +269,7 @@ Node-path: b\nNode-kind: dir\nNode-action: add\nNode-copyfrom-rev: 0\nNode-copyf
 
 /// Options with one prefix; the error is that memory ran out.
 fn one_prefix(alloc: Global, side: Side, prefix: &[u8]) -> Result<Options, Memory> {
-    Options::new(alloc, side, &[prefix], Empty::Pad, false, false, false)
+    plain(alloc, side, &[prefix])
 }
 
 fn tells_one_of_each(survey: &Survey<'_, '_>) -> bool {

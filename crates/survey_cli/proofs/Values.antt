@@ -1,5 +1,5 @@
 -- Worked values of the definitions, computed and proved by the kernel.
-use Rattle.survey_cli.proofs.Prelude.{◌≡◌, refl, true, false, List, [], ◌∷◌, None, Some, Ok, Err, inl, inr, codes, Include, Pad, DropAll, TellsCall, place_of_map, without, call_of_words, Words, BothDrops}
+use Rattle.survey_cli.proofs.Prelude.{◌≡◌, refl, true, false, List, [], ◌∷◌, None, Some, Ok, Err, inl, inr, codes, Include, DropAll, TellsCall, place_of_map, without, call_of_words, Words, BothDrops}
 use Rattle.std.proofs.Common.{arith}
 use Rattle.cli_support.specs.declared.info.Info.TheVariants.{Version}
 use Rattle.survey_cli.specs.Drive.{AnswersWords, IsMapAskedFor, SurveysDump, SurveysOrRefuses, finding_status}
@@ -8,6 +8,7 @@ use Rattle.survey_cli.specs.declared.texts.TheConstants.{VERSION}
 use Rattle.survey_cli.specs.steps.LawfulLines.{is_survey_call}
 use Rattle.clap.specs.Words.{Text}
 use Rattle.clap.proofs.OnLiterals.{clap_on_literals}
+use Rattle.dump_rules.specs.PlainSettings.{plain_settings}
 
 -- Words
 
@@ -17,14 +18,7 @@ flagged words = codes "p" ∷ codes "include" ∷ words
 -- a flag after a prefix is read, and one after the two minus signs is a prefix
 around : call_of_words (flagged (codes "a" ∷ codes "--drop-all-empty-revs" ∷ codes "--" ∷ codes "--x" ∷ []))
     ≡ Ok (record {
-      options = record {
-        side = Include;
-        prefixes = codes "a" ∷ codes "--x" ∷ [];
-        empty = DropAll;
-        renumber = false;
-        preserve = false;
-        skip_missing = false;
-      };
+      options = record (plain_settings Include (codes "a" ∷ codes "--x" ∷ [])) { empty = DropAll };
       map = false;
     })
 unfolding clap_on_literals
@@ -32,14 +26,7 @@ around = refl
 
 asks_for_the_map : call_of_words (flagged (codes "--map" ∷ codes "a" ∷ []))
     ≡ Ok (record {
-      options = record {
-        side = Include;
-        prefixes = codes "a" ∷ [];
-        empty = Pad;
-        renumber = false;
-        preserve = false;
-        skip_missing = false;
-      };
+      options = plain_settings Include (codes "a" ∷ []);
       map = true;
     })
 unfolding clap_on_literals
@@ -94,14 +81,7 @@ version_is_printed = inl (refl, refl)
 
 abbrev call : Call
 call = record {
-  options = record {
-    side = Include;
-    prefixes = codes "a" ∷ [];
-    empty = Pad;
-    renumber = false;
-    preserve = false;
-    skip_missing = false;
-  };
+  options = plain_settings Include (codes "a" ∷ []);
   map = false;
 }
 

@@ -10,7 +10,7 @@ mod soaking;
 
 use dump_filter::Report;
 use dump_pipeline::{Answer, Failure, run_plain};
-use dump_rules::{Empty, Memory, Options, Side};
+use dump_rules::{Memory, Options};
 use dump_writer::{MemorySink, Trouble};
 use std::alloc::Global;
 use std::io::Write;
@@ -31,16 +31,8 @@ Node-path: trunk2\nNode-kind: dir\nNode-action: add\nProp-content-length: 10\nCo
 const TRUNK2: usize = 483;
 
 fn include_trunk(alloc: Global) -> Result<Options, Memory> {
-    let prefixes = [b"trunk".as_slice()];
-    Options::new(
-        alloc,
-        Side::Include,
-        &prefixes,
-        Empty::Pad,
-        false,
-        true,
-        false,
-    )
+    let options = Options::include(alloc, &[b"trunk"])?;
+    Ok(options.with_preserve(true))
 }
 
 /// The answer to this dump, with these counts of kept and dropped nodes.

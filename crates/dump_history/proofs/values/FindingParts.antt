@@ -1,20 +1,16 @@
 -- Parts of the examples of findings: options, nodes and their lines.
-use Rattle.dump_history.proofs.Prelude.{Bool, Header, DumpRecord, Side, Include, Exclude, Pad, Settings, Finding, DumpFacts, findings_of, no_node_faults}
-use Rattle.std.specs.Prelude.{ℕ, false, List, [], ◌∷◌, Some, codes}
+use Rattle.dump_history.proofs.Prelude.{Bool, Header, DumpRecord, Include, Exclude, Settings, Finding, DumpFacts, findings_of, no_node_faults}
+use Rattle.std.specs.Prelude.{ℕ, List, [], ◌∷◌, Some, codes}
 use Rattle.dump_history.proofs.values.WorkedDump.{line, record_at}
-
--- the options of these prefixes
-abbrev pub cut_by : Side → List (List ℕ) → Settings
-cut_by side prefixes =
-    record { side = side; prefixes = prefixes; empty = Pad; renumber = false; preserve = false; skip_missing = false }
+use Rattle.dump_rules.specs.PlainSettings.{plain_settings}
 
 -- the directory p/a is included
 abbrev pub include_a : Settings
-include_a = cut_by Include (codes "p/a" ∷ [])
+include_a = plain_settings Include (codes "p/a" ∷ [])
 
 -- the directory p/a is excluded
 abbrev pub exclude_a : Settings
-exclude_a = cut_by Exclude (codes "p/a" ∷ [])
+exclude_a = plain_settings Exclude (codes "p/a" ∷ [])
 
 -- a node at this path, of this action, with more lines
 abbrev pub node : List ℕ → List ℕ → List Header → DumpRecord

@@ -3,9 +3,10 @@ use Rattle.dump_history.proofs.Prelude.{true, ◌≡◌, ◌++◌, None, refl, H
 use Rattle.std.proofs.Common.{false, [], ◌∷◌, Some, codes, filter}
 use Rattle.dump_history.proofs.values.WorkedDump.{line, record_at, records, version, zero, one, two, three, trunk}
 use Rattle.dump_history.proofs.values.WorkedDump.{settings as worked_settings}
-use Rattle.dump_history.proofs.values.FindingParts.{cut_by, include_a, exclude_a, node, from, whole_from, in_node, facts}
+use Rattle.dump_history.proofs.values.FindingParts.{include_a, exclude_a, node, from, whole_from, in_node, facts}
 use Rattle.dump_history.specs.declared.findings.Finding.TheVariants as findings
 use Rattle.dump_history.specs.declared.findings.DumpFinding.TheVariants as dump_wide
+use Rattle.dump_rules.specs.PlainSettings.{plain_settings}
 
 -- a property length
 abbrev block : Header
@@ -157,16 +158,16 @@ copy_lets_in : in_node exclude_a (node (codes "p") (codes "replace") (from (code
 copy_lets_in = refl
 
 -- both sides are cut in the same way if the same rest is excluded below each
-copy_cut_alike : in_node (cut_by Exclude (codes "p/a" ∷ codes "q/a" ∷ []))
+copy_cut_alike : in_node (plain_settings Exclude (codes "p/a" ∷ codes "q/a" ∷ []))
     (node (codes "q") (codes "add") (from (codes "p"))) ≡ []
 copy_cut_alike = refl
 
-copy_loses_and_lets_in : in_node (cut_by Exclude (codes "p/a" ∷ codes "q/b" ∷ []))
+copy_loses_and_lets_in : in_node (plain_settings Exclude (codes "p/a" ∷ codes "q/b" ∷ []))
     (node (codes "q") (codes "add") (from (codes "p"))) ≡ findings.CopyLoses ∷ findings.CopyLetsIn ∷ []
 copy_loses_and_lets_in = refl
 
 -- included prefixes cut nothing below a kept path
-copy_included : in_node (cut_by Include (codes "p" ∷ codes "q/a" ∷ codes "q" ∷ []))
+copy_included : in_node (plain_settings Include (codes "p" ∷ codes "q/a" ∷ codes "q" ∷ []))
     (node (codes "q") (codes "add") (from (codes "p"))) ≡ []
 copy_included = refl
 

@@ -2,16 +2,17 @@
 use Rattle.dump_history.proofs.Prelude.{◌≡◌, true, None, refl, DumpRecord, Include, Exclude, DropAll, Settings, findings_of, is_alarm, every_dump_finding, rise, dump_findings, none_is, no_node_faults}
 use Rattle.std.proofs.Common.{false, [], ◌∷◌, codes}
 use Rattle.dump_history.proofs.values.WorkedDump.{line, record_at, version, zero, one, two, trunk, three, copy}
-use Rattle.dump_history.proofs.values.FindingParts.{cut_by, include_a, exclude_a, node, from, whole_from, in_node, facts}
+use Rattle.dump_history.proofs.values.FindingParts.{include_a, exclude_a, node, from, whole_from, in_node, facts}
 use Rattle.dump_history.specs.declared.findings.Finding.TheVariants as findings
 use Rattle.dump_history.specs.declared.findings.DumpFinding.TheVariants as dump_wide
+use Rattle.dump_rules.specs.PlainSettings.{plain_settings}
 
 -- a directory and what is below it, both included
 abbrev include_both : Settings
-include_both = cut_by Include (codes "p" ∷ codes "p/a" ∷ [])
+include_both = plain_settings Include (codes "p" ∷ codes "p/a" ∷ [])
 
 abbrev include_trunk : Settings
-include_trunk = cut_by Include (codes "trunk" ∷ [])
+include_trunk = plain_settings Include (codes "trunk" ∷ [])
 
 -- revision 4
 abbrev four : DumpRecord
@@ -52,12 +53,12 @@ replaced_text : in_node exclude_a (node (codes "q/g") (codes "replace") (whole_f
 replaced_text = refl
 
 -- a copy lets in nothing below a path that isn't kept
-nothing_let_in : in_node (cut_by Exclude (codes "q" ∷ codes "q/b" ∷ []))
+nothing_let_in : in_node (plain_settings Exclude (codes "q" ∷ codes "q/b" ∷ []))
     (node (codes "q") (codes "add") (from (codes "p"))) ≡ []
 nothing_let_in = refl
 
 -- a copy of what isn't kept loses its properties, and isn't compared with its source
-nothing_to_lose : in_node (cut_by Exclude (codes "p" ∷ codes "p/a" ∷ []))
+nothing_to_lose : in_node (plain_settings Exclude (codes "p" ∷ codes "p/a" ∷ []))
     (node (codes "q") (codes "add") (from (codes "p"))) ≡ findings.NoWholeFile ∷ findings.PropertiesLost ∷ []
 nothing_to_lose = refl
 
@@ -86,7 +87,7 @@ directory_replaced : in_node include_a (node (codes "p") (codes "replace") []) �
 directory_replaced = refl
 
 -- a directory far above the prefix counts too
-root_of_prefix : in_node (cut_by Include (codes "p/a/b" ∷ [])) (node (codes "p") (codes "delete") [])
+root_of_prefix : in_node (plain_settings Include (codes "p/a/b" ∷ [])) (node (codes "p") (codes "delete") [])
     ≡ findings.IncludedStays ∷ []
 root_of_prefix = refl
 
@@ -128,7 +129,7 @@ node_in_second : dump_findings include_a (version ∷ zero ∷ one ∷ trunk ∷
 node_in_second = refl
 
 -- three findings in one dump: a node in revision 0, and after it revision 2, which is dropped, and a kept copy
-three_in_dump : dump_findings (record (cut_by Include (codes "trunk" ∷ [])) { empty = DropAll })
+three_in_dump : dump_findings (record (plain_settings Include (codes "trunk" ∷ [])) { empty = DropAll })
     (version ∷ zero ∷ trunk ∷ two ∷ three ∷ copy ∷ []) (facts true false)
     ≡ dump_wide.OtherNumbers ∷ dump_wide.NodeInFirst ∷ dump_wide.NumbersLeft ∷ []
 three_in_dump = refl

@@ -1,7 +1,7 @@
 -- An example dump of which a part is taken. An included file is a copy of an excluded file next to it, and its
 -- directory is copied to a branch, in which the file is included too. The first copy is replaced by the file. The
 -- second copy stays, since the file next to it is excluded in both directories.
-use Rattle.dump_history.proofs.Prelude.{◌≡◌, true, ◌++◌, length, None, refl, sym, ◌∙◌, subst, inr, ◌+◌, arith, lit<, Pad, Exclude, Settings, Ending, HasRecords, IsCutInto, property_length, text_length, DumpRecord, record_text, is_lawful, BeginsWithRecord, is_block, HoldsOfRecord, path_of, Node, Tree, root_alone, put, grafted, Made, TextChange, Change, Patching, MakesChange, MakeRevisions, LoadsAs, slice_get}
+use Rattle.dump_history.proofs.Prelude.{◌≡◌, true, ◌++◌, length, None, refl, sym, ◌∙◌, subst, inr, ◌+◌, arith, lit<, Exclude, Settings, Ending, HasRecords, IsCutInto, property_length, text_length, DumpRecord, record_text, is_lawful, BeginsWithRecord, is_block, HoldsOfRecord, path_of, Node, Tree, root_alone, put, grafted, Made, TextChange, Change, Patching, MakesChange, MakeRevisions, LoadsAs, slice_get}
 use Rattle.std.proofs.Common.{ℕ, false, List, [], ◌∷◌, Some, codes}
 use Rattle.std.specs.Fmt.{digits}
 use Rattle.dump_records.specs.DumpText.{line_feeds}
@@ -21,6 +21,7 @@ use Rattle.dump_history.proofs.expanded.NodeLemmas.{written_nodes_are_records}
 use Rattle.dump_history.proofs.values.WorkedExpansion.{stays}
 use Rattle.dump_history.proofs.values.WorkedDump.{line, record_at, version, zero as revision_0, one, trunk, joined, directory, none_of, makes_trunk}
 use Rattle.dump_text.specs.declared.fault.FaultKind.TheVariants as faults
+use Rattle.dump_rules.specs.PlainSettings.{plain_settings}
 
 -- the dump; its first records are those of the other example dump: a version, revision 0, and the directory in revision 1
 
@@ -189,14 +190,7 @@ whole = (
 -- Both files next to the included ones are excluded. Each revision stays, with its number and its properties, and
 -- missing merge sources are omitted.
 abbrev pub settings : Settings
-settings = record {
-  side = Exclude;
-  prefixes = codes "branch/old" ∷ codes "trunk/old" ∷ [];
-  empty = Pad;
-  renumber = false;
-  preserve = true;
-  skip_missing = true;
-}
+settings = record (plain_settings Exclude (codes "branch/old" ∷ codes "trunk/old" ∷ [])) { preserve = true; skip_missing = true }
 
 -- the filter rejects the dump itself
 refused : HoldsOfRecord settings (version ∷ revision_0 ∷ one ∷ trunk ∷ old ∷ two ∷ []) app faults.CopySource

@@ -1,6 +1,7 @@
 -- An example dump with a dropped revision and a copy whose number changes: its records, its changes and its trees.
 use Rattle.dump_history.proofs.Prelude.{◌≡◌, true, ◌++◌, length, Option, None, refl, sym, ap, ◌∙◌, inl, lit<, Header, is_block, Ending, HasRecords, IsCutInto, property_length, text_length, DumpRecord, record_text, is_lawful, BeginsWithRecord, Include, DropEmptied, Settings, HasPropertyList, path_of, Node, Tree, root_alone, put, grafted, Made, Change, Patching, MakesChange, MakeRevisions, LoadsAs}
 use Rattle.std.proofs.Common.{ℕ, false, List, [], ◌∷◌, Some, codes}
+use Rattle.dump_rules.specs.PlainSettings.{plain_settings}
 
 -- a header line
 abbrev pub line : List ℕ → List ℕ → Header
@@ -74,14 +75,7 @@ its_text = refl
 
 -- include trunk, drop emptied revisions and renumber
 abbrev pub settings : Settings
-settings = record {
-  side = Include;
-  prefixes = codes "trunk" ∷ [];
-  empty = DropEmptied;
-  renumber = true;
-  preserve = false;
-  skip_missing = false;
-}
+settings = record (plain_settings Include (codes "trunk" ∷ [])) { empty = DropEmptied; renumber = true }
 
 -- the changes, and the trees once they are loaded
 

@@ -21,12 +21,11 @@ use Rattle.dump_history.proofs.cuts.RenumberedLaw.{trimmed_dump_loads_renumbered
 use Rattle.dump_history.proofs.values.WorkedDump.{line, record_at, version, zero, one, trunk, none_of}
 use Rattle.dump_history.proofs.values.WorkedFilter.{at_place, free_of, follows, rises, begins, no_copy, text_alone, no_block, revision_part}
 use Rattle.dump_history.proofs.values.WorkedCut.{old, two, app, three, branch, records, dump, whole, begins_there, adds_trunk, adds_old, copies_old, copies_trunk, revisions, first_tree, second_tree, third_tree, trees, loads}
+use Rattle.dump_rules.specs.PlainSettings.{plain_settings}
 
 -- the copied file is excluded, and in the branch both files are
 abbrev pub settings : Settings
-settings = record {
-  side = Exclude;
-  prefixes = codes "/trunk/app" ∷ codes "/branch/app" ∷ codes "/branch/old" ∷ [];
+settings = record (plain_settings Exclude (codes "/trunk/app" ∷ codes "/branch/app" ∷ codes "/branch/old" ∷ [])) {
   empty = DropEmptied;
   renumber = true;
   preserve = true;

@@ -1,6 +1,6 @@
 -- The expanded form of the example dump, filtered and trimmed: a copy stays, and after it a file is deleted that the
 -- copy takes to an excluded path.
-use Rattle.dump_history.proofs.Prelude.{◌≡◌, ◌+◌, ◌<◌, ◌^◌, true, ◌++◌, length, refl, ap, ◌∙◌, subst, inl, inr, None, arith, lit<, slice_get, drop, AllZip, Exclude, Pad, Settings, Ending, HasRecords, NoFault, copy_revision_name, with_header_value, property_block_text, Property, DumpRecord, record_text, HasPropertyList, LengthsFit, kept_revisions, HoldsOfRecord, AreFaultFree, IsWrittenBlock, IsWrittenText, IsCleanText, AreNewProperties, IsNewProperty, IsNewNode, property_list_once, path_of, NodePath, Node, Tree, root_alone, put, Change, Patching, LoadsAs, map, not, both_ways, first_true, not-true, list_all, keeps, sym}
+use Rattle.dump_history.proofs.Prelude.{◌≡◌, ◌+◌, ◌<◌, ◌^◌, true, ◌++◌, length, refl, ap, ◌∙◌, subst, inl, inr, None, arith, lit<, slice_get, drop, AllZip, Exclude, Settings, Ending, HasRecords, NoFault, copy_revision_name, with_header_value, property_block_text, Property, DumpRecord, record_text, HasPropertyList, LengthsFit, kept_revisions, HoldsOfRecord, AreFaultFree, IsWrittenBlock, IsWrittenText, IsCleanText, AreNewProperties, IsNewProperty, IsNewNode, property_list_once, path_of, NodePath, Node, Tree, root_alone, put, Change, Patching, LoadsAs, map, not, both_ways, first_true, not-true, list_all, keeps, sym}
 use Rattle.std.proofs.Common.{ℕ, false, List, [], ◌∷◌, Some, codes}
 use Rattle.std.specs.Fmt.{digits}
 use Rattle.dump_trees.specs.Changes.{History}
@@ -26,14 +26,11 @@ use Rattle.dump_history.proofs.values.WorkedDump.{version, zero, one, trunk, non
 use Rattle.dump_history.proofs.values.WorkedFilter.{at_place, free_of, follows, rises, begins, no_copy, text_alone, no_block, revision_part}
 use Rattle.dump_history.proofs.values.WorkedCut.{old, two, three, branch, records, dump, whole, begins_there, adds_trunk, adds_old, adds_app, copies_trunk, revisions, first_tree, third_tree, trees, loads, settings as cut_settings, steads, file, can, expansion, is_expanded, expanded, expands, file_there, three_there, branch_there, again, whole_again}
 use Rattle.dump_history.proofs.values.CutLaw.{filtered}
+use Rattle.dump_rules.specs.PlainSettings.{plain_settings}
 
 -- both files are excluded in the branch, and in the trunk the one of which the other is a copy
 abbrev settings : Settings
-settings = record {
-  side = Exclude;
-  prefixes = codes "/trunk/old" ∷ codes "/branch/old" ∷ codes "/branch/app" ∷ [];
-  empty = Pad;
-  renumber = false;
+settings = record (plain_settings Exclude (codes "/trunk/old" ∷ codes "/branch/old" ∷ codes "/branch/app" ∷ [])) {
   preserve = true;
   skip_missing = true;
 }

@@ -1,23 +1,17 @@
 -- Loading after other revisions, when the load sets new properties. To the changes it is like a filter that keeps
 -- everything.
-use Rattle.dump_trees.proofs.Prelude.{◌≡◌, ◌+◌, cond, refl, sym, ap, ◌∙◌, subst, inl, inr, append_assoc, slice_get, AllZip, Property, Exclude, Pad, Settings, Node, Tree, HasDirectories, Made, Change, History, steps, given, is_given, NewProperty, KeepsEntries, NewNumber, IsNewNode, IsRestricted, sets_whole, IsNewMade, IsNewChange, AllHaveDirectories, AreRestricted, IsMade, loaded, AreNewChanges, AllSeparate, made_behind, IsChangeBehind, AreRevisionsBehind, AreAlike, AllAreAlike, LoadsAlike, EachLoadsAlike}
+use Rattle.dump_trees.proofs.Prelude.{◌≡◌, ◌+◌, cond, refl, sym, ap, ◌∙◌, subst, inl, inr, append_assoc, slice_get, AllZip, Property, Exclude, Settings, Node, Tree, HasDirectories, Made, Change, History, steps, given, is_given, NewProperty, KeepsEntries, NewNumber, IsNewNode, IsRestricted, sets_whole, IsNewMade, IsNewChange, AllHaveDirectories, AreRestricted, IsMade, loaded, AreNewChanges, AllSeparate, made_behind, IsChangeBehind, AreRevisionsBehind, AreAlike, AllAreAlike, LoadsAlike, EachLoadsAlike}
 use Rattle.std.proofs.Common.{ℕ, Bool, true, false, List, [], ◌∷◌, ◌++◌, length, Option, Some, None, option_and_then}
 use Rattle.dump_trees.proofs.changes.StepLemmas.{followed}
 use Rattle.dump_trees.proofs.changes.DirectoryLemmas.{KeepsDirectories}
 use Rattle.dump_trees.proofs.changes.RevisionLemmas.{steps_keep, steps_follow}
 use Rattle.dump_trees.proofs.histories.KeptNumbers.{length_push, get_last, get_before, get_pushed}
 use Rattle.dump_trees.proofs.histories.MovedLemmas.{get_behind}
+use Rattle.dump_rules.specs.PlainSettings.{plain_settings}
 
 -- nothing is excluded, so everything is kept
 abbrev none_excluded : Settings
-none_excluded = record {
-  side = Exclude;
-  prefixes = [];
-  empty = Pad;
-  renumber = false;
-  preserve = false;
-  skip_missing = false;
-}
+none_excluded = plain_settings Exclude []
 
 -- a tree that differs only in new properties is the other one, restricted to all paths
 restricted : (IsNew : NewProperty) (old new : Tree) → AreAlike IsNew old new → IsRestricted none_excluded IsNew old new

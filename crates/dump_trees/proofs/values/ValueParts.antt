@@ -1,19 +1,13 @@
 -- Parts of the examples: options, changes, and what exists in a loaded dump.
 use Rattle.dump_trees.proofs.Prelude.{◌≡◌, refl, ap, slice_get, Property, Include, Exclude, DropEmptied, Settings, path_of, keeps, Node, Tree, root_alone, Made, PropertyChange, TextChange, Change, NewProperty, KeepsEntries, IsNewChange, IsMade, loaded_over, EmptyRule}
 use Rattle.std.specs.Prelude.{ℕ, Bool, true, false, ◌&&◌, List, [], ◌∷◌, ◌++◌, length, Option, Some, None, option_and_then, is_some, is_none}
+use Rattle.dump_rules.specs.PlainSettings.{plain_settings}
 
 -- options
 
 -- these prefixes are included, emptied revisions dropped, and the others renumbered
 abbrev pub including_all : List (List ℕ) → Settings
-including_all prefixes = record {
-  side = Include;
-  prefixes = prefixes;
-  empty = DropEmptied;
-  renumber = true;
-  preserve = false;
-  skip_missing = false;
-}
+including_all prefixes = record (plain_settings Include prefixes) { empty = DropEmptied; renumber = true }
 
 -- so is this prefix
 abbrev pub including : List ℕ → Settings

@@ -3,7 +3,7 @@ ghost use Rattle.std.specs.Prelude.{◌≤◌, All};
 
 use dump_rules::laws::each_map_has_one_spelling;
 use dump_rules::{
-    Empty, Memory, Merged, Options, Reach, RewriteFault, Side, merge_reads, new_value, rewrite,
+    Empty, Memory, Merged, Options, Reach, RewriteFault, merge_reads, new_value, rewrite,
 };
 use std::alloc::{AllocError, Global};
 use std::test::Fail;
@@ -14,15 +14,9 @@ fn rules(
     renumber: bool,
     skip_missing: bool,
 ) -> Result<Options, Memory> {
-    Options::new(
-        alloc,
-        Side::Include,
-        &[prefix],
-        Empty::DropEmptied,
-        renumber,
-        false,
-        skip_missing,
-    )
+    let options = Options::include(alloc, &[prefix])?.with_empty(Empty::DropEmptied);
+    let options = options.with_renumber(renumber);
+    Ok(options.with_skip_missing(skip_missing))
 }
 
 /// Whether this value, which has to be mergeinfo, is rewritten to this one, or fails with this fault.

@@ -1,6 +1,6 @@
 //! The prefixes to add, on example dumps.
 use super::{are_words, one_prefix, rules};
-use dump_rules::{Empty, Options, Side};
+use dump_rules::{Options, Side};
 use dump_survey::{Memory, prefixes_to_add, write_advice};
 use dump_writer::{MemorySink, Trouble};
 use std::alloc::Global;
@@ -69,9 +69,7 @@ fn prefixes_to_add_or_no_memory(rt: HostRuntime) {
 /// The same test for the lines of the advice.
 #[test]
 fn advice_or_no_memory(rt: HostRuntime) {
-    let (side, prefixes) = (Side::Include, [b"x/y".as_slice(), b"c"]);
-    let made = Options::new(rt.alloc(), side, &prefixes, Empty::Pad, false, false, false);
-    let Ok(options) = made else {
+    let Ok(options) = Options::include(rt.alloc(), &[b"x/y", b"c"]) else {
         return;
     };
     let mut sink = MemorySink::new(rt.alloc(), 8, Trouble::Never);

@@ -1,5 +1,5 @@
 //! The map of revisions, and sinks and memory that fail.
-use dump_rules::{Empty, Memory, Options, Side};
+use dump_rules::{Empty, Memory, Options};
 use dump_survey::{SurveyFailure, write_map};
 use dump_writer::{MemorySink, Trouble};
 use std::alloc::Global;
@@ -17,16 +17,8 @@ Node-path: trunk\nNode-kind: dir\nNode-action: add\n\n\n";
 const MAP: &[u8] = b"r3 becomes r3\nr9 becomes r4\n";
 
 fn renumbering(alloc: Global) -> Result<Options, Memory> {
-    let prefixes = [b"trunk".as_slice()];
-    Options::new(
-        alloc,
-        Side::Include,
-        &prefixes,
-        Empty::DropEmptied,
-        true,
-        false,
-        false,
-    )
+    let options = Options::include(alloc, &[b"trunk"])?;
+    Ok(options.with_empty(Empty::DropEmptied).with_renumber(true))
 }
 
 /// Whether writing the map to a sink with this trouble has this result, and the sink has taken these bytes.

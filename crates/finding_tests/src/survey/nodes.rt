@@ -210,16 +210,8 @@ fn assert_found_in_part(
     node: &str,
     wanted: &[Finding],
 ) -> Result<(), Fail> {
-    let (side, prefixes) = (Side::Include, [b"trunk".as_slice()]);
-    let options = Options::new(
-        alloc,
-        side,
-        &prefixes,
-        Empty::DropEmptied,
-        true,
-        false,
-        false,
-    )?;
+    let options = Options::include(alloc, &[b"trunk"])?;
+    let options = options.with_empty(Empty::DropEmptied).with_renumber(true);
     let dump = format!(in alloc;
         "SVN-fs-dump-format-version: 2\n\nRevision-number: 5\n\nNode-path: o\nNode-action: add\n\n\
         Revision-number: 6\n\nNode-path: trunk\nNode-action: add\n\nRevision-number: 7\n\n{node}\n"

@@ -1,23 +1,14 @@
 //! Lines of mergeinfo that the filter omits, on example dumps.
 use super::rules;
-use dump_rules::{Empty, Options, Side};
+use dump_rules::{Options, Side};
 use dump_survey::{omitted_lines, write_advice};
 use dump_writer::{MemorySink, Trouble};
 use std::alloc::Global;
 use std::test::Fail;
 
 fn skipping(alloc: Global, prefix: &str) -> Result<Options, Fail> {
-    let prefixes = [prefix.as_bytes()];
-    let options = Options::new(
-        alloc,
-        Side::Include,
-        &prefixes,
-        Empty::Pad,
-        false,
-        false,
-        true,
-    )?;
-    Ok(options)
+    let options = Options::include(alloc, &[prefix.as_bytes()])?;
+    Ok(options.with_skip_missing(true))
 }
 
 /// The number of lines that the filter omits under this prefix from a dump that has a directory `trunk` with a

@@ -5,7 +5,7 @@ use super::running::VERSION;
 use super::{PROPERTIES, is_first_part};
 use dump_filter::Report;
 use dump_pipeline::Answer;
-use dump_rules::{Empty, Options, Side};
+use dump_rules::{Empty, Options};
 use dump_writer::{MemorySink, Trouble};
 use std::alloc::{AllocError, Global};
 use std::process::Abort;
@@ -84,11 +84,10 @@ fn leaves_first_part<R: Threads + Wait + Sync>(
     dump: &[u8],
     kept: &[u8],
 ) -> Result<bool, Fail> {
-    let (side, prefixes) = (Side::Include, [b"trunk".as_slice()]);
-    let empty = Empty::DropEmptied;
-    let Ok(options) = Options::new(alloc, side, &prefixes, empty, true, false, false) else {
+    let Ok(options) = Options::include(alloc, &[b"trunk"]) else {
         return Ok(true);
     };
+    let options = options.with_empty(Empty::DropEmptied).with_renumber(true);
     let mut sink = MemorySink::new(alloc, 1000, Trouble::Never);
     let answer = run_by(rt, alloc, dump, &options, by, &mut sink)?;
     Ok(is_first_part(answer, sink.taken(), (Answer::Clean(COUNTS), kept)))

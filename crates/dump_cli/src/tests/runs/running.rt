@@ -4,7 +4,7 @@ use super::gates::{Counting, Holding, Telling, Watching};
 use super::{DUMP, TRUNK2, include_trunk, is_first_part, report, write_group, write_revision};
 use dump_filter::Report;
 use dump_pipeline::{Answer, Failure, FreeGate, Gate, Plan, run};
-use dump_rules::{Empty, Options, Side};
+use dump_rules::{Empty, Options};
 use dump_text::FaultKind;
 use dump_writer::{MemorySink, Trouble};
 use std::alloc::{AllocError, Global};
@@ -25,16 +25,7 @@ pub fn plan(workers: usize, window: usize) -> Result<Plan, Fail> {
 }
 
 pub fn everything(alloc: Global) -> Result<Options, Fail> {
-    let prefixes = [b"/".as_slice()];
-    Ok(Options::new(
-        alloc,
-        Side::Include,
-        prefixes.as_slice(),
-        Empty::Pad,
-        false,
-        false,
-        false,
-    )?)
+    Ok(Options::include(alloc, &[b"/"])?)
 }
 
 /// Whether a run with threads, into a sink that takes all, gives this answer and these bytes.
@@ -177,16 +168,8 @@ pub fn hundred(alloc: Global) -> Result<Vec<u8>, Fail> {
 }
 
 pub fn renumbering(alloc: Global) -> Result<Options, Fail> {
-    let prefixes = [b"trunk".as_slice()];
-    Ok(Options::new(
-        alloc,
-        Side::Include,
-        prefixes.as_slice(),
-        Empty::DropEmptied,
-        true,
-        false,
-        false,
-    )?)
+    let options = Options::include(alloc, &[b"trunk"])?;
+    Ok(options.with_empty(Empty::DropEmptied).with_renumber(true))
 }
 
 /// The answer to it.
