@@ -1,9 +1,12 @@
 //! Files of prefixes, with one prefix in each line.
 ghost use Rattle.std.specs.Prelude.{◌≡◌, ◌<◌, ◌++◌, ◌∷◌, ℕ, List, Option, IfOk, IfSome, length, map};
-ghost use Rattle.cli_support.specs.Targets.{AreTextsOf, after_blanks, before_blanks, is_blank, is_line_end, prefix_of_line, prefixes_of_text, prefixes_of_texts, lines_in_text};
+ghost use Rattle.cli_support.specs.Targets.{AreTextsOf, after_blanks, before_blanks, is_blank, is_line_end, order_mark, prefix_of_line, prefixes_in_lines, prefixes_of_text, prefixes_of_texts, lines_in_text, without_mark};
 
 use crate::input::Unread;
 use std::alloc::{AllocError, Global};
+
+/// A byte order mark, in UTF-8.
+const ORDER_MARK: [u8; 3] = [0xef, 0xbb, 0xbf];
 
 /// Files that a program reads by their names.
 pub trait NamedFiles {
@@ -46,7 +49,7 @@ pub fn read_files<F: NamedFiles>(
 }
 
 /// These prefixes, followed by those in texts. A text has one prefix in each line; blanks at its ends are removed, and
-/// empty lines are ignored.
+/// empty lines are ignored. So is a byte order mark at the head of a text.
 pub fn with_texts<'a>(
     prefixes: Vec<&'a [u8]>,
     texts: &'a [Vec<u8>],
@@ -63,6 +66,23 @@ pub fn with_texts<'a>(
 /// The same with the prefixes in one text.
 fn with_text<'a>(prefixes: Vec<&'a [u8]>, text: &'a [u8]) -> Result<Vec<&'a [u8]>, AllocError>
     ensures { IfOk result (λ all. map (λ prefix. prefix.now) all.items ≡ map (λ prefix. prefix.now) prefixes.entry.items ++ prefixes_of_text text.now) }
+{
+    with_lines(prefixes, without_mark(text))
+}
+
+/// A text without the byte order mark of UTF-8, if it begins with one.
+fn without_mark(text: &[u8]) -> &[u8]
+    ensures { result.now ≡ without_mark text.now }
+{
+    match text.strip_prefix(&ORDER_MARK) {
+        Some(rest) => rest,
+        None => text,
+    }
+}
+
+/// The same with the prefixes in the lines of a text.
+fn with_lines<'a>(prefixes: Vec<&'a [u8]>, text: &'a [u8]) -> Result<Vec<&'a [u8]>, AllocError>
+    ensures { IfOk result (λ all. map (λ prefix. prefix.now) all.items ≡ map (λ prefix. prefix.now) prefixes.entry.items ++ prefixes_in_lines (lines_in_text text.now)) }
 {
     let mut all = prefixes;
     let mut left = text;
