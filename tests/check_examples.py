@@ -311,7 +311,7 @@ def wrong_in_pages(pages, examples):
     for name, called in [(it, it) for it in pages] + [("README", NAMES["filter"])]:
         unnamed = not any(it.page == name and called in "".join(it.commands) for it in examples)
         looks.append(unnamed and f"no example of {name} calls {called}")
-    version = re.search(r"^## (\d[\d.]*) ", read("CHANGELOG.md"), re.MULTILINE)[1]
+    version = re.search(r"^## (\S+)", read("CHANGELOG.md"), re.MULTILINE)[1]
     for word, name in ("cut", "the_version"), ("survey", "the_version_of_the_survey"):
         told = cases()[name].of(word, "stdout").decode()
         looks.append(told != f"svndump{word}, version {version}\n" and f"the case {name} has {told!r}, CHANGELOG {version}")

@@ -1,7 +1,7 @@
 #!/bin/sh
 # Makes a Debian package of all programs, their pages and their documents. It can be installed next to Debian's own subversion,
-# which has no program of these names. The version is that of CHANGELOG.md; if that has unreleased
-# changes, the time and the name of the last commit are appended.
+# which has no program of these names. The version is that of CHANGELOG.md; if it is not released, the time and the name of
+# the last commit are appended.
 set -eu
 cd "$(dirname -- "$0")/.."
 package=svndumpfilter-proved
@@ -15,11 +15,14 @@ commit() {
     TZ=UTC git log -1 --date=format-local:%Y%m%d%H%M%S --format="$1" 2> /dev/null || true
 }
 
-version=$(sed -n 's/^## \([0-9][0-9.]*\) .*/\1/p' CHANGELOG.md | head -n 1)
-if grep -q '^## Unreleased' CHANGELOG.md; then
-    since=$(commit %cd.%h)
-    version=$version+${since:-unreleased}
-fi
+version=$(sed -n 's/^## \([^ ]*\).*/\1/p' CHANGELOG.md | head -n 1)
+case $version in
+    *-dev)
+        since=$(commit %cd.%h)
+        # a version with a tilde comes before the one without what follows it
+        version=${version%-dev}~dev${since:+.$since}
+        ;;
+esac
 day=$(commit %cD)
 
 rm -rf "$root" build/${package}_*.deb

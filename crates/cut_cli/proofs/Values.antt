@@ -275,7 +275,7 @@ kept_under_include = refl
 
 -- Texts
 
-version : info_text Version ≡ codes "svndumpcut, version 1.2.0\n"
+version : info_text Version ≡ codes "svndumpcut, version 1.3.0-dev\n"
 version = refl
 
 -- Drive

@@ -36,7 +36,7 @@ The manual page svndumpcut(1) has more.
 ";
 
 /// The text of `--version`. CHANGELOG.md has this number.
-pub const VERSION: &str = "svndumpcut, version 1.2.0\n";
+pub const VERSION: &str = "svndumpcut, version 1.3.0-dev\n";
 
 /// The text for which the user asked.
 pub fn info_text(info: Info) -> &'static str

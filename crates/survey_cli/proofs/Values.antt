@@ -71,7 +71,7 @@ refused_for_others e = cc
 
 -- Texts
 
-version : VERSION.now ≡ codes "svndumpsurvey, version 1.2.0\n"
+version : VERSION.now ≡ codes "svndumpsurvey, version 1.3.0-dev\n"
 version = refl
 
 version_is_printed : AnswersWords (Some Version) (Err Words) None (Some []) (Some VERSION.now) 0

@@ -24,4 +24,4 @@ The manual page svndumpsurvey(1) has more.
 ";
 
 /// The text of `--version`. CHANGELOG.md has this number.
-pub const VERSION: &str = "svndumpsurvey, version 1.2.0\n";
+pub const VERSION: &str = "svndumpsurvey, version 1.3.0-dev\n";
