@@ -4,8 +4,8 @@
     tests/check_names.py
 
 It fails if two crates define a public name in their specs/. It fails too if two definitions of specs/, or the bodies of two
-functions of src/, are equal but for their own names. Bodies of one line or of less than 40 characters, and tests, are not
-compared. Copies that are known are in tests/known_copies.txt. One that is no longer there is an error as well, so that the
+functions of src/, are equal but for their own names and those of their parameters and variables. Bodies of one line or of less
+than 40 characters, and tests, are not compared. Copies that are known are in tests/known_copies.txt. One that is no longer there is an error as well, so that the
 list only gets shorter.
 
 And it fails if only its own proof, and imports, have the name of a lemma of proofs/, unless the lemma is a worked value. Since
@@ -28,6 +28,15 @@ LEMMA = re.compile(r"^( *)(?:(?:abbrev|pub|record|data) )*([^\s:({]+) :(?: |$)")
 # what no other proof uses: worked values, and the answers to goals
 UNUSED = re.compile(r"/values/|Values\.antt$|/(?:Answers|Invariants|Proof)\.antt$")
 NAME = re.compile(r"[^\s(){}\[\];,.]+")
+# a name of Rust, a field or a method with its dot, a part of a path with its colons, or another mark
+TOKEN = re.compile(r"\"[^\"]*\"|(?:\.|::)?[A-Za-z_]\w*|\S")
+# a name of a definition, a field with its dot, or another mark
+NAME_OR_MARK = re.compile(r"\"[^\"]*\"|\.?[^\W\d][\w'₀-₉-]*|\S")
+# the line of a field or of a case
+PART = re.compile(r"^ +(?:pub )?([\w'₀-₉-]+) :(?: |$)", re.MULTILINE)
+RUST = set("as break continue else false fn for if in let loop match mut move ref return self true while unreachable".split())
+# names that are no parameters of a definition
+WORDS = {"abbrev", "pub", "record", "data", "where", "module", "mutual", "let", "in", "if", "then", "else", "opaque", "unfoldable"}
 KNOWN = "tests/known_copies.txt"
 LEAST = 40
 
@@ -59,27 +68,48 @@ def definitions(text):
 
 
 def functions(text):
-    """The name and the body of each function of a file that has a body of several lines."""
-    head, body = None, None
+    """The name, the parameters and the body of each function of a file that has a body of several lines."""
+    head, body, words = None, None, ""
     for line in text.splitlines():
         begins = FUNCTION.match(line)
         if body is not None:
             if line == head[1] + "}":
-                yield head[2], "\n".join(body)
+                yield head[2], re.findall(r"[(,]\s*(?:mut )?(\w+):", words), "\n".join(body)
                 head, body = None, None
             else:
                 body.append(line)
         elif begins or head:
-            head = begins or head
+            head, words = begins or head, line if begins else words + line
             # the brace is in the first line, alone after a contract, or after the result's type below all parameters
             if line == head[1] + "{" or line.endswith("{") and (begins or line.startswith(head[1] + ")")):
                 body = []
 
 
-def without_name(name, text):
-    """A text in one line, with a mark in place of a name."""
-    marked = re.sub(rf"(?<![^\s(){{}};,.]){re.escape(name)}(?![^\s(){{}};,.])", "◆", text)
-    return " ".join(marked.split())
+def numbered(tokens, is_own, first=()):
+    """Tokens in one line, with a number in place of each of those that are names of one's own; the first numbers are of these."""
+    found = {it: number for number, it in enumerate(first)}
+    return " ".join(f"#{found.setdefault(it, len(found))}" if is_own(it) else it for it in tokens)
+
+
+def without_names(name, text, known):
+    """A definition in one line, with marks in place of its name and of those that are neither known in its file nor its parts."""
+    tokens, parts = ["◆" if it == name else it for it in NAME_OR_MARK.findall(text)], set(PART.findall(text))
+    return numbered(tokens, lambda it: re.match(r"[^\W\d]", it) and it not in known | parts)
+
+
+def without_variables(parameters, body):
+    """A function's body in one line, with numbers in place of its variables: names in small letters that nothing is called by."""
+    tokens = TOKEN.findall(body)
+    called = {it for it, after in zip(tokens, tokens[1:]) if after in ("(", "!", "{", ":") or after.startswith("::")}
+    return numbered(tokens, lambda it: re.match(r"[a-z_]\w*$", it) and it not in called | RUST, parameters)
+
+
+def known_names(text):
+    """The names that a file of specs/ imports or defines."""
+    imported = re.findall(r"^(?:pub )?use [^{;\n]*\{([^}]*)\}", text, re.MULTILINE)
+    names = {it.split(" as ")[-1].strip() for group in imported for it in group.split(",")}
+    defined = {name for name, _, _ in definitions(text)}
+    return names | defined | set(re.findall(r"^use \S+ as (\w+)", text, re.MULTILINE)) | WORDS
 
 
 def defined_twice():
@@ -96,13 +126,13 @@ def copies():
     """What is equal but for its name, as lines of the list of known copies."""
     found = {}
     for crate, _, text in files("crates/*/specs/**/*.antt"):
+        known = known_names(text)
         for name, _, body in definitions(text):
-            found.setdefault(("definition", without_name(name, body)), []).append(f"{crate}::{name}")
+            found.setdefault(("definition", without_names(name, body, known)), []).append(f"{crate}::{name}")
     for crate, file, text in files("crates/*/src/**/*.rt"):
-        for name, body in functions(text) if "tests" not in re.split(r"[/.]", file) else []:
-            body = without_name(name, body)
-            if len(body) >= LEAST:
-                found.setdefault(("function", body), []).append(f"{crate}::{name}")
+        for name, parameters, body in functions(text) if "tests" not in re.split(r"[/.]", file) else []:
+            if len(" ".join(body.split())) >= LEAST:
+                found.setdefault(("function", without_variables(parameters, body)), []).append(f"{crate}::{name}")
     return {" ".join([kind, *sorted(names)]) for (kind, _), names in found.items() if len(names) > 1}
 
 

@@ -4,7 +4,7 @@ use Rattle.std.specs.Io.KnownBytes.{Appends}
 use Rattle.std.specs.Option.{option_or}
 use Rattle.std.specs.Str.{bytes_eq}
 use Rattle.clap.specs.Words.{Text}
-use Rattle.dump_writer.specs.SinkWords.{IsPrefixOf}
+use Rattle.dump_writer.specs.SinkWords.{TakesPart}
 use Rattle.cli_support.specs.declared.info.Info.{Info}
 use Rattle.cli_support.specs.declared.info.Info.TheVariants.{Help, Version}
 
@@ -22,11 +22,7 @@ info_in (word ∷ words) = if bytes_eq word (codes "--") then None else option_o
 abbrev pub info_of : List Text → Option Info
 info_of words = info_in (drop 1 words)
 
--- the writer took the first of the bytes, perhaps all, perhaps none
-abbrev pub TakesFront : Option (List ℕ) → Option (List ℕ) → List ℕ → Type 0
-TakesFront old new text = (part : List ℕ) × IsPrefixOf part text × Appends old new part
-
 -- a text is printed: the writer took all of it; or it took a first part, and the status is that of a failure
 abbrev pub Prints : ℕ → Text → Option (List ℕ) → Option (List ℕ) → ℕ → Type 0
 Prints failed text old new status = (Appends old new text × (status ≡ 0))
-    ⊎ (TakesFront old new text × (status ≡ failed))
+    ⊎ (TakesPart old new text × (status ≡ failed))

@@ -2,7 +2,8 @@
 ghost use Rattle.std.specs.Prelude.{◌≡◌, [], OnErr, OnOk, map};
 ghost use Rattle.std.specs.Io.KnownBytes.{Appends};
 ghost use Rattle.dump_writer.specs.steps.SinkStates.{loan_of};
-ghost use Rattle.cli_support.specs.Info.{Prints, TakesFront, info_in, info_of, named_info};
+ghost use Rattle.cli_support.specs.Info.{Prints, info_in, info_of, named_info};
+ghost use Rattle.dump_writer.specs.SinkWords.{TakesPart};
 
 use crate::buffered::{finish, output_buffer};
 use crate::outcome::{Cause, Program, fail};
@@ -81,7 +82,7 @@ pub struct Unwritten {
 /// Writes a text, and flushes it.
 pub fn write_text<W: Write>(alloc: Global, text: &[u8], writer: &mut W) -> Result<(), Unwritten>
     ensures whole { OnOk result (Appends (W.contents writer.old) (W.contents writer.new) text.now) }
-    ensures part { OnErr result (TakesFront (W.contents writer.old) (W.contents writer.new) text.now) }
+    ensures part { OnErr result (TakesPart (W.contents writer.old) (W.contents writer.new) text.now) }
 {
     let Ok(buffer) = output_buffer(alloc) else {
         return Err(Unwritten {
@@ -104,7 +105,7 @@ fn send<W: Write>(alloc: Global, text: &[u8], sink: &mut OutMut<'_, W>) -> Resul
     requires waiting { sink.old.waiting ≡ [] }
     requires start { sink.old.out.start ≡ sink.old.out.taken }
     ensures whole { OnOk result (Appends sink.old.out.taken sink.new.out.taken text.now) }
-    ensures part { OnErr result (TakesFront sink.old.out.taken sink.new.out.taken text.now) }
+    ensures part { OnErr result (TakesPart sink.old.out.taken sink.new.out.taken text.now) }
     ensures loan { loan_of sink.new ≡ loan_of sink.old }
 {
     let mut piece = Piece::new(alloc);

@@ -13,9 +13,10 @@ use Rattle.dump_pipeline.specs.declared.answer.Answer.{Answer}
 use Rattle.dump_pipeline.specs.declared.answer.Answer.TheVariants.{Clean, Fault}
 use Rattle.dump_pipeline.specs.declared.answer.Failure.{Failure}
 use Rattle.cli_support.proofs.OutputLemmas.{from_none, handed_on, part_taken}
-use Rattle.cut_cli.specs.Sent.{IsTrimmedIf, IsKeptOf, IsPartIf, IsSent, TakesPart, stop_line_of}
+use Rattle.cut_cli.specs.Sent.{IsTrimmedIf, IsKeptOf, IsPartIf, IsSent, stop_line_of}
 use Rattle.cut_cli.specs.steps.Drive.{ArrivesOrBreaksOff, RanCut}
 use Rattle.cut_cli.specs.steps.Ended.{FailsFirst, TellsAfter}
+use Rattle.dump_writer.specs.SinkWords.{TakesPart}
 
 -- the first bytes of a text, fewer than all
 pub first_of : (old new : Option (List ℕ)) (text line : List ℕ) (n : ℕ) → TakesOnlyFirst old new text n → line ≡ text

@@ -1,11 +1,9 @@
 -- What is sent to the output of what the filter writes.
-use Rattle.std.specs.Prelude.{◌≡◌, ◌<◌, ◌^◌, ℕ, List, [], ◌∷◌, length, Option, None, Some, codes, decimal, if◌then◌else◌}
+use Rattle.std.specs.Prelude.{◌≡◌, ◌<◌, ◌^◌, ℕ, List, [], ◌∷◌, length, Option, None, Some, codes, decimal}
 use Rattle.std.specs.List.{concat}
-use Rattle.std.specs.Io.KnownBytes.{Appends}
 use Rattle.dump_text.specs.FaultTable.{fault_code}
 use Rattle.dump_text.specs.declared.fault.FaultKind.{FaultKind}
 use Rattle.dump_rules.specs.Settings.{Settings}
-use Rattle.dump_writer.specs.SinkWords.{IsPrefixOf}
 use Rattle.dump_pipeline.specs.RunAnswer.{IsRunAnswer}
 use Rattle.dump_pipeline.specs.declared.answer.Answer.{Answer}
 use Rattle.dump_pipeline.specs.declared.answer.Answer.TheVariants.{Clean, Fault, Failed}
@@ -21,10 +19,6 @@ abbrev pub stop_line_of : Answer → List ℕ
 stop_line_of (Clean _) = []
 stop_line_of (Fault kind _ _) = stop_line kind
 stop_line_of (Failed _ _) = []
-
--- the writer took the first of the bytes, perhaps all
-abbrev pub TakesPart : Option (List ℕ) → Option (List ℕ) → List ℕ → Type 0
-TakesPart old new sent = (part : List ℕ) × IsPrefixOf part sent × Appends old new part
 
 -- the text is what the filter writes, with the deletes behind its nodes, if there are some
 abbrev pub IsTrimmedIf : Option (List (List (List ℕ))) → List ℕ → List ℕ → Type 0

@@ -10,10 +10,11 @@ use Rattle.cli_support.specs.Info.{Prints}
 use Rattle.cli_support.specs.NamedOutputs.{Replaces}
 use Rattle.cli_support.specs.declared.info.Info.{Info}
 use Rattle.cli_support.specs.declared.usage.Usage.{Usage}
-use Rattle.cut_cli.specs.Sent.{IsSent, TakesPart, stop_line_of}
+use Rattle.cut_cli.specs.Sent.{IsSent, stop_line_of}
 use Rattle.cut_cli.specs.RevisionMap.{IsMapOfCut}
 use Rattle.cut_cli.specs.Texts.{info_text}
 use Rattle.cut_cli.specs.Words.{CutMeaning}
+use Rattle.dump_writer.specs.SinkWords.{TakesPart}
 
 -- with status 2 or 3 nothing is written, and nothing by a trial, if it is known what the reader had left
 abbrev pub NothingIsWritten : Option Info → Result CutMeaning Usage → Option (List ℕ) → (old new : Option (List ℕ)) → ℕ → Type 0

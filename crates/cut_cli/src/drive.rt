@@ -2,7 +2,7 @@
 ghost use Rattle.std.specs.Prelude.{◌≡◌, ◌⊎◌, ◌||◌, [], IfOk, OnErr, OnOk, is_some, map};
 ghost use Rattle.std.specs.Io.KnownBytes.{Appends, Keeps};
 ghost use Rattle.dump_writer.specs.steps.SinkStates.{lent_taken, loan_of};
-ghost use Rattle.cut_cli.specs.Sent.{TakesPart, stop_line, stop_line_of};
+ghost use Rattle.cut_cli.specs.Sent.{stop_line, stop_line_of};
 ghost use Rattle.cut_cli.specs.steps.Drive.{AnswersCall, AnswersWhole, CutsDump, CutsInput, DrivesCut, RanCut, ReadsTargets, WritesBoth, WritesCut, obstacle_status, cut_status};
 ghost use Rattle.cli_support.specs.Info.{info_of};
 ghost use Rattle.cut_cli.specs.Headline.{ZeroIsCut, ZeroIsDroppedCut, ZeroIsOfKept, ZeroIsRest, ZeroPromises};
@@ -12,6 +12,7 @@ ghost use Rattle.cut_cli.specs.steps.Words.{asked_map, cut_meaning};
 ghost use Rattle.cut_cli.specs.steps.Cuts.{text_read};
 ghost use Rattle.cut_cli.specs.steps.Examined.{expansion_text};
 ghost use Rattle.cut_cli.specs.steps.Ended.{FailsFirst, TellsAfter};
+ghost use Rattle.dump_writer.specs.SinkWords.{TakesPart};
 
 use crate::examine::{Obstacle, Ready, examine};
 use crate::expansion::Expansion;

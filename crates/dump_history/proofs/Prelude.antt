@@ -33,7 +33,7 @@ pub use Rattle.dump_filter.specs.steps.NewLines.{is_copy_line}
 pub use Rattle.dump_history.specs.DumpChanges.{HaveRevisionProperties, LoadsAs, MakeChanges, MakeRevisions, counts_from, has_ordered_nodes}
 pub use Rattle.dump_history.specs.DumpLaws.{DumpLoadsOnce, FilteredDumpFrontRestricts, FilteredDumpRestricts, FilteredDumpRestrictsAfterDirectories, FrontLoadsRestricted, HasNoGapIfKept, KeepsProperties, LoadsAfterDirectories, LoadsRestricted, NoGapIsNeeded, QuietDumpFrontRestricts, QuietDumpRestricts, QuietDumpRestrictsAfterDirectories, RevisionsKeepProperties, TreesRestrict, keeps_numbering}
 pub use Rattle.dump_history.specs.Findings.{AreDumpFindingsOf, AreFindingsOf, AreNodeFaultsOf, DumpFacts, HasUnreadRevision, IsReadBlock, IsUnreadRevision, NodeFaults, begins_at, copies_from_before, dump_findings, every_dump_finding, every_finding, findings_of, first_has_node, has_kept_path, has_kept_source, has_source_before, is_above_prefix, is_alarm, is_found, is_found_in_dump, is_obstacle, rise}
-pub use Rattle.dump_history.specs.NumberGaps.{HasNamingNode, HasNamingNodeBehind, KeepsNamedNumbers, LoadsWithGapsAs, MakeRevisionsWithGaps, NamesRevision, NamesRevisionBehind, SetsMergeinfo, count_to_gap, entries_of, go_up, name_no_revision, names_revision, sets_mergeinfo}
+pub use Rattle.dump_history.specs.NumberGaps.{HasNamingNode, HasNamingNodeBehind, KeepsNamedNumbers, LoadsWithGapsAs, MakeRevisionsWithGaps, NamesRevision, NamesRevisionBehind, SetsMergeinfo, count_to_gap, go_up, name_no_revision, names_revision, sets_mergeinfo}
 pub use Rattle.dump_history.specs.PartLaws.{FilteredPartRestricts, IsLoadedBehindOne, IsLoadedProperty, MakePartRevisions, MakePartRevisionsWithGaps, NoGapIsNeededInPart, PartLoadsAs, PartLoadsBehind, QuietPartRestricts, kept_as_loaded}
 pub use Rattle.dump_history.specs.RaisedMergeinfo.{AreRaisedLines, HasMergedNumber, IsRaised, IsRaisedValue}
 pub use Rattle.dump_history.specs.RecordChanges.{MakesChange, Patching, change_of, copied_from, copy_path, copy_revision, deletes, has_known_action, has_undefined_delta, loads_as_written, is_plain_line, made_by_kind, made_of, makes, property_change_of, says, text_change_of}

@@ -1,7 +1,7 @@
 -- Gaps in the numbers of a dump's revisions. A load numbers revisions itself, without gaps, and goes by the numbers in
 -- the dump only to find the revisions that copies and mergeinfo name (svnadmin load of Subversion 1.14,
 -- load-fs-vtable.c). So if none is named after a gap, a dump makes the revisions that it would make without it.
-use Rattle.std.specs.Prelude.{◌≡◌, ◌⊎◌, ℕ, suc, Bool, true, false, not, ◌&&◌, ◌||◌, ◌==◌, List, [], ◌∷◌, nat_lt, Option, Some, None, Contains, IsTrue, MatchBool, ⊤}
+use Rattle.std.specs.Prelude.{◌≡◌, ◌⊎◌, ℕ, suc, Bool, true, false, not, ◌&&◌, ◌||◌, ◌==◌, List, [], ◌∷◌, nat_lt, Some, Contains, IsTrue, MatchBool, ⊤}
 use Rattle.std.specs.List.{AllZip, list_all, list_any}
 use Rattle.dump_text.specs.PropertyList.{Property}
 use Rattle.dump_records.specs.RecordText.{DumpRecord}
@@ -9,22 +9,17 @@ use Rattle.dump_rules.specs.Settings.{Settings}
 use Rattle.dump_digest.specs.RecordParts.{is_copy, is_kept_node, is_mergeinfo, HasPropertyList}
 use Rattle.dump_filter.specs.Groups.{Group, groups, keeps_group, revision_numbers}
 use Rattle.dump_trees.specs.Trees.{Tree}
-use Rattle.dump_trees.specs.Changes.{is_copied, PropertyChange, Change}
+use Rattle.dump_trees.specs.Changes.{is_copied, Change}
+use Rattle.dump_trees.specs.ComingBack.{entries_in}
 use Rattle.dump_trees.specs.Revisions.{loaded_over}
 use Rattle.dump_history.specs.RecordChanges.{Patching, makes}
 use Rattle.dump_history.specs.DumpChanges.{has_ordered_nodes, MakeChanges}
 
 -- changes that name a revision
 
--- the entries that a change of properties sets or takes away
-abbrev pub entries_of : Option PropertyChange → List Property
-entries_of None = []
-entries_of (Some (PropertyChange.Replaced entries)) = entries
-entries_of (Some (PropertyChange.Edited entries)) = entries
-
 -- whether the change sets mergeinfo
 abbrev pub sets_mergeinfo : Change → Bool
-sets_mergeinfo c = list_any is_mergeinfo (entries_of c.props)
+sets_mergeinfo c = list_any is_mergeinfo (entries_in c.props)
 
 -- whether the change names a revision by its number: it copies something, or sets mergeinfo
 abbrev pub names_revision : Change → Bool

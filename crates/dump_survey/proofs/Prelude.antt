@@ -88,7 +88,7 @@ pub use Rattle.dump_survey.specs.Kinds.{ending_kind_line, kind_line, kind_lines,
 pub use Rattle.dump_survey.specs.OmittedMergeinfo.{AddUpTo, AreOmittedIn, AreOmittedFrom, AreOmittedFromProperties, AreOmittedFromRecords, AreOmittedFromValue, leaving_lines, mergeinfo_values}
 pub use Rattle.dump_survey.specs.FindingRows.{finding_row}
 pub use Rattle.dump_survey.specs.Lines.{dump_line, shown_path}
-pub use Rattle.dump_survey.specs.AdviceLines.{TakesSome, parent_lines}
+pub use Rattle.dump_survey.specs.AdviceLines.{parent_lines}
 pub use Rattle.dump_survey.specs.PrefixFindings.{PrefixReport, is_short_prefix, prefix_finding, prefix_view, reported_of_prefix, reported_prefixes}
 pub use Rattle.dump_survey.specs.PrefixLines.{prefix_lines}
 pub use Rattle.dump_survey.specs.RevisionMap.{map_lines}
@@ -111,7 +111,8 @@ pub use Rattle.dump_survey.specs.steps.RevisionNumbers.{AreNumbersBehind, is_mis
 pub use Rattle.dump_survey.specs.steps.Steps.{ArePrefixesReported, ComesNext, IsStepOf, SurveyStep, ReportsEnd, open_behind}
 pub use Rattle.dump_survey.specs.steps.Surveyed.{reported_of_finding, reported_of_node}
 pub use Rattle.dump_survey.specs.steps.Surveying.{Surveying, Surveys}
-pub use Rattle.dump_survey.specs.steps.Tally.{first_with, is_above_last, is_tallied, keeps_open, keeps_present, least_behind, lesser, next_tally, no_tally, node_tally, numbers_of, other_tally, revision_tally, tally_behind, tally_findings}
+pub use Rattle.dump_filter.specs.steps.Decision.{rises}
+pub use Rattle.dump_survey.specs.steps.Tally.{first_with, is_tallied, keeps_open, keeps_present, least_behind, lesser, next_tally, no_tally, node_tally, numbers_of, other_tally, revision_tally, tally_behind, tally_findings}
 pub use Rattle.dump_text.proofs.BoolLemmas.{false_true, first_false, first_true, second_false, second_true}
 pub use Rattle.dump_text.proofs.PropertyLemmas.{entry_parts, left_of, property_block_once}
 pub use Rattle.dump_text.proofs.ValueLemmas.{some_copied}
@@ -124,7 +125,7 @@ pub use Rattle.dump_trees.proofs.paths.PathNames.{split_text}
 pub use Rattle.dump_trees.specs.Paths.{NodePath, names_of, path_of, path_text}
 pub use Rattle.dump_trees.specs.Quiet.{cuts_alike}
 pub use Rattle.dump_trees.specs.Restriction.{is_above_some, is_root}
-pub use Rattle.dump_writer.specs.SinkWords.{HasFailedSince, IsPrefixOf}
+pub use Rattle.dump_writer.specs.SinkWords.{HasFailedSince, IsPrefixOf, TakesPart}
 pub use Rattle.dump_records.specs.declared.cutter.Cut.{Cut}
 pub use Rattle.dump_records.specs.declared.record.Record.{Record}
 pub use Rattle.dump_rules.specs.declared.memory.Memory.{Memory}

@@ -1,5 +1,5 @@
 -- The tally of a dump's revisions, record by record, says what is found in the dump as a whole.
-use Rattle.dump_survey.proofs.Prelude.{◌≡◌, ℕ, suc, ◌+◌, ◌≤◌, ◌==◌, Bool, true, false, not, ◌&&◌, ◌||◌, List, [], ◌∷◌, ◌++◌, length, filter, map, take_while, Option, Some, None, is_some, option_map, if◌then◌else◌, cond, refl, sym, ap, ap₂, ◌∙◌, arith, and-true, and_assoc, or-false, or-true, or_assoc, list_all, list_any, and_parts, eqb-true, take_while-cons, DumpRecord, Settings, is_revision_record, is_node, is_kept_node, group_of, groups, group_number, first_number, revision_number, revision_numbers, keeps_empty, counts_from, has_ordered_nodes, go_up, DumpFinding, rise, begins_at, copies_from_before, has_source_before, is_found_in_dump, first_has_node, Present, Tally, open_behind, no_tally, keeps_open, first_with, is_above_last, revision_tally, node_tally, other_tally, next_tally, tally_behind, is_tallied}
+use Rattle.dump_survey.proofs.Prelude.{◌≡◌, ℕ, suc, ◌+◌, ◌≤◌, ◌==◌, Bool, true, false, not, ◌&&◌, ◌||◌, List, [], ◌∷◌, ◌++◌, length, filter, map, take_while, Option, Some, None, is_some, option_map, if◌then◌else◌, cond, refl, sym, ap, ap₂, ◌∙◌, arith, and-true, and_assoc, or-false, or-true, or_assoc, list_all, list_any, and_parts, eqb-true, take_while-cons, DumpRecord, Settings, is_revision_record, is_node, is_kept_node, group_of, groups, group_number, first_number, revision_number, revision_numbers, keeps_empty, counts_from, has_ordered_nodes, go_up, DumpFinding, rise, begins_at, copies_from_before, has_source_before, is_found_in_dump, first_has_node, Present, Tally, open_behind, no_tally, keeps_open, first_with, rises, revision_tally, node_tally, other_tally, next_tally, tally_behind, is_tallied}
 use Rattle.std.proofs.Common.{zero}
 use Rattle.dump_history.specs.declared.findings.DumpFinding.TheVariants as dump_wide
 
@@ -179,7 +179,7 @@ none_behind None = refl
 none_behind (Some last) = refl
 
 number_behind : (last : Option ℕ) (number : ℕ) (numbers : List ℕ)
-    → (is_above_last last number && go_up number numbers) ≡ rise_behind last (number ∷ numbers)
+    → (rises last number && go_up number numbers) ≡ rise_behind last (number ∷ numbers)
 number_behind None number numbers = refl
 number_behind (Some last) number numbers = refl
 
@@ -197,7 +197,7 @@ rising_is settings t (r ∷ records) = by (λ u. rising_is settings u records) (
         ≡ (t.rising && rise_behind t.last (map group_number
         (if v then group_of r records ∷ groups records else groups records)))
     by more true n = more (revision_tally settings t (revision_number r))
-        ∙ (and_assoc t.rising (is_above_last t.last (revision_number r))
+        ∙ (and_assoc t.rising (rises t.last (revision_number r))
         (go_up (revision_number r) (revision_numbers records))
         ∙ ap (λ b. t.rising && b) (number_behind t.last (revision_number r) (revision_numbers records)))
     by more false true =

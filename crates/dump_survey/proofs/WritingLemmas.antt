@@ -1,5 +1,5 @@
 -- What a sink has taken of a survey so far, and what it takes next.
-use Rattle.dump_survey.proofs.Prelude.{◌≡◌, ◌≤◌, ℕ, ◌+◌, Bool, true, false, not, ◌||◌, ◌==◌, List, [], ◌∷◌, ◌++◌, length, map, flat_map, Option, refl, sym, ap, ap₂, ◌∙◌, subst, append_assoc, append-nil, arith, Result, Ok, Err, OnErr, list_any, or-false, ne_eqb, Appends, Appends-nil, Appends-trans, flat_map-append, Ending, Settings, Finding, every_finding, DumpFinding, each_dump_has_one_list, begins_prefix, IsPrefixOf, Counts, NotCanonical, Idle, Node, Finished, SurveyEnd, SurveyedNode, listed_findings, reported_at_end, ending_kind_line, finding_row, kind_line, kind_lines, prefix_kind, times_in_prefixes, times_reported, dump_line, PrefixReport, reported_prefixes, prefix_lines, survey_ending, IsSurveyText, BreaksOffSurvey, NodeReport, AreWithNode, count_in, has_found, SurveyStep, reported_of_finding, reported_of_node, Surveying, TakesSome}
+use Rattle.dump_survey.proofs.Prelude.{◌≡◌, ◌≤◌, ℕ, ◌+◌, Bool, true, false, not, ◌||◌, ◌==◌, List, [], ◌∷◌, ◌++◌, length, map, flat_map, Option, refl, sym, ap, ap₂, ◌∙◌, subst, append_assoc, append-nil, arith, Result, Ok, Err, OnErr, list_any, or-false, ne_eqb, Appends, Appends-nil, Appends-trans, flat_map-append, Ending, Settings, Finding, every_finding, DumpFinding, each_dump_has_one_list, begins_prefix, IsPrefixOf, Counts, NotCanonical, Idle, Node, Finished, SurveyEnd, SurveyedNode, listed_findings, reported_at_end, ending_kind_line, finding_row, kind_line, kind_lines, prefix_kind, times_in_prefixes, times_reported, dump_line, PrefixReport, reported_prefixes, prefix_lines, survey_ending, IsSurveyText, BreaksOffSurvey, NodeReport, AreWithNode, count_in, has_found, SurveyStep, reported_of_finding, reported_of_node, Surveying, TakesPart}
 use Rattle.dump_survey.specs.declared.findings.surveyor.Step.TheVariants.{Other}
 use Rattle.dump_survey.specs.Kinds.{dump_kind_line}
 use Rattle.dump_survey.specs.Lines.{node_line, ending_line}
@@ -117,7 +117,7 @@ module _ (settings : Settings) (dump : List ℕ) (state after : Surveying) (old 
 
   -- so it has if it took some of what followed
   broken_in : (lines text : List ℕ) (all : Bool) → IsSurveyText settings dump text all
-      → IsPrefixOf (flat_map node_line so_far.reported ++ lines) text → TakesSome new newer lines
+      → IsPrefixOf (flat_map node_line so_far.reported ++ lines) text → TakesPart new newer lines
       → BreaksOffSurvey settings dump old newer
   broken_in lines text all is (behind, begins) (part, (rest, front), appends) = record {
     text = text;
@@ -136,7 +136,7 @@ module _ (settings : Settings) (dump : List ℕ) (state after : Surveying) (old 
 
   -- the sink has taken some of the lines of a node
   pub broken_in_node : (node : SurveyedNode) → SurveyStep state (Node node) after
-      → TakesSome new newer (flat_map node_line (reported_of_node node)) → BreaksOffSurvey settings dump old newer
+      → TakesPart new newer (flat_map node_line (reported_of_node node)) → BreaksOffSurvey settings dump old newer
   broken_in_node node step takes =
       let have = node_reported settings dump state after so_far.reported so_far.have node step in
       let (text, all, is, begins) = begins_text settings dump have.before (so_far.reported ++ reported_of_node node) have.begins
@@ -196,7 +196,7 @@ module _ (settings : Settings) (dump : List ℕ) (state after : Surveying) (old 
     )
 
     -- the sink has taken some of the lines of the end
-    pub broken_in_end : TakesSome new newer lines → BreaksOffSurvey settings dump old newer
+    pub broken_in_end : TakesPart new newer lines → BreaksOffSurvey settings dump old newer
     broken_in_end takes = broken_in lines (flat_map node_line so_far.reported ++ lines)
         (has_some (flat_map node_line so_far.reported ++ lines)) text_whole
         ([], sym (append-nil (flat_map node_line so_far.reported ++ lines))) takes

@@ -4,7 +4,7 @@ use Rattle.std.specs.Prelude.{◌≡◌, ℕ, ◌⊎◌, List, [], ◌∷◌, �
 use Rattle.std.specs.List.{concat}
 use Rattle.std.specs.Io.KnownBytes.{Appends}
 use Rattle.dump_rules.specs.Settings.{Settings}
-use Rattle.dump_writer.specs.SinkWords.{IsPrefixOf}
+use Rattle.dump_writer.specs.SinkWords.{TakesPart}
 use Rattle.dump_survey.specs.AddedPrefixLines.{AreAddedPrefixLines}
 use Rattle.dump_survey.specs.ParentsToCreate.{AreParentsToCreate}
 use Rattle.dump_survey.specs.OmittedLine.{omitted_line}
@@ -29,11 +29,7 @@ pub record AreAdviceLines (settings : Settings) (dump lines : List ℕ) : Type 0
   pub are_added_lines : AreAddedPrefixLines settings dump added_lines
   pub lines_are : lines ≡ omitted_line omitted ++ parent_lines directories ++ added_lines
 
--- the sink took a first part of the lines
-abbrev pub TakesSome : Option (List ℕ) → Option (List ℕ) → List ℕ → Type 0
-TakesSome old new lines = (part : List ℕ) × IsPrefixOf part lines × Appends old new part
-
 -- the sink took nothing, or a first part of the lines that follow the findings
 abbrev pub TakesSomeAdvice : Settings → List ℕ → Option (List ℕ) → Option (List ℕ) → Type 0
 TakesSomeAdvice settings dump old new =
-    Appends old new [] ⊎ ((lines : List ℕ) × AreAdviceLines settings dump lines × TakesSome old new lines)
+    Appends old new [] ⊎ ((lines : List ℕ) × AreAdviceLines settings dump lines × TakesPart old new lines)

@@ -8,7 +8,7 @@ use Rattle.dump_rules.specs.Settings.{Settings}
 use Rattle.dump_rules.specs.Renumbering.{KeptRevisions}
 use Rattle.dump_filter.specs.Groups.{kept_revisions}
 use Rattle.dump_filter.specs.NewHeaders.{written_number}
-use Rattle.dump_survey.specs.AdviceLines.{TakesSome}
+use Rattle.dump_writer.specs.SinkWords.{TakesPart}
 
 -- the line of a kept revision: its number, and the number under which the filter writes it
 unfoldable pub map_line : Settings → KeptRevisions → ℕ → List ℕ
@@ -29,4 +29,4 @@ pub record IsRevisionMap (settings : Settings) (dump text : List ℕ) : Type 0 w
 -- the sink took nothing, or a first part of the map
 abbrev pub TakesSomeOfMap : Settings → List ℕ → Option (List ℕ) → Option (List ℕ) → Type 0
 TakesSomeOfMap settings dump old new =
-    Appends old new [] ⊎ ((text : List ℕ) × IsRevisionMap settings dump text × TakesSome old new text)
+    Appends old new [] ⊎ ((text : List ℕ) × IsRevisionMap settings dump text × TakesPart old new text)

@@ -1,9 +1,9 @@
 -- A survey whose last bytes are written.
-use Rattle.survey_cli.proofs.Prelude.{◌≡◌, ℕ, Bool, List, [], ◌++◌, Option, None, Some, Result, Ok, Err, IfOk, IfErr, IfSome, OnErr, MatchBool, true, false, inl, inr, refl, sym, ap, subst, ◌∙◌, append_assoc, Appends, Keeps, GrowsBy, append_known, Appends-kept, Appends-trans, from_none, handed_on, part_taken, each_dump_has_one_list, Settings, kept_revisions, LentState, lent_taken, IsPrefixOf, IsSurveyText, BreaksOffSurvey, IsRevisionMap, map_lines, AreAdviceLines, TakesSomeAdvice, SurveyFailure, IsCallText, IsMapAskedFor, IsWholeText, SurveysDump, SurveysInput, TakesFirst, BrokenOff, Call, Arrives, FrontBreaksOff, MapBreaksOff, SurveyBreaksOff, answer_status}
+use Rattle.survey_cli.proofs.Prelude.{◌≡◌, ℕ, Bool, List, [], ◌++◌, Option, None, Some, Result, Ok, Err, IfOk, IfErr, IfSome, OnErr, MatchBool, true, false, inl, inr, refl, sym, ap, subst, ◌∙◌, append_assoc, Appends, Keeps, GrowsBy, append_known, Appends-kept, Appends-trans, from_none, handed_on, part_taken, each_dump_has_one_list, Settings, kept_revisions, LentState, lent_taken, IsPrefixOf, IsSurveyText, BreaksOffSurvey, IsRevisionMap, map_lines, AreAdviceLines, TakesSomeAdvice, SurveyFailure, IsCallText, IsMapAskedFor, IsWholeText, SurveysDump, SurveysInput, TakesPart, BrokenOff, Call, Arrives, FrontBreaksOff, MapBreaksOff, SurveyBreaksOff, answer_status}
 use Rattle.std.proofs.lemmas.List.{append-nil}
 
 -- who took the first bytes of a first part took the first of the whole
-longer : (a c : Option (List ℕ)) (sent text : List ℕ) → IsPrefixOf sent text → TakesFirst a c sent → TakesFirst a c text
+longer : (a c : Option (List ℕ)) (sent text : List ℕ) → IsPrefixOf sent text → TakesPart a c sent → TakesPart a c text
 longer a c sent text begins took = (
   took.0,
   (took.1.0 ++ begins.0, begins.1 ∙ ap (λ s. s ++ begins.0) took.1.1 ∙ append_assoc took.0 took.1.0 begins.0),
@@ -12,7 +12,7 @@ longer a c sent text begins took = (
 
 -- a part that was sent, of which the last bytes may wait for a writer that failed
 broke_off : (a b c : Option (List ℕ)) (waiting sent text : List ℕ) (n : ℕ) → Appends (append_known a []) b sent
-    → Keeps b (append_known c waiting) → GrowsBy a c n → IsPrefixOf sent text → TakesFirst a c text
+    → Keeps b (append_known c waiting) → GrowsBy a c n → IsPrefixOf sent text → TakesPart a c text
 broke_off a b c waiting sent text n appended kept grown begins =
     longer a c sent text begins (part_taken a c waiting sent n grown
     (Appends-kept a b (append_known c waiting) sent (from_none a b sent appended) kept))

@@ -14,14 +14,14 @@ pub use Rattle.dump_rules.specs.Settings.{Settings}
 pub use Rattle.dump_survey.specs.AdviceLines.{AreAdviceLines, TakesSomeAdvice}
 pub use Rattle.dump_survey.specs.RevisionMap.{IsRevisionMap, map_lines}
 pub use Rattle.dump_survey.specs.SurveyText.{BreaksOffSurvey, IsSurveyText}
-pub use Rattle.dump_writer.specs.SinkWords.{IsPrefixOf}
+pub use Rattle.dump_writer.specs.SinkWords.{IsPrefixOf, TakesPart}
 pub use Rattle.dump_writer.specs.steps.SinkStates.{LentState, lent_taken}
 pub use Rattle.cli_support.proofs.OutputLemmas.{from_none, handed_on, part_taken}
 pub use Rattle.cli_support.specs.FilterCalls.{filter_call_of}
 pub use Rattle.cli_support.specs.FilterCommand.{filter_command}
 pub use Rattle.cli_support.specs.steps.LineReading.{is_line_of, is_line_taken_by}
 pub use Rattle.survey_cli.specs.CallLaws.{ReadsAsFilter, ReadsMapAnywhere}
-pub use Rattle.survey_cli.specs.Drive.{IsCallText, IsMapAskedFor, IsWholeText, SurveysDump, SurveysInput, TakesFirst}
+pub use Rattle.survey_cli.specs.Drive.{IsCallText, IsMapAskedFor, IsWholeText, SurveysDump, SurveysInput}
 pub use Rattle.survey_cli.specs.Words.{TellsCall, call_of_line, call_of_words, filter_line, place_of_map, survey_of, without}
 pub use Rattle.survey_cli.specs.steps.LawfulLines.{is_survey_call, is_taken_call}
 pub use Rattle.survey_cli.specs.steps.Answered.{Arrives, FrontBreaksOff, MapBreaksOff, SurveyBreaksOff, answer_status}

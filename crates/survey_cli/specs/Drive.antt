@@ -2,7 +2,7 @@
 use Rattle.std.specs.Prelude.{◌≡◌, ℕ, Bool, true, false, ◌⊎◌, List, [], ◌++◌, Option, Some, None, Result, Ok, Err, IfSome, MatchBool}
 use Rattle.std.specs.Io.KnownBytes.{Keeps, Appends}
 use Rattle.dump_rules.specs.Settings.{Settings}
-use Rattle.dump_writer.specs.SinkWords.{IsPrefixOf}
+use Rattle.dump_writer.specs.SinkWords.{TakesPart}
 use Rattle.dump_survey.specs.AdviceLines.{AreAdviceLines}
 use Rattle.dump_survey.specs.RevisionMap.{IsRevisionMap}
 use Rattle.dump_survey.specs.SurveyText.{IsSurveyText}
@@ -19,10 +19,6 @@ use Rattle.cli_support.specs.declared.usage.Usage.{Usage}
 abbrev pub finding_status : Bool → ℕ
 finding_status false = 0
 finding_status true = 1
-
--- the writer took the first of the bytes, perhaps all
-abbrev pub TakesFirst : Option (List ℕ) → Option (List ℕ) → List ℕ → Type 0
-TakesFirst old new text = (part : List ℕ) × IsPrefixOf part text × Appends old new part
 
 -- this is the text of a survey, with the lines after its findings, and whether something is found
 pub record IsWholeText (settings : Settings) (dump text : List ℕ) (found : Bool) : Type 0 where
@@ -53,7 +49,7 @@ IsText call dump text found = IsSurveyText call.options dump text found ⊎ IsCa
 abbrev pub SurveysDump : Call → List ℕ → Option (List ℕ) → Option (List ℕ) → ℕ → Type 0
 SurveysDump call dump old new status = (text : List ℕ) × (found : Bool)
     × ((IsCallText call dump text found × Appends old new text × (status ≡ finding_status found))
-    ⊎ (IsText call dump text found × TakesFirst old new text × (status ≡ 3)))
+    ⊎ (IsText call dump text found × TakesPart old new text × (status ≡ 3)))
 
 -- the whole input is surveyed, or nothing is written, out of memory or without input
 abbrev pub SurveysInput : Call → Option (List ℕ) → Option (List ℕ) → Option (List ℕ) → ℕ → Type 0

@@ -12,7 +12,7 @@ use Rattle.dump_filter.specs.declared.state.Report.{Report}
 use Rattle.dump_rules.specs.Settings.{Settings}
 use Rattle.dump_pipeline.specs.declared.answer.Answer.{Answer}
 use Rattle.dump_pipeline.specs.declared.answer.Answer.TheVariants.{Clean, Fault, Failed}
-use Rattle.cut_cli.specs.Sent.{IsSent, TakesPart, stop_line_of}
+use Rattle.cut_cli.specs.Sent.{IsSent, stop_line_of}
 use Rattle.cut_cli.specs.steps.Drive.{AnswersCall, AnswersWhole, ArrivesOrBreaksOff, BeginsMap, CutsDump, CutsInput, DrivesCut, EndsMap, FollowsCut, RanCut, WritesBoth, WritesCut, WritesIfAsked, WritesMap, cut_status}
 use Rattle.cut_cli.specs.steps.Cuts.{text_read}
 use Rattle.cut_cli.specs.RevisionMap.{IsMapOfCut}
@@ -20,6 +20,7 @@ use Rattle.cut_cli.specs.Statuses.{HasMapOfRun, MapIsWritten, NothingIsWritten, 
 use Rattle.cut_cli.specs.Words.{CutMeaning, with_texts_of}
 use Rattle.cut_cli.specs.steps.Words.{asked_map, cut_meaning}
 use Rattle.cut_cli.proofs.headline.ZeroLemmas.{no_obstacle, no_refusal, not_one, not_two, not_three}
+use Rattle.dump_writer.specs.SinkWords.{TakesPart}
 
 -- a run of the filter wrote, or was a trial
 pub record Wrote (meaning : Result CutMeaning Usage) (old new map_old map_new : Option (List ℕ)) (status : ℕ) : Type 0 where

@@ -15,7 +15,7 @@ use Rattle.cli_support.specs.NamedOutputs.{Replaces}
 use Rattle.cli_support.specs.Targets.{AreTextsOf}
 use Rattle.cli_support.specs.declared.usage.Usage.{Usage}
 use Rattle.dump_changes.specs.steps.ListedDumps.{are_numbered}
-use Rattle.cut_cli.specs.Sent.{IsTrimmedIf, IsSent, TakesPart, stop_line_of}
+use Rattle.cut_cli.specs.Sent.{IsTrimmedIf, IsSent, stop_line_of}
 use Rattle.cut_cli.specs.steps.Cuts.{HasPartIf, IsCutText, IsObstacleTo, IsReadyFor, text_read}
 use Rattle.cut_cli.specs.RevisionMap.{IsMapOfCut}
 use Rattle.cut_cli.specs.steps.RevisionMap.{TakesPartOfMap}
@@ -24,6 +24,7 @@ use Rattle.cut_cli.specs.steps.Words.{TellsCut, asked_map, cut_meaning}
 use Rattle.cut_cli.specs.declared.examine.Obstacle.{Obstacle}
 use Rattle.cut_cli.specs.declared.examine.Obstacle.TheVariants as obstacles
 use Rattle.cut_cli.specs.declared.words.Call.{Call}
+use Rattle.dump_writer.specs.SinkWords.{TakesPart}
 
 abbrev pub cut_status : Answer → ℕ
 cut_status (Clean _) = 0

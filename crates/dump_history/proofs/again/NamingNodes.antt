@@ -1,5 +1,6 @@
 -- A change that names a revision is the change of a node that names one.
-use Rattle.dump_history.proofs.Prelude.{◌≡◌, suc, Bool, true, not, ◌&&◌, None, if◌then◌else◌, cond, Contains, IsTrue, MatchBool, refl, ap, ◌∙◌, inl, inr, arith, list_all, list_any, or_cases, and_parts, and_cases, not-false, true_from_ne_false, Contains-append_right, Property, property_length_name, has_header, first_true, second_true, DumpRecord, has_prop_delta, Settings, is_copy, is_node, is_kept_node, is_mergeinfo, Group, group_number, keeps_group, keeps, Made, is_copied, PropertyChange, Change, names_kept, names_none, names_none_behind, Patching, makes, made_by_kind, made_of, copied_from, property_change_of, MakesChange, entries_of, sets_mergeinfo, names_revision, NamesRevision, HasNamingNode, HasNamingNodeBehind}
+use Rattle.dump_history.proofs.Prelude.{◌≡◌, suc, Bool, true, not, ◌&&◌, None, if◌then◌else◌, cond, Contains, IsTrue, MatchBool, refl, ap, ◌∙◌, inl, inr, arith, list_all, list_any, or_cases, and_parts, and_cases, not-false, true_from_ne_false, Contains-append_right, Property, property_length_name, has_header, first_true, second_true, DumpRecord, has_prop_delta, Settings, is_copy, is_node, is_kept_node, is_mergeinfo, Group, group_number, keeps_group, keeps, Made, is_copied, PropertyChange, Change, names_kept, names_none, names_none_behind, Patching, makes, made_by_kind, made_of, copied_from, property_change_of, MakesChange, sets_mergeinfo, names_revision, NamesRevision, HasNamingNode, HasNamingNodeBehind}
+use Rattle.dump_trees.specs.ComingBack.{entries_in}
 use Rattle.std.proofs.Common.{ℕ, false, List, [], ◌∷◌, Some}
 use Rattle.dump_history.proofs.again.NodeChanges.{node_change, change_is}
 use Rattle.dump_history.proofs.again.GroupChanges.{AllMake, GroupsMake, empty_rule, AllHaveNodes, AreNumberedFrom, kept_node, kept_group, later_number}
@@ -25,11 +26,11 @@ module _ (patched : Patching) (settings : Settings) where
 
   -- the entries that the change sets are those of the node's block
   merge_set : (r : DumpRecord) (ps : List Property)
-      → list_any is_mergeinfo (entries_of (property_change_of r ps)) ≡ true → list_any is_mergeinfo ps ≡ true
+      → list_any is_mergeinfo (entries_in (property_change_of r ps)) ≡ true → list_any is_mergeinfo ps ≡ true
   merge_set r ps = cases (has_header property_length_name r.headers) (has_prop_delta r)
     where
       cases : (h d : Bool) → list_any is_mergeinfo
-          (entries_of (if h then Some (if d then PropertyChange.Edited ps else PropertyChange.Replaced ps) else None))
+          (entries_in (if h then Some (if d then PropertyChange.Edited ps else PropertyChange.Replaced ps) else None))
           ≡ true → list_any is_mergeinfo ps ≡ true
       cases true true set = set
       cases true false set = set

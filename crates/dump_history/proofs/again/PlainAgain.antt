@@ -1,5 +1,6 @@
 -- What is written of revisions that name no revision names none.
-use Rattle.dump_history.proofs.Prelude.{◌≡◌, Bool, true, not, ◌&&◌, ◌||◌, Option, None, bytes_eq, refl, ap, ap₂, ◌∙◌, MatchBool, AllZip, list_any, or_parts, or_from, and_from, and_parts, not-true, not_from_false, Property, Settings, is_mergeinfo, mergeinfo_name, keeps, Made, is_copied, PropertyChange, Change, NewProperty, KeepsEntries, NewNumber, AreNewProps, IsNewMade, IsNewChange, AreNewChanges, EmptyRule, keeps_revision, AreNewRevisions, names_kept, names_none, entries_of, sets_mergeinfo, names_revision, name_no_revision}
+use Rattle.dump_history.proofs.Prelude.{◌≡◌, Bool, true, not, ◌&&◌, ◌||◌, Option, None, bytes_eq, refl, ap, ap₂, ◌∙◌, MatchBool, AllZip, list_any, or_parts, or_from, and_from, and_parts, not-true, not_from_false, Property, Settings, is_mergeinfo, mergeinfo_name, keeps, Made, is_copied, PropertyChange, Change, NewProperty, KeepsEntries, NewNumber, AreNewProps, IsNewMade, IsNewChange, AreNewChanges, EmptyRule, keeps_revision, AreNewRevisions, names_kept, names_none, sets_mergeinfo, names_revision, name_no_revision}
+use Rattle.dump_trees.specs.ComingBack.{entries_in}
 use Rattle.std.proofs.Common.{false, List, [], ◌∷◌, Some}
 
 module _ (settings : Settings) (IsNew : NewProperty) (entries : KeepsEntries IsNew) (IsNumber : NewNumber) where
@@ -16,7 +17,7 @@ module _ (settings : Settings) (IsNew : NewProperty) (entries : KeepsEntries IsN
   same_merges (p ∷ old) (q ∷ new) all = ap₂ (λ b c. b || c) (same_merge p q all.0) (same_merges old new all.1)
 
   same_sets : (old new : Option PropertyChange) → AreNewProps IsNew old new
-      → list_any is_mergeinfo (entries_of new) ≡ list_any is_mergeinfo (entries_of old)
+      → list_any is_mergeinfo (entries_in new) ≡ list_any is_mergeinfo (entries_in old)
   same_sets None None is = refl
   same_sets None (Some new) is = absurd is
   same_sets (Some (PropertyChange.Replaced old)) None is = absurd is

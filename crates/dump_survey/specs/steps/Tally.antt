@@ -1,9 +1,10 @@
 -- What the first records of a dump say about its revisions, record by record.
-use Rattle.std.specs.Prelude.{ℕ, ◌+◌, ◌==◌, Bool, true, false, not, ◌&&◌, ◌||◌, List, [], ◌∷◌, filter, Option, Some, None, nat_le, nat_lt, if◌then◌else◌}
+use Rattle.std.specs.Prelude.{ℕ, ◌+◌, ◌==◌, Bool, true, false, not, ◌&&◌, ◌||◌, List, [], ◌∷◌, filter, Option, Some, None, nat_le, if◌then◌else◌}
 use Rattle.dump_records.specs.RecordText.{DumpRecord}
 use Rattle.dump_rules.specs.Settings.{Settings}
 use Rattle.dump_digest.specs.RecordParts.{is_revision_record, is_node, is_kept_node}
 use Rattle.dump_filter.specs.Groups.{revision_number, keeps_empty}
+use Rattle.dump_filter.specs.steps.Decision.{rises}
 use Rattle.dump_history.specs.Findings.{every_dump_finding, copies_from_before}
 use Rattle.dump_survey.specs.declared.findings.revision_numbers.Numbers.{Numbers}
 use Rattle.dump_survey.specs.declared.findings.tally.Present.{Present}
@@ -55,11 +56,6 @@ numbers_of t present = record { first = t.first; least = t.least; present = pres
 abbrev pub first_with : Tally → ℕ → ℕ
 first_with t number = if t.count == 0 then number else t.first
 
--- whether the number is above that of the last revision; true if there is no last revision
-abbrev pub is_above_last : Option ℕ → ℕ → Bool
-is_above_last None number = true
-is_above_last (Some last) number = nat_lt last number
-
 -- the tally after a revision with this number
 abbrev pub revision_tally : Settings → Tally → ℕ → Tally
 revision_tally settings t number = record {
@@ -67,7 +63,7 @@ revision_tally settings t number = record {
   first = first_with t number;
   numbered = t.numbered && number == first_with t number + t.count;
   last = Some number;
-  rising = t.rising && is_above_last t.last number;
+  rising = t.rising && rises t.last number;
   node_in_first = t.node_in_first;
   source_before = t.source_before;
   node_outside = t.node_outside;

@@ -4,7 +4,8 @@ ghost use Rattle.std.specs.List.{list_any};
 ghost use Rattle.dump_records.specs.steps.RecordViews.{record_item};
 ghost use Rattle.dump_digest.specs.RecordParts.{is_kept_node, is_node};
 ghost use Rattle.dump_history.specs.Findings.{copies_from_before, every_dump_finding};
-ghost use Rattle.dump_survey.specs.steps.Tally.{first_with, is_above_last, least_behind, lesser, no_tally, keeps_open, keeps_present, node_tally, next_tally, numbers_of, other_tally, revision_tally, tally_findings};
+ghost use Rattle.dump_filter.specs.steps.Decision.{rises};
+ghost use Rattle.dump_survey.specs.steps.Tally.{first_with, least_behind, lesser, no_tally, keeps_open, keeps_present, node_tally, next_tally, numbers_of, other_tally, revision_tally, tally_findings};
 ghost use Rattle.dump_survey.specs.steps.NamedRevisions.{is_behind_dropped};
 ghost use Rattle.dump_survey.specs.DumpFindings.{has_dump_finding, listed_findings};
 
@@ -96,7 +97,7 @@ fn is_above(first: u64, count: u64, number: u64) -> bool
 
 /// Whether the number is above the last one. True if there is no last one.
 fn is_above_last(last: Option<u64>, number: u64) -> bool
-    ensures { result ≡ is_above_last last number }
+    ensures { result ≡ rises last number }
 {
     match last {
         Some(last) => last < number,

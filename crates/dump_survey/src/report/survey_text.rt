@@ -1,11 +1,11 @@
 //! The text of a survey, which is written while the survey reads the dump, and the advice that follows it.
 ghost use Rattle.std.specs.Prelude.{◌≡◌, ◌≢◌, ◌==◌, List, ℕ, Err, IfOk, IsFalse, OnErr, OnOk, length, not};
 ghost use Rattle.std.specs.Io.KnownBytes.{Appends};
-ghost use Rattle.dump_writer.specs.SinkWords.{HasFailedSince};
+ghost use Rattle.dump_writer.specs.SinkWords.{HasFailedSince, TakesPart};
 ghost use Rattle.dump_survey.specs.declared.report.survey_text.SurveyFailure.TheVariants as failures;
 ghost use Rattle.dump_survey.specs.SurveyText.{IsSurveyText, FindsNothing, BreaksOffSurvey};
 ghost use Rattle.dump_survey.specs.AddedPrefixLines.{AreAddedPrefixLines};
-ghost use Rattle.dump_survey.specs.AdviceLines.{AreAdviceLines, TakesSome, TakesSomeAdvice};
+ghost use Rattle.dump_survey.specs.AdviceLines.{AreAdviceLines, TakesSomeAdvice};
 
 use crate::advice::added_prefixes::prefixes_to_add;
 use crate::advice::omitted_mergeinfo::omitted_lines;
@@ -52,7 +52,7 @@ pub(crate) fn write_lines<S: Sink>(
 ) -> Result<bool, SurveyFailure>
     ensures whole { IfOk result (λ _. Appends (S.taken sink.old) (S.taken sink.new) lines.items) }
     ensures some { IfOk result (λ some. some ≡ not (length lines.items == 0)) }
-    ensures part { OnErr result (TakesSome (S.taken sink.old) (S.taken sink.new) lines.items) }
+    ensures part { OnErr result (TakesPart (S.taken sink.old) (S.taken sink.new) lines.items) }
     ensures no_failure { result ≢ Err SurveyFailure.Sink → S.failure_count sink.new ≡ S.failure_count sink.old }
     ensures failed { result ≡ Err SurveyFailure.Sink
         → HasFailedSince (S.failure_count sink.old) (S.failure_count sink.new) }

@@ -1,4 +1,4 @@
-use Rattle.dump_survey.proofs.Prelude.{◌∙◌, false, not, ◌==◌, List, [], ℕ, Counts, length, map, refl, subst, sym, ap, arith, rules, Appends, HasFailedSince, Step, prefix_view, SurveyStep, Surveying, TakesSome}
+use Rattle.dump_survey.proofs.Prelude.{◌∙◌, false, not, ◌==◌, List, [], ℕ, Counts, length, map, refl, subst, sym, ap, arith, rules, Appends, HasFailedSince, Step, prefix_view, SurveyStep, Surveying, TakesPart}
 use Rattle.dump_survey.proofs.SurveyLemmas.{node_nearer, other_nearer, prefixes_reported}
 use Rattle.dump_survey.proofs.WritingLemmas.{at_err, no_error, broken_in_end, broken_in_node, broken_off, node_written, nothing_written, other_written, silent_written, whole_written}
 use Rattle.dump_survey.proofs.report.survey_text.write_survey.Goals as goal
@@ -40,7 +40,7 @@ returns-in_err-found-in-Node-clause-part g c =
     c.loop-surveyor.surveyor c.next.new.self (g.S.Sink.taken c.args.sink.now) (g.S.Sink.taken c.loop-surveyor.sink)
     (g.S.Sink.taken c.write_lines.new.sink) c.loop-surveyor.found c.loop-surveyor.count c.loop-surveyor.counts
     c.loop-surveyor.invariant.written c.in-Node.node step
-    (subst (TakesSome (g.S.Sink.taken c.loop-surveyor.sink) (g.S.Sink.taken c.write_lines.new.sink))
+    (subst (TakesPart (g.S.Sink.taken c.loop-surveyor.sink) (g.S.Sink.taken c.write_lines.new.sink))
     c.in_ok-lines-in-Node.ensures c.in_err-found-in-Node.ensures.part))
 
 pub returns-in_err-found-in-Node-clause-failed : goal.returns-in_err-found-in-Node-clause-failed
