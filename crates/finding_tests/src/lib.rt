@@ -7,3 +7,5 @@ mod additions;
 mod cut;
 #[cfg(test)]
 mod survey;
+#[cfg(test)]
+mod warnings;
