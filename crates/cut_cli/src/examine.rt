@@ -18,6 +18,7 @@ use crate::earlier::cuts_otherwise;
 use crate::expansion::{Expansion, front_to_cut, returns_of, with_additions};
 use crate::faults::{write_no_part, write_not_added, write_rejected, write_unread};
 use crate::lines::write_siblings;
+use crate::numbers::{report_holes, report_last};
 use crate::own_lives::report_additions;
 use crate::parents::report_parents;
 use crate::prefixes::report_prefixes;
@@ -400,6 +401,7 @@ fn examine_changes<E: Write>(
     alloc: Global,
     dump: &[u8],
     index: &ChangeIndex<'_>,
+    numbers: &[u64],
     call: &Call<'_>,
     errors: &mut E,
 ) -> Result<Result<Ready, Obstacle>, Memory>
@@ -407,7 +409,8 @@ fn examine_changes<E: Write>(
     requires taken { IsTakenDump dump.now index.now }
     ensures { IfOk result (IsExamined (cut_meaning call.now) dump.now) }
 {
-    report_prefixes(alloc, dump, index, call, errors)?;
+    report_prefixes(alloc, numbers.first().copied(), index, call, errors)?;
+    report_last(index, numbers.last().copied(), errors);
     let asked = ask_paths(alloc, dump, index, call, errors)?;
     if cuts_otherwise(alloc, dump, index, &asked.excluded, call, errors)? {
         return Ok(Err(Obstacle::CutsOtherwise));
@@ -446,7 +449,7 @@ fn examine_front<E: Write>(
         let _ = write_no_part(errors, call.after, why);
         return Ok(Err(Obstacle::NoPart(why)));
     }
-    examine_changes(alloc, dump, index, call, errors)
+    examine_changes(alloc, dump, index, &front.numbers, call, errors)
 }
 
 /// Why a whole dump has no part after the revision that the call names, if it names one.
@@ -471,5 +474,6 @@ pub fn examine<E: Write>(
     ensures part { IfOk result (λ found. IfOk found (λ ready. HasPartIf call.now.after dump.now)) }
 {
     let front = read_front(alloc, dump, call.drop)?;
+    report_holes(alloc, &front.numbers, call, errors)?;
     examine_front(alloc, dump, &front, call, errors)
 }

@@ -1,5 +1,6 @@
 //! The lines for faults that stop the program.
 use crate::copy_lines::write_source;
+use crate::input::input_text;
 use crate::lines::write_path;
 use crate::read::Unread;
 use crate::spot::{Spot, first_revision, spot_of};
@@ -223,7 +224,11 @@ pub fn write_unread<E: Write>(errors: &mut E, dump: &[u8], unread: Unread) -> io
                 byte: place,
                 ..spot_of(dump, u64::MAX)
             };
-            write_fault_at(errors, kind.code(), fault_text(kind), spot)
+            let text = match input_text(dump) {
+                Some(text) if spot.number == 0 => text,
+                _ => fault_text(kind),
+            };
+            write_fault_at(errors, kind.code(), text, spot)
         }
         Unread::NoChange(number) => write_no_change(errors, spot_of(dump, number)),
         Unread::OutOfOrder(number) => write_out_of_order(errors, spot_of(dump, number)),

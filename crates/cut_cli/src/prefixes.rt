@@ -1,6 +1,5 @@
 //! Reports what is unusual about the prefixes.
 use crate::lines::{write_first, write_idle, write_nested, write_spelling};
-use crate::spot::first_revision;
 use crate::words::Call;
 use dump_changes::Memory;
 use dump_cut::canonical_prefix;
@@ -95,17 +94,17 @@ fn report_paths<E: Write>(
     Ok(())
 }
 
-/// Reports prefixes that aren't in canonical form, whether a load renumbers the first revision, prefixes that are
-/// inside others, and those whose paths are in no revision.
+/// Reports prefixes that aren't in canonical form, whether a load renumbers the first revision, which has this number,
+/// prefixes that are inside others, and those whose paths are in no revision.
 pub fn report_prefixes<E: Write>(
     alloc: Global,
-    dump: &[u8],
+    first: Option<u64>,
     index: &ChangeIndex<'_>,
     call: &Call<'_>,
     errors: &mut E,
 ) -> Result<(), Memory> {
     let paths = canonical_paths(alloc, call, errors)?;
-    if let Some(first) = first_revision(dump) {
+    if let Some(first) = first {
         if first > 1 {
             let _ = write_first(errors, first);
         }

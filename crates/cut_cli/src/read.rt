@@ -35,6 +35,8 @@ pub enum Unread {
 #[derive(Drop)]
 pub struct Front<'a> {
     pub index: ChangeIndex<'a>,
+    /// The numbers of the revisions, in their order.
+    pub numbers: Vec<u64>,
     /// Why it stops before the end of the dump, if it does.
     pub stop: Option<Unread>,
 }
@@ -43,6 +45,8 @@ pub struct Front<'a> {
 #[derive(Drop)]
 pub(crate) struct Known<'a> {
     changes: Vec<NodeChange<'a>>,
+    /// The numbers of the revisions, in their order.
+    numbers: Vec<u64>,
     /// Why it stops before the end of the dump, if it does.
     stop: Option<Unread>,
 }
@@ -87,6 +91,7 @@ fn known_changes<'a>(alloc: Global, reading: Reading<'a>, drop: bool) -> Result<
     if reading.numbered {
         return Ok(Known {
             changes: reading.changes,
+            numbers: reading.numbers,
             stop,
         });
     }
@@ -95,12 +100,19 @@ fn known_changes<'a>(alloc: Global, reading: Reading<'a>, drop: bool) -> Result<
         match known_change(&reading.numbers, change, drop) {
             Ok(known) => changes.push(known)?,
             Err(unread) => {
-                let stop = Some(unread);
-                return Ok(Known { changes, stop });
+                return Ok(Known {
+                    changes,
+                    numbers: reading.numbers,
+                    stop: Some(unread),
+                });
             }
         }
     }
-    Ok(Known { changes, stop })
+    Ok(Known {
+        changes,
+        numbers: reading.numbers,
+        stop,
+    })
 }
 
 /// The same, up to the first change that copies from its own revision or from a later one.
@@ -124,6 +136,7 @@ pub fn read_front<'a>(alloc: Global, dump: &'a [u8], drop: bool) -> Result<Front
     let index = ChangeIndex::new(alloc, known.changes)?;
     Ok(Front {
         index,
+        numbers: known.numbers,
         stop: known.stop,
     })
 }
