@@ -5,7 +5,7 @@ use Rattle.clap.specs.Words.{Row}
 use Rattle.cli_support.specs.FilterCommand.{any_prefixes, repeated, valued}
 use Rattle.cli_support.specs.Info.{Prints, info_in, info_of, named_info}
 use Rattle.cli_support.specs.NamedOutputs.{Replaces}
-use Rattle.cli_support.specs.Targets.{AreTextsOf, after_blanks, before_blanks, begun_by, is_blank, is_line_end, order_mark, prefix_of_line, prefixes_of_text, prefixes_of_texts, lines_in_text, without_mark}
+use Rattle.cli_support.specs.Targets.{AreTextsOf, after_blanks, before_blanks, begun_by, is_blank, is_line_end, prefix_of_line, prefixes_of_text, prefixes_of_texts, lines_in_text, without_mark}
 use Rattle.cli_support.specs.declared.info.Info.TheVariants.{Help, Version}
 use Rattle.clap.specs.declared.builder.value_parser.Reading.TheVariants as reading
 use Rattle.clap.proofs.OnLiterals.{clap_on_literals}
@@ -225,11 +225,14 @@ two_prefixes = refl
 no_prefixes : prefixes_of_text (codes "\n \t\r\n") ≡ []
 no_prefixes = refl
 
-behind_a_mark : prefixes_of_text (order_mark ++ codes "a\n") ≡ codes "a" ∷ []
+abbrev mark : List ℕ
+mark = 239 ∷ 187 ∷ 191 ∷ []
+
+behind_a_mark : prefixes_of_text (mark ++ codes "a\n") ≡ codes "a" ∷ []
 behind_a_mark = refl
 
 -- only at the head of the text
-mark_in_a_line : prefixes_of_text (codes "a\n" ++ order_mark) ≡ codes "a" ∷ order_mark ∷ []
+mark_in_a_line : prefixes_of_text (codes "a\n" ++ mark) ≡ codes "a" ∷ mark ∷ []
 mark_in_a_line = refl
 
 part_of_a_mark : without_mark (239 ∷ 187 ∷ []) ≡ 239 ∷ 187 ∷ []

@@ -38,21 +38,13 @@ before_blanks (byte ∷ line) =
 abbrev pub prefix_of_line : List ℕ → Text
 prefix_of_line line = before_blanks (after_blanks line)
 
--- the prefixes in lines: without blanks at their ends, but for the empty ones
-abbrev pub prefixes_in_lines : List Text → List Text
-prefixes_in_lines lines = filter (λ prefix. not (is_empty prefix)) (map prefix_of_line lines)
-
--- the bytes of a byte order mark in UTF-8
-abbrev pub order_mark : List ℕ
-order_mark = 239 ∷ 187 ∷ 191 ∷ []
-
--- a text without the byte order mark with which some editors begin it
+-- a text without the byte order mark of UTF-8, EF BB BF, with which some editors begin it
 abbrev pub without_mark : List ℕ → List ℕ
-without_mark text = if bytes_eq (take 3 text) order_mark then drop 3 text else text
+without_mark text = if bytes_eq (take 3 text) (239 ∷ 187 ∷ 191 ∷ []) then drop 3 text else text
 
--- the prefixes in a text
+-- the prefixes in a text: its lines without blanks at their ends, but for the empty ones
 abbrev pub prefixes_of_text : List ℕ → List Text
-prefixes_of_text text = prefixes_in_lines (lines_in_text (without_mark text))
+prefixes_of_text text = filter (λ prefix. not (is_empty prefix)) (map prefix_of_line (lines_in_text (without_mark text)))
 
 -- the prefixes in texts
 abbrev pub prefixes_of_texts : List (List ℕ) → List Text

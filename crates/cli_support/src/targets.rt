@@ -1,6 +1,7 @@
 //! Files of prefixes, with one prefix in each line.
-ghost use Rattle.std.specs.Prelude.{◌≡◌, ◌<◌, ◌++◌, ◌∷◌, ℕ, List, Option, IfOk, IfSome, length, map};
-ghost use Rattle.cli_support.specs.Targets.{AreTextsOf, after_blanks, before_blanks, is_blank, is_line_end, order_mark, prefix_of_line, prefixes_in_lines, prefixes_of_text, prefixes_of_texts, lines_in_text, without_mark};
+ghost use Rattle.std.specs.Prelude.{◌≡◌, ◌<◌, ◌++◌, ◌∷◌, ℕ, List, Option, IfOk, IfSome, filter, length, map, not};
+ghost use Rattle.clap.specs.Walk.{is_empty};
+ghost use Rattle.cli_support.specs.Targets.{AreTextsOf, after_blanks, before_blanks, is_blank, is_line_end, prefix_of_line, prefixes_of_text, prefixes_of_texts, lines_in_text, without_mark};
 
 use crate::input::Unread;
 use std::alloc::{AllocError, Global};
@@ -82,7 +83,7 @@ fn without_mark(text: &[u8]) -> &[u8]
 
 /// The same with the prefixes in the lines of a text.
 fn with_lines<'a>(prefixes: Vec<&'a [u8]>, text: &'a [u8]) -> Result<Vec<&'a [u8]>, AllocError>
-    ensures { IfOk result (λ all. map (λ prefix. prefix.now) all.items ≡ map (λ prefix. prefix.now) prefixes.entry.items ++ prefixes_in_lines (lines_in_text text.now)) }
+    ensures { IfOk result (λ all. map (λ prefix. prefix.now) all.items ≡ map (λ prefix. prefix.now) prefixes.entry.items ++ filter (λ prefix. not (is_empty prefix)) (map prefix_of_line (lines_in_text text.now))) }
 {
     let mut all = prefixes;
     let mut left = text;
