@@ -1,5 +1,5 @@
 -- What the filter writes of a dump that is ready is its cut.
-use Rattle.std.proofs.Common.{ap, ◌≡◌, ◌||◌, ℕ, Bool, true, false, IfSome, MatchBool, List, [], ◌∷◌, Contains, length, map, Option, Some, None, Result, Ok, is_some, refl, sym, inl, inr, ◌∙◌, subst}
+use Rattle.std.proofs.Common.{ap, ◌≡◌, ◌||◌, ℕ, Bool, true, false, IfSome, MatchBool, List, [], ◌∷◌, Contains, length, map, Option, Some, None, is_some, refl, sym, inl, inr, ◌∙◌, subst}
 use Rattle.std.proofs.lemmas.Bool.{and_from, or_cases, or_right}
 use Rattle.std.proofs.KnownBytes.{Keeps-refl}
 use Rattle.std.specs.Io.KnownBytes.{Keeps}
@@ -70,12 +70,12 @@ use Rattle.dump_additions.specs.steps.AdditionLaws.{HasAdditions}
 use Rattle.dump_additions.specs.steps.Additions.{AreAdditionsFrom}
 use Rattle.dump_additions.proofs.AdditionLaw.{additions_load, additions_over}
 use Rattle.cut_cli.specs.Sent.{IsTrimmedIf}
-use Rattle.cut_cli.specs.steps.Cuts.{AreChangesOf, AreCopiesTaken, AreKnownAs, AreListedButNumbers, BringsNothingBack, CutLoads, ExcludesAsAsked, FiltersOrTrims, FollowsAsAsked, HasPartIf, IsAskedBy, IsClosureOf, IsCutAsAsked, IsCutText, IsObstacleTo, IsReadFor, IsReadyFor, IsSetUp, LeadsNowhere, MergeinfoStaysByCut, text_read, writes_additions}
-use Rattle.cut_cli.specs.steps.Drive.{CleanTextsAreCuts, CutsDump, CutsInput, WritesBoth, WritesIfAsked, obstacle_status}
+use Rattle.cut_cli.specs.steps.Cuts.{AreChangesOf, AreKnownAs, AreListedButNumbers, BringsNothingBack, CutLoads, ExcludesAsAsked, FiltersOrTrims, FollowsAsAsked, HasPartIf, IsAskedBy, IsClosureOf, IsCutAsAsked, IsCutText, IsObstacleTo, IsReadFor, IsReadyFor, IsSetUp, LeadsNowhere, MergeinfoStaysByCut, text_read, writes_additions}
+use Rattle.cut_cli.specs.steps.Drive.{CleanTextsAreCuts, CutsDump, CutsInput, EndsUnwritten, WritesBoth, WritesIfAsked, obstacle_status}
 use Rattle.cut_cli.specs.Words.{CutMeaning}
 use Rattle.cut_cli.specs.steps.Words.{asked_map}
 use Rattle.cut_cli.specs.declared.examine.Obstacle.{Obstacle}
-use Rattle.cut_cli.specs.steps.Examined.{AreDeletesIfAny}
+use Rattle.cut_cli.specs.declared.examine.Obstacle.TheVariants as obstacles
 use Rattle.dump_history.proofs.restricted.LoadsOnce.{whole_records_once}
 
 some_value : {A : Type 0} (o : Option A) → is_some o ≡ true → (x : A) × (o ≡ Some x)
@@ -98,12 +98,6 @@ pub read_numbered : (patched : Patching) (records : List DumpRecord) (revisions 
 read_numbered patched records revisions makes =
     and_from (list_any is_revision_record records) (counts_from 0 (revision_numbers records))
     (has_revision patched records revisions makes) makes.numbered
-
--- the deletes that are found, and what they say about the copies
-pub found_copies : (excluded : List NodePath) (told : ToldKinds) (placed : List Placed)
-    (found : Result (Option (List (List (List ℕ)))) ℕ) (deletes : Option (List (List (List ℕ)))) → found ≡ Ok deletes
-    → AreDeletesIfAny excluded told placed found → AreCopiesTaken excluded told placed deletes
-found_copies excluded told placed found deletes is are = subst (AreDeletesIfAny excluded told placed) is are
 
 -- the filter keeps a line of mergeinfo exactly if its path is in the cut, if the siblings cover the other paths that
 -- mergeinfo names
@@ -525,12 +519,21 @@ module _ (m : CutMeaning) (dump : List ℕ) (expansion : Option (List ℕ)) (set
 
 -- a dump that isn't cut, for an obstacle or out of memory
 module _ (m : CutMeaning) (dump : List ℕ) (old map_old : Option (List ℕ)) where
-  pub stops_at : (obstacle : Obstacle) → IsObstacleTo m dump obstacle
-      → CutsDump m dump old old map_old map_old (obstacle_status obstacle)
-  stops_at obstacle is = inr (inl (obstacle, is, Keeps-refl old, Keeps-refl map_old, refl))
+  ends_unwritten : (status : ℕ) → EndsUnwritten m dump status → CutsDump m dump old old map_old map_old status
+  ends_unwritten status ends = inr (ends, Keeps-refl old, Keeps-refl map_old)
 
   pub has_no_memory : CutsDump m dump old old map_old map_old 1
-  has_no_memory = inr (inr (Keeps-refl old, Keeps-refl map_old, refl))
+  has_no_memory = ends_unwritten 1 (inl refl)
+
+  pub stops_at : (obstacle : Obstacle) → IsObstacleTo m dump obstacle
+      → CutsDump m dump old old map_old map_old (obstacle_status obstacle)
+  stops_at obstacles.ComesBack is = ends_unwritten 3 (inr (refl, inl is))
+  stops_at obstacles.CutsOtherwise is = ends_unwritten 3 (inr (refl, inr is))
+  stops_at (obstacles.Unread reason) is = has_no_memory
+  stops_at (obstacles.Rejected rejected) is = has_no_memory
+  stops_at (obstacles.NoPart why) is = has_no_memory
+  stops_at (obstacles.OddDelete place) is = has_no_memory
+  stops_at (obstacles.NotAdded not_added) is = has_no_memory
 
 -- a whole input that is cut
 pub input_cut : (m : CutMeaning) (input : Option (List ℕ)) (dump : List ℕ) (old new map_old map_new : Option (List ℕ))

@@ -6,6 +6,5 @@ pub mod ExamineLemmas
 pub mod FrontLemmas
 mod HeadlineValues
 pub mod MapLemmas
-pub mod UnfollowedLemmas
 pub mod headline
 mod Values

@@ -1,5 +1,5 @@
 //! Examines a dump before anything is written.
-ghost use Rattle.std.specs.Prelude.{◌≡◌, List, IfOk, IsTrue};
+ghost use Rattle.std.specs.Prelude.{◌≡◌, List, None, IfOk, IsTrue};
 ghost use Rattle.std.specs.List.{AllZip, list_all};
 ghost use Rattle.dump_records.specs.DumpText.{Ending, HasRecords};
 ghost use Rattle.dump_records.specs.RecordText.{DumpRecord};
@@ -9,9 +9,9 @@ ghost use Rattle.dump_trees.specs.steps.Looking.{Placed};
 ghost use Rattle.dump_cut.specs.steps.NamedPaths.{has_named_paths};
 ghost use Rattle.dump_cut.specs.steps.ExcludedPaths.{paths_of};
 ghost use Rattle.dump_cut.specs.steps.Returned.{way_meant};
-ghost use Rattle.cut_cli.specs.steps.Cuts.{AreNamed, BeginsAsBefore, BringsSomeBack, FollowsAsAsked, HasPartIf, IsAskedBy, IsTakenDump, LeavesIncluded, text_read};
+ghost use Rattle.cut_cli.specs.steps.Cuts.{AreCopiesTaken, AreNamed, BeginsAsBefore, BringsSomeBack, FollowsAsAsked, HasPartIf, IsAskedBy, IsTakenDump, LeavesIncluded, text_read};
 ghost use Rattle.cut_cli.specs.steps.Words.{cut_meaning};
-ghost use Rattle.cut_cli.specs.steps.Examined.{AreDeletesIfAny, IsExamined, IsExpandedToCut, IsFrontOf, IsPrepared, LacksPart, expansion_text};
+ghost use Rattle.cut_cli.specs.steps.Examined.{IsExamined, IsExpandedToCut, IsFrontOf, IsPrepared, expansion_text};
 
 use crate::copy_lines::{write_advice, write_deletes, write_odd_delete, write_places};
 use crate::earlier::cuts_otherwise;
@@ -282,8 +282,8 @@ fn look_for_deletes<E: Write>(
     errors: &mut E,
 ) -> Result<Result<Option<Deletes>, usize>, Memory>
     requires { IsTrue (list_all has_named_paths index.now) }
-    ensures { IfOk result (λ found. (placed : List Placed) → AllZip IsListed index.now placed
-        → AreDeletesIfAny (paths_of excluded.now) (kinds_told_by index.now) placed found) }
+    ensures { IfOk result (λ found. IfOk found (λ deletes. (placed : List Placed) → AllZip IsListed index.now placed
+        → AreCopiesTaken (paths_of excluded.now) (kinds_told_by index.now) placed deletes)) }
 {
     if first_not_taken(alloc, index, excluded)?.is_none() {
         return Ok(Ok(None));
@@ -432,7 +432,7 @@ fn examine_front<E: Write>(
     errors: &mut E,
 ) -> Result<Result<Ready, Obstacle>, Memory>
     requires named { IsTrue (list_all has_named_paths front.now.index) }
-    requires front { IsFrontOf (cut_meaning call.now).drop dump.now front.now }
+    requires front { IsFrontOf dump.now front.now }
     ensures examined { IfOk result (IsExamined (cut_meaning call.now) dump.now) }
     ensures part { IfOk result (λ found. IfOk found (λ ready. HasPartIf call.now.after dump.now)) }
 {
@@ -454,7 +454,7 @@ fn examine_front<E: Write>(
 
 /// Why a whole dump has no part after the revision that the call names, if it names one.
 fn no_part(dump: &[u8], call: &Call<'_>) -> Option<NoPart>
-    ensures { (records : List DumpRecord) → HasRecords dump.now records Ending.Whole → LacksPart call.now.after records result }
+    ensures { (records : List DumpRecord) → HasRecords dump.now records Ending.Whole → result ≡ None → HasPartIf call.now.after dump.now }
 {
     match call.after {
         Some(number) => no_part_after(dump, number),

@@ -1,11 +1,11 @@
 //! The dump that the filter reads if excluded content comes back. In it, other nodes replace the copies that bring it
 //! back.
-ghost use Rattle.std.specs.Prelude.{IfOk, IsTrue, MatchBool, MatchOption, MatchResult};
+ghost use Rattle.std.specs.Prelude.{IfOk, IfSome, IsTrue, MatchBool};
 ghost use Rattle.clap.specs.Walk.{is_empty};
 ghost use Rattle.std.specs.List.{list_all};
 ghost use Rattle.dump_cut.specs.steps.NamedPaths.{has_named_paths};
 ghost use Rattle.dump_cut.specs.steps.ExcludedPaths.{paths_of};
-ghost use Rattle.cut_cli.specs.steps.Cuts.{BringsNothingBack, BringsSomeBack, HasAdditionsFor, IsNotAdded, IsNotRead, IsTakenDump};
+ghost use Rattle.cut_cli.specs.steps.Cuts.{BringsNothingBack, BringsSomeBack, HasAdditionsFor, IsTakenDump};
 ghost use Rattle.cut_cli.specs.steps.Examined.{IsFrontToCut};
 
 use crate::read::{Front, read_front};
@@ -87,9 +87,8 @@ pub fn with_additions(
 ) -> Result<Result<Expansion, NotAdded>, Memory>
     requires named { IsTrue (list_all has_named_paths index.now) }
     requires taken { IsTakenDump dump.now index.now }
-    ensures { IfOk result (λ found. MatchResult found
-        (λ expansion. HasAdditionsFor dump.now index.now (paths_of excluded.now) expansion.text.items)
-        (IsNotAdded dump.now index.now (paths_of excluded.now))) }
+    ensures { IfOk result (λ found. IfOk found
+        (λ expansion. HasAdditionsFor dump.now index.now (paths_of excluded.now) expansion.text.items)) }
 {
     let table = PropertyTable::of(alloc, dump)?;
     let texts = TextTable::of(alloc, dump)?;
@@ -111,8 +110,7 @@ pub fn front_to_cut<'a>(
     excluded: &Excluded,
     drop: bool,
 ) -> Result<Option<Front<'a>>, Memory>
-    ensures { IfOk result (λ found. MatchOption found (IsNotRead drop text.now (paths_of excluded.now))
-        (IsFrontToCut text.now (paths_of excluded.now))) }
+    ensures { IfOk result (λ found. IfSome found (IsFrontToCut text.now (paths_of excluded.now))) }
 {
     let front = read_front(alloc, text, drop)?;
     if front.stop.is_some() {

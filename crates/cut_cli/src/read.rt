@@ -1,12 +1,13 @@
 //! Reads the changes of a dump into an index, or says why this isn't possible.
-ghost use Rattle.std.specs.Prelude.{◌≡◌, ℕ, Bool, List, true, IfOk, IsTrue, MatchResult, map};
+ghost use Rattle.std.specs.Prelude.{◌≡◌, ℕ, List, None, true, IfOk, IsTrue};
 ghost use Rattle.std.specs.List.{list_all};
 ghost use Rattle.dump_index.specs.steps.InOrder.{are_in_order};
 ghost use Rattle.dump_index.specs.steps.Listed.{listed_of};
 ghost use Rattle.dump_changes.specs.steps.ListedDumps.{without_number};
+ghost use Rattle.dump_changes.specs.declared.read.End.TheVariants.{Whole};
 ghost use Rattle.dump_changes.specs.steps.DumpReading.{IsReadingOfDump};
 ghost use Rattle.dump_cut.specs.steps.NamedPaths.{has_named_paths};
-ghost use Rattle.cut_cli.specs.steps.Examined.{IsFrontOf, IsKnownOf, IsUnknownFor, StopsFor};
+ghost use Rattle.cut_cli.specs.steps.Examined.{IsFrontOf, IsKnownOf};
 
 use dump_changes::{End, Memory, Reading, copies_from_gap, read_changes, with_loaded_source};
 use dump_index::{ChangeIndex, NodeChange, first_out_of_order};
@@ -53,7 +54,7 @@ pub(crate) struct Known<'a> {
 
 /// Why the reading of a dump stops before its end, if it does.
 fn stop_at(end: End) -> Option<Unread>
-    ensures { StopsFor end result }
+    ensures { result ≡ None → end ≡ Whole }
 {
     match end {
         End::Whole => None,
@@ -70,8 +71,7 @@ fn known_change<'a>(
     change: &NodeChange<'a>,
     drop: bool,
 ) -> Result<NodeChange<'a>, Unread>
-    ensures { MatchResult result (λ known. without_number (listed_of known) ≡ without_number (listed_of change.now))
-        (IsUnknownFor drop (listed_of change.now)) }
+    ensures { IfOk result (λ known. without_number (listed_of known) ≡ without_number (listed_of change.now)) }
 {
     if drop && copies_from_gap(numbers, change) {
         return Err(Unread::Gap(change.record_number));
@@ -85,7 +85,7 @@ fn known_change<'a>(
 /// The changes that were read, up to the first one that a load can't make or, if `drop` is set, the filter can't
 /// renumber.
 fn known_changes<'a>(alloc: Global, reading: Reading<'a>, drop: bool) -> Result<Known<'a>, Memory>
-    ensures { IfOk result (λ known. (dump : List ℕ) → IsReadingOfDump dump reading.entry → IsKnownOf drop dump known) }
+    ensures { IfOk result (λ known. (dump : List ℕ) → IsReadingOfDump dump reading.entry → IsKnownOf dump known) }
 {
     let stop = stop_at(reading.end);
     if reading.numbered {
@@ -118,7 +118,7 @@ fn known_changes<'a>(alloc: Global, reading: Reading<'a>, drop: bool) -> Result<
 /// The same, up to the first change that copies from its own revision or from a later one.
 fn in_order(mut known: Known<'_>) -> Known<'_>
     ensures ordered { are_in_order 0 result.changes.items ≡ true }
-    ensures known { (drops : Bool) (dump : List ℕ) → IsKnownOf drops dump known.entry → IsKnownOf drops dump result }
+    ensures known { (dump : List ℕ) → IsKnownOf dump known.entry → IsKnownOf dump result }
 {
     if let Some(place) = first_out_of_order(&known.changes) {
         known.stop = Some(Unread::LaterCopy(known.changes[place].record_number));
@@ -129,7 +129,7 @@ fn in_order(mut known: Known<'_>) -> Known<'_>
 
 /// An index of the changes of the dump, up to where the reading stops. If `drop` is set, revisions are renumbered.
 pub fn read_front<'a>(alloc: Global, dump: &'a [u8], drop: bool) -> Result<Front<'a>, Memory>
-    ensures { IfOk result (λ front. IsFrontOf drop dump.now front × IsTrue (list_all has_named_paths front.index)) }
+    ensures { IfOk result (λ front. IsFrontOf dump.now front × IsTrue (list_all has_named_paths front.index)) }
 {
     let reading = read_changes(alloc, dump)?;
     let known = in_order(known_changes(alloc, reading, drop)?);

@@ -5,7 +5,6 @@ use Rattle.std.specs.Io.KnownBytes.{Appends, Keeps}
 use Rattle.clap.specs.Walk.{is_empty}
 use Rattle.clap.specs.Words.{Text}
 use Rattle.cli_support.specs.NamedOutputs.{Replaces}
-use Rattle.cli_support.specs.Targets.{AreTextsOf}
 use Rattle.cli_support.specs.declared.info.Info.{Info}
 use Rattle.cli_support.specs.declared.usage.Usage.{Usage}
 use Rattle.dump_filter.specs.declared.state.Report.{Report}
@@ -13,13 +12,12 @@ use Rattle.dump_rules.specs.Settings.{Settings}
 use Rattle.dump_pipeline.specs.declared.answer.Answer.{Answer}
 use Rattle.dump_pipeline.specs.declared.answer.Answer.TheVariants.{Clean, Fault, Failed}
 use Rattle.cut_cli.specs.Sent.{IsSent, stop_line_of}
-use Rattle.cut_cli.specs.steps.Drive.{AnswersCall, AnswersWhole, ArrivesOrBreaksOff, BeginsMap, CutsDump, CutsInput, DrivesCut, EndsMap, FollowsCut, RanCut, WritesBoth, WritesCut, WritesIfAsked, WritesMap, cut_status}
+use Rattle.cut_cli.specs.steps.Drive.{AnswersCall, AnswersWhole, ArrivesOrBreaksOff, BeginsMap, CutsDump, CutsInput, DrivesCut, EndsMap, FollowsCut, RanCut, WritesBoth, WritesCut, WritesIfAsked, cut_status}
 use Rattle.cut_cli.specs.steps.Cuts.{text_read}
-use Rattle.cut_cli.specs.RevisionMap.{IsMapOfCut}
 use Rattle.cut_cli.specs.Statuses.{HasMapOfRun, MapIsWritten, NothingIsWritten, PartIsWritten, TakesPartOfRun}
 use Rattle.cut_cli.specs.Words.{CutMeaning, with_texts_of}
 use Rattle.cut_cli.specs.steps.Words.{asked_map, cut_meaning}
-use Rattle.cut_cli.proofs.headline.ZeroLemmas.{no_obstacle, no_refusal, not_one, not_two, not_three}
+use Rattle.cut_cli.proofs.headline.ZeroLemmas.{no_refusal, not_one, not_two, not_three, not_unwritten}
 use Rattle.dump_writer.specs.SinkWords.{TakesPart}
 
 -- a run of the filter wrote, or was a trial
@@ -56,9 +54,8 @@ module _ (meaning : Result CutMeaning Usage) (m : CutMeaning) (texts : List (Lis
     begins = begins;
     writes = writes;
   })
-  of_dump begun begins (inr (inl (obstacle, is, kept, map_kept, same))) =
-      inl (kept, λ zero. no_obstacle status obstacle zero same)
-  of_dump begun begins (inr (inr (kept, map_kept, same))) = inl (kept, λ zero. not_one status zero same)
+  of_dump begun begins (inr (ends, kept, map_kept)) =
+      inl (kept, λ zero. not_unwritten (with_texts_of m texts) dump status zero ends)
 
   of_input : (begun : Option (List ℕ)) → BeginsMap (asked_map (with_texts_of m texts)) map_old begun
       → CutsInput (with_texts_of m texts) input old new begun map_new status

@@ -19,12 +19,10 @@ use Rattle.dump_pipeline.specs.declared.answer.Answer.{Answer}
 use Rattle.dump_pipeline.specs.declared.answer.Answer.TheVariants.{Clean, Fault, Failed}
 use Rattle.cut_cli.specs.Sent.{IsTrimmedIf, IsSent, stop_line_of}
 use Rattle.cut_cli.specs.steps.Cuts.{HasPartIf, IsReadFor, text_read, writes_additions}
-use Rattle.cut_cli.specs.steps.Drive.{AnswersCall, AnswersWhole, ArrivesOrBreaksOff, CleanTextsAreCuts, CutsDump, CutsInput, DrivesCut, EndsMap, FollowsCut, RanCut, WritesBoth, WritesCut, WritesIfAsked, cut_status, obstacle_status}
+use Rattle.cut_cli.specs.steps.Drive.{AnswersCall, AnswersWhole, ArrivesOrBreaksOff, CleanTextsAreCuts, CutsDump, CutsInput, DrivesCut, EndsMap, EndsUnwritten, FollowsCut, RanCut, WritesBoth, WritesCut, WritesIfAsked, cut_status}
 use Rattle.cut_cli.specs.Headline.{ZeroIsCut, ZeroIsDroppedCut, ZeroIsOfKept}
 use Rattle.cut_cli.specs.Words.{CutMeaning, with_texts_of}
 use Rattle.cut_cli.specs.steps.Words.{asked_map, cut_meaning}
-use Rattle.cut_cli.specs.declared.examine.Obstacle.{Obstacle}
-use Rattle.cut_cli.specs.declared.examine.Obstacle.TheVariants as obstacles
 use Rattle.cut_cli.proofs.CutLemmas.{read_numbered}
 use Rattle.cut_cli.proofs.headline.WholeCuts.{dropped_cut, of_kept, whole_cut}
 
@@ -42,14 +40,9 @@ no_refusal status usages.Words zero is = not_two status zero is
 no_refusal status usages.BothDrops zero is = not_two status zero is
 no_refusal status usages.Memory zero is = not_one status zero is
 
-pub no_obstacle : (status : ℕ) (obstacle : Obstacle) → status ≡ 0 → status ≡ obstacle_status obstacle → ⊥
-no_obstacle status (obstacles.Unread why) zero is = not_one status zero is
-no_obstacle status (obstacles.Rejected why) zero is = not_one status zero is
-no_obstacle status obstacles.ComesBack zero is = not_three status zero is
-no_obstacle status obstacles.CutsOtherwise zero is = not_three status zero is
-no_obstacle status (obstacles.OddDelete place) zero is = not_one status zero is
-no_obstacle status (obstacles.NotAdded why) zero is = not_one status zero is
-no_obstacle status (obstacles.NoPart why) zero is = not_one status zero is
+pub not_unwritten : (m : CutMeaning) (dump : List ℕ) (status : ℕ) → status ≡ 0 → EndsUnwritten m dump status → ⊥
+not_unwritten m dump status zero (inl one) = not_one status zero one
+not_unwritten m dump status zero (inr (three, why)) = not_three status zero three
 
 -- under exclude the filter reads the dump, unless what comes back is to be kept
 reads_plain : (m : CutMeaning) (dump : List ℕ) (listed : List Listed) (excluded : List NodePath) (e : Option (List ℕ))
@@ -131,8 +124,7 @@ module _ (m : CutMeaning) (dump : List ℕ) (old new map_old map_new : Option (L
   cut_clean (inl (expansion, settings, deletes, part, ready, cuts, writes)) =
       wrote_clean expansion settings deletes part ready.is_set_up.preserves
       (reads_plain m dump ready.are_excluded.listed ready.excluded expansion ready.read ready.are_excluded.is_read) cuts writes
-  cut_clean (inr (inl (obstacle, is, kept, map_kept, same))) = absurd (no_obstacle status obstacle zero same)
-  cut_clean (inr (inr (kept, map_kept, same))) = absurd (not_one status zero same)
+  cut_clean (inr (ends, kept, map_kept)) = absurd (not_unwritten m dump status zero ends)
 
 -- the input
 

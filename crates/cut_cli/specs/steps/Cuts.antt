@@ -1,8 +1,8 @@
 -- What is found out of a dump before it is filtered, and what the filter then writes.
-use Rattle.std.specs.Prelude.{◌≡◌, ◌≢◌, ◌⊎◌, ℕ, true, false, List, [], ◌∷◌, ◌++◌, length, map, take, Bool, Option, Some, None, MatchBool, Contains, IsTrue, unwrap_or, ⊤}
+use Rattle.std.specs.Prelude.{◌≡◌, ◌≢◌, ℕ, true, false, List, [], ◌∷◌, length, map, take, Bool, Option, Some, None, MatchBool, Contains, IsTrue, unwrap_or, ⊤}
 use Rattle.std.specs.List.{AllZip, list_all}
-use Rattle.dump_digest.specs.RecordParts.{HasPropertyList, is_mergeinfo, is_node, value_of}
-use Rattle.dump_records.specs.DumpText.{BeginsWithRecords, Ending, HasRecords}
+use Rattle.dump_digest.specs.RecordParts.{HasPropertyList, is_mergeinfo, value_of}
+use Rattle.dump_records.specs.DumpText.{Ending, HasRecords}
 use Rattle.dump_records.specs.RecordText.{DumpRecord}
 use Rattle.dump_text.specs.PropertyList.{Property}
 use Rattle.dump_rules.specs.Mergeinfo.{IsMergeinfo, MergeLine}
@@ -29,7 +29,7 @@ use Rattle.dump_history.specs.steps.CutDumps.{FiltersExpansion, LoadsNew, LoadsN
 use Rattle.dump_history.specs.DumpChanges.{HaveRevisionProperties, LoadsAs, MakeRevisions}
 use Rattle.dump_history.specs.CopiesOver.{some_copies_over}
 use Rattle.dump_history.specs.KeptChanges.{ChangesComeOfKept}
-use Rattle.dump_history.specs.RecordChanges.{MakesChange, Patching}
+use Rattle.dump_history.specs.RecordChanges.{Patching}
 use Rattle.dump_history.specs.steps.TrimmedDumps.{FiltersRenumbered, FiltersTrimmed}
 use Rattle.dump_index.specs.steps.IndexLaws.{IsListed}
 use Rattle.dump_index.specs.steps.InOrder.{are_in_order}
@@ -38,10 +38,9 @@ use Rattle.dump_index.specs.steps.ToldKinds.{kinds_told_by}
 use Rattle.dump_index.specs.declared.change.NodeChange.{NodeChange}
 use Rattle.dump_additions.specs.steps.Additions.{AreAdditionsFrom}
 use Rattle.dump_additions.specs.declared.not_added.NotAdded.{NotAdded}
-use Rattle.dump_additions.specs.steps.FirstNotAdded.{IsFirstNotAdded}
 use Rattle.dump_changes.specs.steps.FileTexts.{record_texts}
 use Rattle.dump_changes.specs.ListedDumps.{rise_from}
-use Rattle.dump_changes.specs.steps.ListedDumps.{AreListedIn, IsOutOfPlace, are_numbered, is_listed_copy, without_number}
+use Rattle.dump_changes.specs.steps.ListedDumps.{AreListedIn, are_numbered, without_number}
 use Rattle.dump_changes.specs.steps.NodeProperties.{HaveNodeNumbers, property_blocks}
 use Rattle.dump_cut.specs.steps.CutAlike.{AreDifferences}
 use Rattle.dump_cut.specs.steps.FollowedCopies.{ComeByFollowing}
@@ -51,15 +50,11 @@ use Rattle.dump_cut.specs.LaterParts.{IsFirstPart}
 use Rattle.dump_cut.specs.steps.LaterParts.{IsWhyNoPart}
 use Rattle.dump_cut.specs.steps.LoadChecks.{IsFirstRejected}
 use Rattle.dump_cut.specs.steps.TakenCopies.{IsFirstNotTaken, emptied_by}
-use Rattle.dump_cut.specs.steps.TrimmedCopies.{AreDeletes, HasOddDelete}
-use Rattle.dump_cut.specs.declared.load_check.Rejected.{Rejected as RejectedChange}
+use Rattle.dump_cut.specs.steps.TrimmedCopies.{AreDeletes}
 use Rattle.dump_expansion.specs.steps.GivenSteads.{GivenStead, IsExpandedBy}
 use Rattle.cut_cli.specs.Words.{CutMeaning}
 use Rattle.cut_cli.specs.declared.examine.Obstacle.{Obstacle}
-use Rattle.cut_cli.specs.declared.examine.Obstacle.TheVariants.{ComesBack, OddDelete, Rejected, Unread}
 use Rattle.cut_cli.specs.declared.examine.Obstacle.TheVariants as obstacles
-use Rattle.cut_cli.specs.declared.read.Unread.{Unread as UnreadDump}
-use Rattle.cut_cli.specs.declared.read.Unread.TheVariants as unread
 
 -- an index says this of the changes, but for the numbers of the revisions of which they copy
 abbrev pub AreListedButNumbers : List NodeChange → List Listed → Type 0
@@ -81,41 +76,6 @@ pub record AreChangesOf (dump : List ℕ) (listed : List Listed) : Type 0 where
   pub numbers : HaveNodeNumbers records changes
   pub known : AreKnownAs records changes listed
   pub ordered : are_numbered records ≡ true → IsTrue (are_in_order 0 changes)
-
--- the dump begins with records of whose first changes an index says this
-abbrev pub BeginsWithChanges : List ℕ → List Listed → Type 0
-BeginsWithChanges dump listed = (records : List DumpRecord) × (changes : List NodeChange) × (others : List NodeChange)
-    × BeginsWithRecords dump records × AreListedIn records (changes ++ others) × AreKnownAs records changes listed
-
--- the dump begins with records that are numbered otherwise, and the change behind their first ones is a copy
-abbrev pub CopiesByOtherNumbers : List ℕ → Type 0
-CopiesByOtherNumbers dump = (records : List DumpRecord) × (before : List NodeChange) × (c : NodeChange) × (behind : List NodeChange)
-    × BeginsWithRecords dump records × AreListedIn records (before ++ c ∷ behind)
-    × (are_numbered records ≡ false) × (is_listed_copy (listed_of c) ≡ true)
-
--- the record with this number is a node that makes no change
-abbrev pub MakesNoChange : List ℕ → ℕ → Type 0
-MakesNoChange dump number = (r : DumpRecord)
-    × ((before : List DumpRecord) × BeginsWithRecords dump (before ++ r ∷ []) × (length before ≡ number))
-    × (is_node r ≡ true) × ((patched : Patching) (c : Change) → MakesChange patched r c → ⊥)
-
--- the record with this number isn't in order: it is a node of revision 0 or of no revision, or a revision whose number isn't
--- above those before
-abbrev pub IsMisplaced : List ℕ → ℕ → Type 0
-IsMisplaced dump number = (r : DumpRecord) × (before : List DumpRecord)
-    × BeginsWithRecords dump (before ++ r ∷ []) × (length before ≡ number) × IsOutOfPlace before r
-
--- why there is no such index of the whole dump, or no renumbering of it, if revisions are dropped
-abbrev pub IsUnreadFor : Bool → List ℕ → UnreadDump → Type 0
-IsUnreadFor drops dump (unread.Broken kind place) =
-    (records : List DumpRecord) × HasRecords dump records (Ending.Broken kind place)
-IsUnreadFor drops dump (unread.NoChange number) = MakesNoChange dump number
-IsUnreadFor drops dump (unread.OutOfOrder number) = IsMisplaced dump number
-IsUnreadFor drops dump (unread.LaterCopy number) = (before : List NodeChange) × (c : NodeChange)
-    × BeginsWithChanges dump (map listed_of (before ++ c ∷ [])) × (are_in_order 0 before ≡ true)
-    × (are_in_order 0 (before ++ c ∷ []) ≡ false)
-IsUnreadFor drops dump (unread.NoSource number) = CopiesByOtherNumbers dump
-IsUnreadFor drops dump (unread.Gap number) = (drops ≡ true) × CopiesByOtherNumbers dump
 
 -- the paths cover what these prefixes name, read as svnadmin load reads paths, and nothing else
 abbrev pub AreNamed : List (List ℕ) → List NodePath → Type 0
@@ -226,30 +186,6 @@ pub record ExcludesAsAsked (m : CutMeaning) (dump : List ℕ) (expansion : Optio
   pub read_is_taken : IsTakenDump (text_read expansion dump) read
   pub nothing_back : BringsNothingBack read excluded
 
--- this is the first of the copies with which something comes back in place of which nothing can be written, for its reason
-abbrev pub IsNotAdded : List ℕ → List Listed → List NodePath → NotAdded → Type 0
-IsNotAdded dump listed excluded not_added = (records : List DumpRecord) × HasRecords dump records Ending.Whole
-    × IsFirstNotAdded (property_blocks records) (record_texts records) listed excluded not_added.place not_added.reason
-
--- why a dump with additions isn't read: it can't be read, a load would reject it, or something comes back there too
-abbrev pub IsNotRead : Bool → List ℕ → List NodePath → Type 0
-IsNotRead drops text excluded = ((reason : UnreadDump) × IsUnreadFor drops text reason)
-    ⊎ (((listed : List Listed) × (rejected : RejectedChange) × BeginsWithChanges text listed
-    × IsFirstRejected listed (Some rejected))
-    ⊎ ((listed : List Listed) × IsTakenDump text listed × BringsSomeBack listed excluded))
-
--- there is a dump with additions, and it isn't read
-abbrev pub AreAdditionsUnread : Bool → List ℕ → List Listed → List NodePath → Type 0
-AreAdditionsUnread drops dump listed excluded =
-    (text : List ℕ) × HasAdditionsFor dump listed excluded text × IsNotRead drops text excluded
-
--- why what comes back stays: under exclude copies are not followed, and it isn't to be kept, or the dump with additions isn't
--- read; under include that isn't read
-abbrev pub StaysBack : Side → CutMeaning → List ℕ → List Listed → List NodePath → Type 0
-StaysBack Exclude m dump listed excluded =
-    (m.follow ≡ false) × ((m.keep ≡ false) ⊎ AreAdditionsUnread m.drop dump listed excluded)
-StaysBack Include m dump listed excluded = AreAdditionsUnread m.drop dump listed excluded
-
 -- the call excludes these paths of a dump that loads, and copies bring something back of them
 pub record ExcludesWithReturns (m : CutMeaning) (dump : List ℕ) (listed : List Listed) (excluded : List NodePath) : Type 0
   where
@@ -264,23 +200,26 @@ HasPartIf None dump = ⊤
 HasPartIf (Some number) dump = (records : List DumpRecord) × HasRecords dump records Ending.Whole
     × IsWhyNoPart number records None
 
--- why nothing is written
+-- copies bring something back of what the call excludes of the dump. If such copies are to be written as additions, there is a
+-- dump with additions
+abbrev pub WouldComeBack : CutMeaning → List ℕ → Type 0
+WouldComeBack m dump = (listed : List Listed) × (excluded : List NodePath) × ExcludesWithReturns m dump listed excluded
+    × (writes_additions m.side m.keep ≡ true → (text : List ℕ) × HasAdditionsFor dump listed excluded text)
+
+-- a call for the revisions before the part alone would cut them in another way
+abbrev pub WouldDiffer : CutMeaning → List ℕ → Type 0
+WouldDiffer m dump = (listed : List Listed) × (excluded : List NodePath) × IsTakenDump dump listed
+    × IsAskedBy m.side m dump listed excluded × CutsOtherwise m dump listed excluded
+
+-- why nothing is written with status 3. The reason for status 1 isn't said
 abbrev pub IsObstacleTo : CutMeaning → List ℕ → Obstacle → Type 0
-IsObstacleTo m dump (Unread reason) = IsUnreadFor m.drop dump reason
-IsObstacleTo m dump (Rejected rejected) = (listed : List Listed) × BeginsWithChanges dump listed
-    × IsFirstRejected listed (Some rejected)
-IsObstacleTo m dump (obstacles.NoPart why) = (number : ℕ) × (records : List DumpRecord) × (m.after ≡ Some number)
-    × HasRecords dump records Ending.Whole × IsWhyNoPart number records (Some why)
-IsObstacleTo m dump obstacles.CutsOtherwise = (listed : List Listed) × (excluded : List NodePath)
-    × IsTakenDump dump listed × IsAskedBy m.side m dump listed excluded × CutsOtherwise m dump listed excluded
-IsObstacleTo m dump ComesBack = (listed : List Listed) × (excluded : List NodePath)
-    × ExcludesWithReturns m dump listed excluded × StaysBack m.side m dump listed excluded
-IsObstacleTo m dump (obstacles.NotAdded not_added) = (listed : List Listed) × (excluded : List NodePath)
-    × ExcludesWithReturns m dump listed excluded × (writes_additions m.side m.keep ≡ true)
-    × IsNotAdded dump listed excluded not_added
-IsObstacleTo m dump (OddDelete place) = (expansion : Option (List ℕ)) × (excluded : List NodePath) × (read : List Listed)
-    × ExcludesAsAsked m dump expansion excluded read
-    × ((placed : List Placed) → AllZip IsListed read placed → HasOddDelete excluded (kinds_told_by read) placed place)
+IsObstacleTo m dump obstacles.ComesBack = WouldComeBack m dump
+IsObstacleTo m dump obstacles.CutsOtherwise = WouldDiffer m dump
+IsObstacleTo m dump (obstacles.Unread reason) = ⊤
+IsObstacleTo m dump (obstacles.Rejected rejected) = ⊤
+IsObstacleTo m dump (obstacles.NoPart why) = ⊤
+IsObstacleTo m dump (obstacles.OddDelete place) = ⊤
+IsObstacleTo m dump (obstacles.NotAdded not_added) = ⊤
 
 -- the filter takes each change of a dump as it is; or it doesn't take the one at some place, and these paths are to be deleted
 -- behind its nodes

@@ -16,7 +16,7 @@ use Rattle.cli_support.specs.Targets.{AreTextsOf}
 use Rattle.cli_support.specs.declared.usage.Usage.{Usage}
 use Rattle.dump_changes.specs.steps.ListedDumps.{are_numbered}
 use Rattle.cut_cli.specs.Sent.{IsTrimmedIf, IsSent, stop_line_of}
-use Rattle.cut_cli.specs.steps.Cuts.{HasPartIf, IsCutText, IsObstacleTo, IsReadyFor, text_read}
+use Rattle.cut_cli.specs.steps.Cuts.{HasPartIf, IsCutText, IsReadyFor, WouldComeBack, WouldDiffer, text_read}
 use Rattle.cut_cli.specs.RevisionMap.{IsMapOfCut}
 use Rattle.cut_cli.specs.steps.RevisionMap.{TakesPartOfMap}
 use Rattle.cut_cli.specs.Words.{CutMeaning, with_texts_of}
@@ -109,16 +109,18 @@ CleanTextsAreCuts m expansion settings deletes dump =
     → IsCleanText settings (text_read expansion dump) again filtered → IsTrimmedIf deletes filtered text
     → IsCutText m expansion settings deletes dump text
 
--- a dump is cut; or nothing is written, for an obstacle or out of memory
+-- nothing is written: with status 1, or with status 3 for one of two reasons
+abbrev pub EndsUnwritten : CutMeaning → List ℕ → ℕ → Type 0
+EndsUnwritten m dump status = (status ≡ 1) ⊎ ((status ≡ 3) × (WouldComeBack m dump ⊎ WouldDiffer m dump))
+
+-- a dump is cut; or nothing is written
 abbrev pub CutsDump : CutMeaning → List ℕ → (old new map_old map_new : Option (List ℕ)) → ℕ → Type 0
 CutsDump m dump old new map_old map_new status =
     ((expansion : Option (List ℕ)) × (settings : Settings) × (deletes : Option (List (List (List ℕ))))
     × HasPartIf m.after dump × IsReadyFor m dump expansion settings deletes
     × CleanTextsAreCuts m expansion settings deletes dump
     × WritesIfAsked m settings deletes (text_read expansion dump) old new map_old map_new status)
-    ⊎ ((obstacle : Obstacle) × IsObstacleTo m dump obstacle × Keeps old new × Keeps map_old map_new
-    × (status ≡ obstacle_status obstacle))
-    ⊎ (Keeps old new × Keeps map_old map_new × (status ≡ 1))
+    ⊎ (EndsUnwritten m dump status × Keeps old new × Keeps map_old map_new)
 
 -- the input is cut; or it wasn't read, and nothing is written
 abbrev pub CutsInput : CutMeaning → Option (List ℕ) → (old new map_old map_new : Option (List ℕ)) → ℕ → Type 0

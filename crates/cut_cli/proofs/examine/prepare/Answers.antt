@@ -1,14 +1,10 @@
 use Rattle.std.proofs.Common.{refl}
-use Rattle.dump_cut.specs.steps.ExcludedPaths.{paths_of}
-use Rattle.dump_index.specs.steps.ToldKinds.{kinds_told_by}
-use Rattle.cut_cli.proofs.CutLemmas.{found_copies}
 use Rattle.cut_cli.proofs.examine.prepare.Goals as goal
 
 pub returns : goal.returns
 returns g c = (
   record {
-    copies = λ placed all. found_copies (paths_of c.args.excluded.now) (kinds_told_by c.args.index.now) placed
-        c.in_ok-deletes.field-0 c.in-Ok.deletes c.in-Ok.is (c.in_ok-deletes.ensures placed all);
+    copies = rw c.in-Ok.is at c.in_ok-deletes.ensures;
     apart = c.in_ok-options.ensures.apart;
     excludes = c.in_ok-options.ensures.excludes;
     have_names = c.in_ok-options.ensures.named;

@@ -2,7 +2,7 @@ use Rattle.std.proofs.Common.{◌≡◌, map, rules, subst}
 use Rattle.dump_cut.specs.steps.ExcludedPaths.{paths_of}
 use Rattle.dump_expansion.specs.steps.GivenSteads.{IsExpandedBy}
 use Rattle.dump_expansion.specs.steps.Given.{given_of}
-use Rattle.cut_cli.proofs.ExamineLemmas.{added, not_added}
+use Rattle.cut_cli.proofs.ExamineLemmas.{added}
 use Rattle.cut_cli.proofs.expansion.with_additions.Goals as goal
 
 pub returns-in-Ok : goal.returns-in-Ok
@@ -13,8 +13,3 @@ returns-in-Ok c =
     (rw c.in-Ok.is at c.in_ok-steads.ensures)
     (subst (λ ss. IsExpandedBy (map given_of ss) c.args.dump.now c.in_ok-text-in-Ok.text.items) same
     c.in_ok-text-in-Ok.ensures.records)
-
-pub returns : goal.returns
-returns c =
-    not_added c.args.dump.now c.args.index.now (paths_of c.args.excluded.now) _ _ c.requires.taken.0 c.in_ok-table.ensures
-    c.in_ok-texts.ensures c.in-Err.not_added (rw c.in-Err.is at c.in_ok-steads.ensures)
