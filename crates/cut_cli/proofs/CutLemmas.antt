@@ -15,7 +15,6 @@ use Rattle.dump_rules.specs.declared.options.Side.TheVariants.{Exclude, Include}
 use Rattle.dump_filter.specs.FilterLaws.{LengthsFit}
 use Rattle.dump_filter.specs.WholeText.{IsCleanText}
 use Rattle.dump_trees.specs.Changes.{Change}
-use Rattle.dump_trees.specs.steps.ComingBack.{NothingComesBack}
 use Rattle.dump_trees.specs.Following.{Way}
 use Rattle.dump_trees.specs.steps.LoadCheck.{all_apply, TellsKinds, ToldKinds}
 use Rattle.dump_trees.specs.steps.Looking.{Placed, placed_from}
@@ -29,12 +28,11 @@ use Rattle.dump_trees.proofs.cuts.EverKept.{ever_kept_in_cut}
 use Rattle.dump_trees.proofs.paths.CutLineLemmas.{named_line_stays}
 use Rattle.dump_trees.specs.Trees.{Tree, root_alone}
 use Rattle.dump_trees.proofs.cuts.FollowLemmas.{following_is_least}
-use Rattle.dump_trees.proofs.cuts.RestLemmas.{all_rests_are_listed, no_returns_bring_nothing}
+use Rattle.dump_trees.proofs.cuts.RestLemmas.{all_rests_are_listed}
 use Rattle.dump_filter.specs.Groups.{is_pad, revision_numbers}
 use Rattle.dump_history.specs.steps.CutDumps.{FiltersExpansion, LoadsNew, LoadsNumbered, TreeRestricts, leaves_no_gap}
 use Rattle.dump_history.specs.DumpChanges.{HaveRevisionProperties, LoadsAs, MakeRevisions, counts_from}
 use Rattle.dump_history.specs.steps.ExpandedText.{made_in_stead}
-use Rattle.dump_history.specs.CopiesOver.{some_copies_over}
 use Rattle.dump_history.specs.KeptChanges.{ChangesComeOfKept}
 use Rattle.dump_history.specs.steps.TrimmedDumps.{FiltersRenumbered, FiltersTrimmed}
 use Rattle.dump_history.proofs.cuts.CutLaws.{excluded_dump_loads}
@@ -68,9 +66,9 @@ use Rattle.dump_cut.proofs.TrimLaw.{trimmed_copies_load}
 use Rattle.dump_expansion.specs.steps.GivenSteads.{GivenStead, IsExpandedBy, steads_in}
 use Rattle.dump_additions.specs.steps.AdditionLaws.{HasAdditions}
 use Rattle.dump_additions.specs.steps.Additions.{AreAdditionsFrom}
-use Rattle.dump_additions.proofs.AdditionLaw.{additions_load, additions_over}
+use Rattle.dump_additions.proofs.AdditionLaw.{additions_load}
 use Rattle.cut_cli.specs.Sent.{IsTrimmedIf}
-use Rattle.cut_cli.specs.steps.Cuts.{AreChangesOf, AreKnownAs, AreListedButNumbers, BringsNothingBack, CutLoads, ExcludesAsAsked, FiltersOrTrims, FollowsAsAsked, HasPartIf, IsAskedBy, IsClosureOf, IsCutAsAsked, IsCutText, IsObstacleTo, IsReadFor, IsReadyFor, IsSetUp, LeadsNowhere, MergeinfoStaysByCut, text_read, writes_additions}
+use Rattle.cut_cli.specs.steps.Cuts.{AreChangesOf, AreKnownAs, AreListedButNumbers, BringsNothingBack, CutLoads, ExcludesAsAsked, FollowsAsAsked, HasPartIf, IsAskedBy, IsClosureOf, IsCutAsAsked, IsCutText, IsObstacleTo, IsReadFor, IsReadyFor, IsSetUp, LeadsNowhere, MergeinfoStaysByCut, text_read, writes_additions}
 use Rattle.cut_cli.specs.steps.Drive.{CleanTextsAreCuts, CutsDump, CutsInput, EndsUnwritten, WritesBoth, WritesIfAsked, obstacle_status}
 use Rattle.cut_cli.specs.Words.{CutMeaning}
 use Rattle.cut_cli.specs.steps.Words.{asked_map}
@@ -126,11 +124,8 @@ lines_by_cut settings included siblings dump records whole excludes each cover r
         ]
 
 -- what is written of a dump that loads, without what is excluded
-record Written (m : CutMeaning) (dump : List ℕ) (settings : Settings) (records : List DumpRecord) (deletes : Option Deletes)
-    (patched : Patching) (revisions : List (List Change)) (trees : List Tree) (text : List ℕ) : Type 0 where
-  nothing_back : NothingComesBack settings trees revisions
-  filters : LengthsFit settings records
-      → FiltersOrTrims deletes m.drop patched settings dump records revisions trees text
+record Written (m : CutMeaning) (settings : Settings) (records : List DumpRecord) (patched : Patching)
+    (revisions : List (List Change)) (trees : List Tree) (text : List ℕ) : Type 0 where
   kept : LengthsFit settings records → ChangesComeOfKept patched settings records revisions text
   numbered : m.drop ≡ false → LengthsFit settings records
       → LoadsNumbered patched (TreeRestricts settings records) records trees text
@@ -156,12 +151,6 @@ module _ (m : CutMeaning) (dump : List ℕ) (settings : Settings) (records : Lis
   tells : TellsKinds told root_alone placed
   tells = index_tells_kinds changes placed listed
 
-  nothing : (deletes : Option Deletes) → IsSetUp m excluded (map listed_of changes) settings deletes
-      → NothingComesBack settings trees revisions
-  nothing deletes set_up =
-      (no_returns_bring_nothing settings excluded told revisions trees placed refl tells loads_as.loads names set_up.excludes
-      set_up.have_names).0 (none_back placed listed)
-
   -- each copy is taken as it is
   module _ (set_up : IsSetUp m excluded (map listed_of changes) settings None) where
     taken : IsFirstNotTaken excluded told placed None
@@ -176,10 +165,8 @@ module _ (m : CutMeaning) (dump : List ℕ) (settings : Settings) (records : Lis
     no_gap true is = ap (λ b. b || is_pad settings.empty) (set_up.numbers ∙ is)
     no_gap false is = or_right settings.renumber (is_pad settings.empty) (ap is_pad (set_up.empties ∙ ap emptied_by is))
 
-    taken_written : Written m dump settings records None patched revisions trees filtered
+    taken_written : Written m settings records patched revisions trees filtered
     taken_written = record {
-      nothing_back = nothing None set_up;
-      filters = own;
       kept = λ fit. filtered_changes_are_kept patched settings dump filtered records revisions clean fit loads_as.makes
           (no_gap m.drop refl);
       numbered = λ stays fit. taken_dump_loads patched settings excluded dump filtered records changes revisions trees
@@ -219,11 +206,6 @@ module _ (m : CutMeaning) (dump : List ℕ) (settings : Settings) (records : Lis
     pads : m.drop ≡ false → settings.empty ≡ Pad
     pads stays = set_up.empties ∙ ap emptied_by stays
 
-    trimmed_filters : (drops : Bool) → m.drop ≡ drops → LengthsFit settings records
-        → FiltersOrTrims (Some deletes) drops patched settings dump records revisions trees text
-    trimmed_filters true is fit = (both fit).1 (set_up.numbers ∙ is)
-    trimmed_filters false is fit = (both fit).0 (pads is) (set_up.numbers ∙ is)
-
     trimmed_kept : (drops : Bool) → m.drop ≡ drops → LengthsFit settings records
         → ChangesComeOfKept patched settings records revisions text
     trimmed_kept true is fit = renumbered_changes_are_kept patched settings dump records revisions trees text
@@ -231,10 +213,8 @@ module _ (m : CutMeaning) (dump : List ℕ) (settings : Settings) (records : Lis
     trimmed_kept false is fit = trimmed_changes_are_kept patched settings dump records revisions trees text
         ((both fit).0 (pads is) (set_up.numbers ∙ is)) (pads is) (set_up.numbers ∙ is)
 
-    trimmed_written : Written m dump settings records (Some deletes) patched revisions trees text
+    trimmed_written : Written m settings records patched revisions trees text
     trimmed_written = record {
-      nothing_back = nothing (Some deletes) set_up;
-      filters = trimmed_filters m.drop refl;
       kept = trimmed_kept m.drop refl;
       numbered = λ stays fit. trimmed_dump_loads patched settings dump records revisions trees text
           ((both fit).0 (pads stays) (set_up.numbers ∙ stays)) set_up.excludes.side (pads stays) set_up.preserves
@@ -244,9 +224,9 @@ module _ (m : CutMeaning) (dump : List ℕ) (settings : Settings) (records : Lis
     }
 
   is_written : (deletes : Option Deletes) → IsSetUp m excluded (map listed_of changes) settings deletes
-      → IsTrimmedIf deletes filtered text → Written m dump settings records deletes patched revisions trees text
+      → IsTrimmedIf deletes filtered text → Written m settings records patched revisions trees text
   is_written None set_up trims =
-      subst (λ t. Written m dump settings records None patched revisions trees t) (sym trims) (taken_written set_up)
+      subst (Written m settings records patched revisions trees) (sym trims) (taken_written set_up)
   is_written (Some deletes) set_up trims = trimmed_written deletes set_up trims
 
 -- what is cut is what the call asks of the dump
@@ -300,9 +280,7 @@ record LoadsRead (patched : Patching) (records again : List DumpRecord) (changes
   made : List (List Change)
   reads : LoadsAs patched root_alone again made trees
   listed : AreListed changes (placed_from 1 made)
-  numbers : revision_numbers again ≡ revision_numbers records
   properties : (props : List (List Property)) → HaveRevisionProperties records props → HaveRevisionProperties again props
-  over : (path : NodePath) → some_copies_over path made ≡ true → some_copies_over path revisions ≡ true
 
 -- revisions with the properties of others have those of which these have them
 of_records : (patched : Patching) (Relates : Tree → Tree → Type 0) (records again : List DumpRecord) (trees : List Tree)
@@ -328,10 +306,7 @@ added_read patched dump text records again changes read revisions trees excluded
       made = made;
       reads = reads;
       listed = subst (AreListed read) (nodes_are patched again made placed reads.makes nodes) zip;
-      numbers = ap revision_numbers (sym are) ∙ numbers;
       properties = λ props have. subst (λ rs. HaveRevisionProperties rs props) are (properties props have);
-      over = λ path is. absurd (let bad : false ≡ true =
-          sym (additions_over patched dump records changes revisions trees excluded given path has) ∙ is in cc);
     }
 
 module _ (m : CutMeaning) (dump : List ℕ) (settings : Settings) (deletes : Option Deletes) (expansion : Option (List ℕ))
@@ -377,9 +352,7 @@ module _ (m : CutMeaning) (dump : List ℕ) (settings : Settings) (deletes : Opt
         made = revisions;
         reads = reads;
         listed = subst (AreListed others.changes) (nodes_are patched again revisions placed reads.makes nodes) zip;
-        numbers = ap revision_numbers (sym one);
         properties = λ props have. subst (λ rs. HaveRevisionProperties rs props) one have;
-        over = λ path is. is;
       }
   loads_read patched revisions trees loads listed (Some t) (adds, some, has) has_again listed_in =
       let same = whole_records_once dump has.records records has.whole whole in
@@ -407,7 +380,7 @@ module _ (m : CutMeaning) (dump : List ℕ) (settings : Settings) (deletes : Opt
   cut_of : (patched : Patching) (revisions : List (List Change)) (trees : List Tree)
       → LoadsAs patched root_alone records revisions trees → AreListed its.changes (placed_from 1 revisions)
       → LoadsRead patched records again others.changes revisions trees
-      → CutLoads patched m settings deletes excluded (text_read expansion dump) records again revisions text
+      → CutLoads patched m settings excluded records again revisions text
   cut_of patched revisions trees loads listed reads =
       let others_listed : map listed_of others.changes ≡ read =
       known_numbered others.records others.changes read
@@ -424,12 +397,8 @@ module _ (m : CutMeaning) (dump : List ℕ) (settings : Settings) (deletes : Opt
             (subst (λ l. IsAskedBy m.side m dump l excluded) (sym its_listed) are.asked);
         made = reads.made;
         reads = reads.reads;
-        same_numbers = reads.numbers;
         same_properties = reads.properties;
-        nothing_back = written.nothing_back;
-        filters = written.filters;
         kept = written.kept;
-        over = reads.over;
         numbered = λ stays fit. of_records patched (TreeRestricts settings again) records again trees text reads.properties
             (written.numbered stays fit);
         renumbered = written.renumbered;
@@ -439,7 +408,7 @@ module _ (m : CutMeaning) (dump : List ℕ) (settings : Settings) (deletes : Opt
   loaded : (patched : Patching) (revisions : List (List Change)) → MakeRevisions patched records revisions
       → AreListed its.changes (placed_from 1 revisions)
       → all_apply root_alone (placed_from 1 revisions) (length (placed_from 1 revisions)) ≡ true
-      → CutLoads patched m settings deletes excluded (text_read expansion dump) records again revisions text
+      → CutLoads patched m settings excluded records again revisions text
   loaded patched revisions makes listed apply =
       let unrejected = subst (λ l. IsFirstRejected l None) (sym its_listed) are.is_taken.1 in
       let (trees, leads) = some_value (loaded_over root_alone revisions)
@@ -449,7 +418,7 @@ module _ (m : CutMeaning) (dump : List ℕ) (settings : Settings) (deletes : Opt
       (loads_read patched revisions trees loads listed expansion are.is_read clean.whole
       (subst (λ rs. AreListedIn rs others.changes) other_records others.are_listed))
 
-  is_cut : IsCutText m expansion settings deletes dump text
+  is_cut : IsCutText m expansion settings dump text
   is_cut =
       let (made, has, make) = numbered_makes dump records its.changes whole numbered its_listed_in in
       let one = whole_records_once dump made records has whole in

@@ -77,7 +77,7 @@ zero_is_rest m dump old new apart sends number wet stays after =
       s.arrived,
       c.part,
       λ patched records revisions trees has loads.
-          let is_cut = whole_cut m apart dump c.whole s.expansion s.settings s.deletes
+          let is_cut = whole_cut m apart dump c.whole s.expansion s.settings
           (s.cuts records f.again f.filtered c.whole has (read_numbered patched records revisions loads.makes) f.clean f.trims)
           f.again f.filtered f.clean c.fits patched records revisions trees has loads stays in
           record {

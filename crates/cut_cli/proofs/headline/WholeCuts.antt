@@ -64,7 +64,7 @@ module _ (m : CutMeaning) (apart : (m.keep && m.follow) ≡ false) (settings : S
       number tree at
 
 module _ (m : CutMeaning) (apart : (m.keep && m.follow) ≡ false) (dump text : List ℕ) (expansion : Option (List ℕ))
-    (settings : Settings) (deletes : Option (List (List (List ℕ)))) (it : IsCutText m expansion settings deletes dump text)
+    (settings : Settings) (it : IsCutText m expansion settings dump text)
     (read : List DumpRecord) (filtered : List ℕ) (clean : IsCleanText settings (text_read expansion dump) read filtered)
     (short : length filtered < 10 ^ 18) (patched : Patching) (records : List DumpRecord) (revisions : List (List Change))
     (trees : List Tree) (has : HasRecords dump records Ending.Whole)
@@ -82,7 +82,7 @@ module _ (m : CutMeaning) (apart : (m.keep && m.follow) ≡ false) (dump text : 
       (subst (λ (rs : List DumpRecord). AllZip (MakeChanges patched) (groups rs) ([] ∷ made)) records_same
       (it.loads patched).1.changes) loads.makes.changes
 
-  cut : CutLoads patched m settings deletes it.excluded (text_read expansion dump) it.records it.again made text
+  cut : CutLoads patched m settings it.excluded it.records it.again made text
   unfolding made
   cut = (it.loads patched).2
       (subst (λ (rs : List (List Change)). all_apply root_alone (placed_from 1 rs) (length (placed_from 1 rs)) ≡ true)

@@ -211,7 +211,7 @@ zero_is_cut m dump old new apart sends wet stays all =
       s.sent,
       s.arrived,
       λ short patched records revisions trees has loads.
-          whole_cut m apart dump s.sent s.expansion s.settings s.deletes
+          whole_cut m apart dump s.sent s.expansion s.settings
           (s.cuts records c.again c.filtered s.sent has (read_numbered patched records revisions loads.makes) c.clean c.trims)
           c.again c.filtered c.clean
           (c.short short)
@@ -227,7 +227,7 @@ zero_is_dropped m dump old new apart sends wet drops all =
       s.sent,
       s.arrived,
       λ short patched records revisions trees has loads.
-          dropped_cut m apart dump s.sent s.expansion s.settings s.deletes
+          dropped_cut m apart dump s.sent s.expansion s.settings
           (s.cuts records c.again c.filtered s.sent has (read_numbered patched records revisions loads.makes) c.clean c.trims)
           c.again c.filtered c.clean
           (c.short short)
@@ -243,7 +243,7 @@ zero_is_of_kept m dump old new apart sends side unkept wet all =
       s.sent,
       s.arrived,
       λ short patched records revisions trees has loads.
-          of_kept m apart dump s.sent s.expansion s.settings s.deletes
+          of_kept m apart dump s.sent s.expansion s.settings
           (s.cuts records c.again c.filtered s.sent has (read_numbered patched records revisions loads.makes) c.clean c.trims)
           c.again c.filtered c.clean (c.short short) patched records revisions trees has loads (s.plain side unkept) side unkept,
     )

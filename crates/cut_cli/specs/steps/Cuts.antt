@@ -13,7 +13,6 @@ use Rattle.dump_filter.specs.FilterLaws.{LengthsFit}
 use Rattle.dump_filter.specs.Groups.{revision_numbers}
 use Rattle.dump_trees.specs.CanonicalPaths.{canonical_path, canonical_paths}
 use Rattle.dump_trees.specs.Changes.{Change}
-use Rattle.dump_trees.specs.steps.ComingBack.{NothingComesBack}
 use Rattle.dump_trees.specs.steps.FollowedRests.{all_rests}
 use Rattle.dump_trees.specs.Following.{Way, Covers, IsInClosure}
 use Rattle.dump_trees.specs.steps.Following.{ExistsOnce}
@@ -25,12 +24,10 @@ use Rattle.dump_trees.specs.steps.Returns.{lie_apart}
 use Rattle.dump_trees.specs.Siblings.{has_node_names}
 use Rattle.dump_trees.specs.steps.Siblings.{ExcludesPaths, is_in_cut}
 use Rattle.dump_trees.specs.Trees.{Tree, root_alone}
-use Rattle.dump_history.specs.steps.CutDumps.{FiltersExpansion, LoadsNew, LoadsNumbered, TreeRestricts}
+use Rattle.dump_history.specs.steps.CutDumps.{LoadsNew, LoadsNumbered, TreeRestricts}
 use Rattle.dump_history.specs.DumpChanges.{HaveRevisionProperties, LoadsAs, MakeRevisions}
-use Rattle.dump_history.specs.CopiesOver.{some_copies_over}
 use Rattle.dump_history.specs.KeptChanges.{ChangesComeOfKept}
 use Rattle.dump_history.specs.RecordChanges.{Patching}
-use Rattle.dump_history.specs.steps.TrimmedDumps.{FiltersRenumbered, FiltersTrimmed}
 use Rattle.dump_index.specs.steps.IndexLaws.{IsListed}
 use Rattle.dump_index.specs.steps.InOrder.{are_in_order}
 use Rattle.dump_index.specs.steps.Listed.{Listed, all_placed, listed_of}
@@ -251,17 +248,6 @@ pub record IsReadyFor (m : CutMeaning) (dump : List ℕ) (expansion : Option (Li
   pub are_excluded : ExcludesAsAsked m dump expansion excluded read
   pub is_set_up : IsSetUp m excluded read settings deletes
 
--- the text is what the filter writes of the dump itself; or that with the deletes of what copies take to excluded paths,
--- where each revision is kept, or where some are dropped
-abbrev pub FiltersOrTrims : Option (List (List (List ℕ))) → Bool → Patching → Settings → List ℕ → List DumpRecord
-    → List (List Change) → List Tree → List ℕ → Type 0
-FiltersOrTrims None drops patched settings dump records revisions trees text =
-    FiltersExpansion patched settings dump records revisions trees records text
-FiltersOrTrims (Some deletes) false patched settings dump records revisions trees text =
-    FiltersTrimmed patched settings dump records revisions trees text
-FiltersOrTrims (Some deletes) true patched settings dump records revisions trees text =
-    FiltersRenumbered patched settings dump records revisions trees text
-
 -- these paths cover the least set that has what the first ones cover, and where copies lead from there this way
 pub record IsClosureOf (way : Way) (trees : List Tree) (revisions : List (List Change)) (first paths : List NodePath)
     : Type 0 where
@@ -305,35 +291,28 @@ abbrev pub IsCutAsAsked : Side → CutMeaning → Settings → List DumpRecord �
 IsCutAsAsked Exclude m settings records trees revisions excluded = ExcludesNamed m trees revisions excluded
 IsCutAsAsked Include m settings records trees revisions excluded = LeavesNamed m settings records trees revisions
 
--- the dump loads into an empty repository, and so does what the filter reads of it: to the same trees, and its revisions have
--- the same numbers and properties. So does what is written: each revision has its own number and properties, and the tree
--- that it had, without the excluded paths. If the call drops revisions that lose all of their nodes, this is true of the
--- others under their new numbers. The excluded paths are what the call asks for; nothing that is kept came from there. And all
--- that is written comes of changes at paths that aren't excluded, also where no revision shows it. A copy in what the filter
--- reads, and so in what is written, is over what its own revision changed only where the dump has such a copy
-pub record CutLoads (patched : Patching) (m : CutMeaning) (settings : Settings) (deletes : Option (List (List (List ℕ))))
-    (excluded : List NodePath) (read : List ℕ) (records again : List DumpRecord) (revisions : List (List Change))
-    (text : List ℕ) : Type 0 where
+-- the dump loads into an empty repository, and so does what the filter reads of it: to the same trees, with the same properties of
+-- revisions. So does what is written: each revision has its own number and properties, and the tree that it had, without the
+-- excluded paths. If the call drops revisions that lose all of their nodes, this is true of the others under their new numbers. The
+-- excluded paths are what the call asks for. And all that is written comes of changes at paths that aren't excluded, also where no
+-- revision shows it
+pub record CutLoads (patched : Patching) (m : CutMeaning) (settings : Settings) (excluded : List NodePath)
+    (records again : List DumpRecord) (revisions : List (List Change)) (text : List ℕ) : Type 0 where
   pub trees : List Tree
   pub loads : LoadsAs patched root_alone records revisions trees
   pub as_asked : IsCutAsAsked m.side m settings records trees revisions excluded
   pub made : List (List Change)
   pub reads : LoadsAs patched root_alone again made trees
-  pub same_numbers : revision_numbers again ≡ revision_numbers records
   pub same_properties : (props : List (List Property)) → HaveRevisionProperties records props
       → HaveRevisionProperties again props
-  pub nothing_back : NothingComesBack settings trees made
-  pub filters : LengthsFit settings again → FiltersOrTrims deletes m.drop patched settings read again made trees text
   pub kept : LengthsFit settings again → ChangesComeOfKept patched settings again made text
-  pub over : (path : NodePath) → IsTrue (some_copies_over path made) → IsTrue (some_copies_over path revisions)
   pub numbered : m.drop ≡ false → LengthsFit settings again
       → LoadsNumbered patched (TreeRestricts settings again) records trees text
   pub renumbered : m.drop ≡ true → LengthsFit settings again
       → LoadsNew patched settings (TreeRestricts settings again) again trees text
 
 -- the text is the cut of the dump, where text deltas apply, if it has some
-pub record IsCutText (m : CutMeaning) (expansion : Option (List ℕ)) (settings : Settings)
-    (deletes : Option (List (List (List ℕ)))) (dump text : List ℕ) : Type 0 where
+pub record IsCutText (m : CutMeaning) (expansion : Option (List ℕ)) (settings : Settings) (dump text : List ℕ) : Type 0 where
   pub excluded : List NodePath
   pub records : List DumpRecord
   pub again : List DumpRecord
@@ -343,4 +322,4 @@ pub record IsCutText (m : CutMeaning) (expansion : Option (List ℕ)) (settings 
   pub whole_again : HasRecords (text_read expansion dump) again Ending.Whole
   pub loads : (patched : Patching) → (revisions : List (List Change)) × MakeRevisions patched records revisions
       × (IsTrue (all_apply root_alone (placed_from 1 revisions) (length (placed_from 1 revisions)))
-      → CutLoads patched m settings deletes excluded (text_read expansion dump) records again revisions text)
+      → CutLoads patched m settings excluded records again revisions text)

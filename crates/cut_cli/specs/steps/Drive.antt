@@ -107,7 +107,7 @@ CleanTextsAreCuts m expansion settings deletes dump =
     (records again : List DumpRecord) (filtered text : List ℕ) →
     HasRecords dump records Ending.Whole → are_numbered records ≡ true
     → IsCleanText settings (text_read expansion dump) again filtered → IsTrimmedIf deletes filtered text
-    → IsCutText m expansion settings deletes dump text
+    → IsCutText m expansion settings dump text
 
 -- nothing is written: with status 1, or with status 3 for one of two reasons
 abbrev pub EndsUnwritten : CutMeaning → List ℕ → ℕ → Type 0
