@@ -18,9 +18,7 @@ pub mod WorkedExpansion
 pub mod ExpansionLaw
 pub mod ExpansionValues
 pub mod WorkedCut
-pub mod CutLaw
-pub mod WorkedTrim
-pub mod WorkedRenumbered
+pub mod TrimmedValues
 pub mod KeptChangeValues
 pub mod MergedValues
 pub mod CutDumpValues

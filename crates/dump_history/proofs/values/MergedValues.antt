@@ -1,5 +1,5 @@
 -- Examples of mergeinfo in restricted trees: its numbers change by the kept revisions of the dump itself.
-use Rattle.dump_history.proofs.Prelude.{◌≡◌, not, ◌&&◌, cond, keeps, IsNewNode, refl, sym, ap, ◌∙◌, inl, inr, None, arith, lit<, lit≤, bytes_eq, kept_revisions, new_number, IsNewProperty, NodePath, Node, Tree, root_alone, put}
+use Rattle.dump_history.proofs.Prelude.{◌≡◌, not, ◌&&◌, cond, DropEmptied, Exclude, Settings, keeps, IsNewNode, refl, sym, ap, ◌∙◌, inl, inr, None, arith, lit<, lit≤, bytes_eq, kept_revisions, new_number, IsNewProperty, NodePath, Node, Tree, root_alone, put}
 use Rattle.std.proofs.Common.{ℕ, true, false, List, [], ◌∷◌, Some, codes}
 use Rattle.std.specs.Prelude.{IsTrue, IsFalse}
 use Rattle.std.specs.Fmt.{digits}
@@ -9,7 +9,17 @@ use Rattle.dump_trees.specs.Restriction.{given}
 use Rattle.dump_history.specs.steps.CutDumps.{TreeRestricts}
 use Rattle.dump_history.proofs.values.RaisedValues.{merge, line, reads}
 use Rattle.dump_history.proofs.values.WorkedCut.{records}
-use Rattle.dump_history.proofs.values.WorkedRenumbered.{settings}
+
+-- files are excluded, and revisions that are emptied are dropped
+abbrev settings : Settings
+settings = record {
+  side = Exclude;
+  prefixes = codes "/trunk/app" ∷ codes "/branch/app" ∷ codes "/branch/old" ∷ [];
+  empty = DropEmptied;
+  renumber = true;
+  preserve = true;
+  skip_missing = true;
+}
 
 -- revision 3 is the second that is kept, so it has the number 2
 becomes_two : IsRenumberedMap (kept_revisions settings records) (line (codes "t") 3 true).ranges
