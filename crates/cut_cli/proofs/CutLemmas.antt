@@ -34,11 +34,10 @@ use Rattle.dump_history.specs.steps.CutDumps.{FiltersExpansion, LoadsNew, LoadsN
 use Rattle.dump_history.specs.DumpChanges.{HaveRevisionProperties, LoadsAs, MakeRevisions, counts_from}
 use Rattle.dump_history.specs.steps.ExpandedText.{made_in_stead}
 use Rattle.dump_history.specs.KeptChanges.{ChangesComeOfKept}
-use Rattle.dump_history.specs.steps.TrimmedDumps.{FiltersRenumbered, FiltersTrimmed}
+use Rattle.dump_history.specs.steps.TrimmedDumps.{FiltersTrimmed}
 use Rattle.dump_history.proofs.cuts.CutLaws.{excluded_dump_loads}
-use Rattle.dump_history.proofs.cuts.KeptChanges.{filtered_changes_are_kept, renumbered_changes_are_kept, trimmed_changes_are_kept}
-use Rattle.dump_history.proofs.cuts.RenumberedLaw.{trimmed_dump_loads_renumbered}
-use Rattle.dump_history.proofs.cuts.TrimmedLaw.{trimmed_dump_loads}
+use Rattle.dump_history.proofs.cuts.KeptChanges.{filtered_changes_are_kept, trimmed_changes_are_kept}
+use Rattle.dump_history.proofs.cuts.TrimmedLaw.{trimmed_dump_loads, trimmed_dump_loads_renumbered}
 use Rattle.dump_history.specs.RecordChanges.{Patching}
 use Rattle.dump_index.specs.steps.IndexLaws.{AreListed}
 use Rattle.dump_index.specs.steps.Listed.{Listed, listed_of}
@@ -151,6 +150,12 @@ module _ (m : CutMeaning) (dump : List ℕ) (settings : Settings) (records : Lis
   tells : TellsKinds told root_alone placed
   tells = index_tells_kinds changes placed listed
 
+  no_gap : (drops : Bool) → m.drop ≡ drops → (deletes : Option Deletes)
+      → IsSetUp m excluded (map listed_of changes) settings deletes → leaves_no_gap settings ≡ true
+  no_gap true is deletes set_up = ap (λ b. b || is_pad settings.empty) (set_up.numbers ∙ is)
+  no_gap false is deletes set_up =
+      or_right settings.renumber (is_pad settings.empty) (ap is_pad (set_up.empties ∙ ap emptied_by is))
+
   -- each copy is taken as it is
   module _ (set_up : IsSetUp m excluded (map listed_of changes) settings None) where
     taken : IsFirstNotTaken excluded told placed None
@@ -161,19 +166,15 @@ module _ (m : CutMeaning) (dump : List ℕ) (settings : Settings) (records : Lis
         (taken_revisions_separate settings excluded told revisions trees tells loads_as.loads names set_up.excludes
         set_up.have_names taken) clean fit
 
-    no_gap : (drops : Bool) → m.drop ≡ drops → leaves_no_gap settings ≡ true
-    no_gap true is = ap (λ b. b || is_pad settings.empty) (set_up.numbers ∙ is)
-    no_gap false is = or_right settings.renumber (is_pad settings.empty) (ap is_pad (set_up.empties ∙ ap emptied_by is))
-
     taken_written : Written m settings records patched revisions trees filtered
     taken_written = record {
       kept = λ fit. filtered_changes_are_kept patched settings dump filtered records revisions clean fit loads_as.makes
-          (no_gap m.drop refl);
+          (no_gap m.drop refl None set_up);
       numbered = λ stays fit. taken_dump_loads patched settings excluded dump filtered records changes revisions trees
           clean.whole loads_as listed named set_up.excludes set_up.have_names taken clean fit
           (set_up.empties ∙ ap emptied_by stays) set_up.preserves;
       renumbered = λ drops fit. excluded_dump_loads patched settings dump filtered records records revisions trees (own fit)
-          set_up.excludes.side (no_gap true drops);
+          set_up.excludes.side (no_gap m.drop refl None set_up);
     }
 
   -- deletes follow some copies
@@ -196,31 +197,21 @@ module _ (m : CutMeaning) (dump : List ℕ) (settings : Settings) (records : Lis
       trimmed = trims;
     }
 
-    both : LengthsFit settings records
-        → (settings.empty ≡ Pad → settings.renumber ≡ false
-        → FiltersTrimmed patched settings dump records revisions trees text)
-        × (settings.renumber ≡ true → FiltersRenumbered patched settings dump records revisions trees text)
-    both fit = trimmed_copies_load patched settings excluded dump filtered text records changes revisions trees deletes
-        (trims_dump fit)
+    filters : LengthsFit settings records → FiltersTrimmed patched settings dump records revisions trees text
+    filters fit = trimmed_copies_load patched settings excluded dump filtered text records changes revisions trees deletes
+        (trims_dump fit) (no_gap m.drop refl (Some deletes) set_up)
 
     pads : m.drop ≡ false → settings.empty ≡ Pad
     pads stays = set_up.empties ∙ ap emptied_by stays
 
-    trimmed_kept : (drops : Bool) → m.drop ≡ drops → LengthsFit settings records
-        → ChangesComeOfKept patched settings records revisions text
-    trimmed_kept true is fit = renumbered_changes_are_kept patched settings dump records revisions trees text
-        ((both fit).1 (set_up.numbers ∙ is)) (set_up.numbers ∙ is)
-    trimmed_kept false is fit = trimmed_changes_are_kept patched settings dump records revisions trees text
-        ((both fit).0 (pads is) (set_up.numbers ∙ is)) (pads is) (set_up.numbers ∙ is)
-
     trimmed_written : Written m settings records patched revisions trees text
     trimmed_written = record {
-      kept = trimmed_kept m.drop refl;
-      numbered = λ stays fit. trimmed_dump_loads patched settings dump records revisions trees text
-          ((both fit).0 (pads stays) (set_up.numbers ∙ stays)) set_up.excludes.side (pads stays) set_up.preserves
-          (set_up.numbers ∙ stays);
-      renumbered = λ drops fit. trimmed_dump_loads_renumbered patched settings dump records revisions trees text
-          ((both fit).1 (set_up.numbers ∙ drops)) set_up.excludes.side (set_up.numbers ∙ drops);
+      kept = λ fit. trimmed_changes_are_kept patched settings dump records revisions trees text (filters fit)
+          (no_gap m.drop refl (Some deletes) set_up);
+      numbered = λ stays fit. trimmed_dump_loads patched settings dump records revisions trees text (filters fit)
+          set_up.excludes.side (pads stays) set_up.preserves (set_up.numbers ∙ stays);
+      renumbered = λ drops fit. trimmed_dump_loads_renumbered patched settings dump records revisions trees text (filters fit)
+          set_up.excludes.side (set_up.numbers ∙ drops);
     }
 
   is_written : (deletes : Option Deletes) → IsSetUp m excluded (map listed_of changes) settings deletes

@@ -1,25 +1,21 @@
 -- What the filter writes of a dump, with deletes after its copies, is trimmed.
-use Rattle.std.proofs.Common.{◌≡◌, ◌+◌, ◌≤◌, ℕ, true, false, ◌==◌, List, [], ◌∷◌, ◌++◌, drop, length, map, sym, ap, ap₂, ◌∙◌, subst, arith}
-use Rattle.std.specs.List.{list_any}
-use Rattle.std.proofs.lemmas.Bool.{MatchBool-at_true, or_left, or_right}
+use Rattle.std.proofs.Common.{◌≡◌, ◌+◌, ◌≤◌, ℕ, true, false, List, [], ◌∷◌, drop, length, map, sym, ap, ap₂, ◌∙◌, subst, arith}
 use Rattle.std.proofs.lemmas.List.{length-map}
 use Rattle.dump_rules.specs.Settings.{Settings}
-use Rattle.dump_rules.specs.declared.options.Empty.TheVariants.{Pad}
-use Rattle.dump_filter.specs.Groups.{groups, is_pad, keeps_empty, kept_revisions}
+use Rattle.dump_filter.specs.Groups.{groups, kept_revisions}
 use Rattle.dump_filter.specs.NewContent.{IsNewProperty}
 use Rattle.dump_filter.proofs.knowing.Answered.{all_lawful}
 use Rattle.dump_records.specs.RecordText.{DumpRecord}
 use Rattle.dump_trees.specs.Changes.{Change}
 use Rattle.dump_trees.specs.steps.Looking.{placed_from}
-use Rattle.dump_trees.specs.Paths.{NodePath, keeps, path_of}
+use Rattle.dump_trees.specs.Paths.{NodePath, path_of}
 use Rattle.dump_trees.specs.Revisions.{IsWrittenNumber}
-use Rattle.dump_trees.specs.steps.Revisions.{keeps_revision, kept_of}
+use Rattle.dump_trees.specs.steps.Revisions.{kept_of}
 use Rattle.dump_trees.specs.steps.Siblings.{have_node_names}
 use Rattle.dump_trees.specs.Trees.{Tree, root_alone}
 use Rattle.dump_history.specs.steps.CutDumps.{leaves_no_gap}
 use Rattle.dump_history.specs.RecordChanges.{Patching}
-use Rattle.dump_history.specs.steps.TrimmedDumps.{AreAllTrimming, AreFilteredTrimming, FiltersRenumbered, FiltersTrimmed, part_groups, stays_empty}
-use Rattle.dump_history.specs.WrittenNodes.{WrittenNode}
+use Rattle.dump_history.specs.steps.TrimmedDumps.{AreAllTrimming, FiltersTrimmed, part_groups, stays_empty}
 use Rattle.dump_history.proofs.restricted.FilteredLaw.{IsLeft, is_left}
 use Rattle.dump_history.proofs.cuts.OwnNumbers.{numbers_are_kept}
 use Rattle.dump_index.specs.steps.Listed.{listed_of}
@@ -31,20 +27,6 @@ use Rattle.dump_cut.specs.steps.TrimmedCopies.{TrimmedCopiesLoad, TrimsDump}
 use Rattle.dump_cut.proofs.DeleteGroups.{all_sizes, front_nodes, group_sizes, grouped_parts, none_first, parts_of, sizes_made}
 use Rattle.dump_cut.proofs.TakenLaw.{placed_named, revisions_named}
 use Rattle.dump_cut.proofs.TrimLemmas as trims
-
--- if each revision stays, each has its deletes
-all_trimming : (settings : Settings) → ((changes : List Change) → keeps_revision settings (stays_empty settings) changes ≡ true)
-    → (older : List Tree) (youngest : Tree) (revisions : List (List Change)) (groups : List (List (List WrittenNode)))
-    → AreFilteredTrimming settings older youngest revisions groups → AreAllTrimming settings older youngest revisions groups
-all_trimming settings stays older youngest [] groups trims = trims
-all_trimming settings stays older youngest (changes ∷ revisions) groups trims =
-    let (first, rest, listed, one, further) = MatchBool-at_true _ _ (stays changes) trims in (
-      first,
-      rest,
-      listed,
-      one,
-      λ tree at. all_trimming settings stays (older ++ tree ∷ []) tree revisions rest (further tree at),
-    )
 
 module _ (patched : Patching) (settings : Settings) (excluded : List NodePath) (dump filtered text : List ℕ)
     (records : List DumpRecord) (changes : List NodeChange) (revisions : List (List Change)) (trees : List Tree)
@@ -90,18 +72,18 @@ module _ (patched : Patching) (settings : Settings) (excluded : List NodePath) (
       (all_lawful 0 0 filtered left.has.0 left.again left.has.1) left.makes_again.ordered fits
       ∙ ap₂ (λ n (ns : List ℕ). map (map delete_nodes) (parts_of ns (drop n deletes))) front sizes
 
-  its_trims : AreFilteredTrimming settings (root_alone ∷ []) root_alone revisions
+  its_trims : AreAllTrimming settings (root_alone ∷ []) root_alone revisions
       (drop 1 (part_groups left.again (deletes_behind left.again deletes)))
   its_trims =
-      subst (λ gs. AreFilteredTrimming settings (root_alone ∷ []) root_alone revisions (drop 1 gs)) (sym grouped)
+      subst (λ gs. AreAllTrimming settings (root_alone ∷ []) root_alone revisions (drop 1 gs)) (sym grouped)
       (trims.revisions_trimmed settings excluded (kinds_told_by (map listed_of changes)) revisions trees
       (index_tells_kinds changes (placed_from 1 revisions) t.listed) t.loads.loads names t.excludes t.are_named t.apart
       t.nothing_back (IsNewProperty settings (kept_revisions settings records))
       (IsWrittenNumber settings (kept_of settings (stays_empty settings) revisions)) (root_alone ∷ []) root_alone revisions
       (λ cs in_it. in_it) names t.loads.loads left.written left.new deletes paths)
 
-  filters_renumbered : FiltersRenumbered patched settings dump records revisions trees text
-  filters_renumbered = record {
+  filters_trimmed : FiltersTrimmed patched settings dump records revisions trees text
+  filters_trimmed = record {
     loads = t.loads;
     filtered = filtered;
     clean = t.clean;
@@ -113,28 +95,6 @@ module _ (patched : Patching) (settings : Settings) (excluded : List NodePath) (
     trims = its_trims;
   }
 
-  filters_trimmed : settings.empty ≡ Pad → FiltersTrimmed patched settings dump records revisions trees text
-  filters_trimmed pad = record {
-    loads = t.loads;
-    filtered = filtered;
-    clean = t.clean;
-    fit = t.fit;
-    again = left.again;
-    has_again = left.has;
-    behind = deletes_behind left.again deletes;
-    trimmed = t.trimmed left.again left.has;
-    trims = all_trimming settings stays (root_alone ∷ []) root_alone revisions
-        (drop 1 (part_groups left.again (deletes_behind left.again deletes))) its_trims;
-  }
-    where
-      stays : (cs : List Change) → keeps_revision settings (stays_empty settings) cs ≡ true
-      stays cs = or_right (list_any (λ (c : Change). keeps settings c.path) cs) (stays_empty settings cs)
-          (ap (λ e. keeps_empty e (length cs == 0)) pad)
-
 pub trimmed_copies_load : TrimmedCopiesLoad
-trimmed_copies_load patched settings excluded dump filtered text records changes revisions trees deletes t = (
-  λ pad stays. filters_trimmed patched settings excluded dump filtered text records changes revisions trees deletes t
-      (or_right settings.renumber (is_pad settings.empty) (ap is_pad pad)) pad,
-  λ renumber. filters_renumbered patched settings excluded dump filtered text records changes revisions trees deletes t
-      (or_left settings.renumber (is_pad settings.empty) renumber),
-)
+trimmed_copies_load patched settings excluded dump filtered text records changes revisions trees deletes t no_gap =
+    filters_trimmed patched settings excluded dump filtered text records changes revisions trees deletes t no_gap

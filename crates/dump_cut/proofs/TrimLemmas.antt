@@ -36,7 +36,7 @@ use Rattle.dump_trees.proofs.expansions.StandingLemmas.{copy_has_tree}
 use Rattle.dump_trees.proofs.histories.FrontLemmas.{loaded_behind}
 use Rattle.dump_trees.proofs.histories.KeptNumbers.{get_before}
 use Rattle.dump_trees.proofs.paths.SiblingLemmas.{excluded_match}
-use Rattle.dump_history.specs.steps.TrimmedDumps.{AreFilteredTrimming, AreTrimming, stays_empty}
+use Rattle.dump_history.specs.steps.TrimmedDumps.{AreAllTrimming, AreTrimming, stays_empty}
 use Rattle.dump_history.specs.steps.WrittenNodes.{written_change}
 use Rattle.dump_cut.specs.TrimmedCopies.{delete_nodes}
 use Rattle.dump_cut.specs.steps.TrimmedCopies.{kept_changes, lost_paths}
@@ -312,7 +312,7 @@ module _ (settings : Settings) (excluded : List NodePath) (told : ToldKinds) (re
         → have_node_names left ≡ true → loaded older youngest left ≡ Some trees → (written : List (List Change))
         → AreNewRevisions settings IsNew IsNumber (stays_empty settings) left written
         → (texts : List (List (List ℕ))) → map (map path_of) texts ≡ all_lost left
-        → AreFilteredTrimming settings older youngest left (map (map delete_nodes) (parts_of (map length written) texts))
+        → AreAllTrimming settings older youngest left (map (map delete_nodes) (parts_of (map length written) texts))
     revisions_trimmed older youngest [] each have loads written are texts same =
         ap (λ ws. map (map delete_nodes) (parts_of (map length ws) texts)) are
     revisions_trimmed older youngest (changes ∷ left) each have loads written are texts same =
@@ -335,7 +335,7 @@ module _ (settings : Settings) (excluded : List NodePath) (told : ToldKinds) (re
         Later = (ts : List Tree) (t : Tree) → loaded ts t left ≡ Some trees → (ws : List (List Change))
             → AreNewRevisions settings IsNew IsNumber (stays_empty settings) left ws
             → (more : List (List (List ℕ))) → map (map path_of) more ≡ all_lost left
-            → AreFilteredTrimming settings ts t left (map (map delete_nodes) (parts_of (map length ws) more))
+            → AreAllTrimming settings ts t left (map (map delete_nodes) (parts_of (map length ws) more))
 
         same_tree : (tree other : Tree) → steps (slice_get older) youngest changes ≡ Some tree
             → steps (slice_get older) youngest changes ≡ Some other → tree ≡ other
@@ -350,7 +350,7 @@ module _ (settings : Settings) (excluded : List NodePath) (told : ToldKinds) (re
         cases : (b : Bool) → keeps_revision settings (stays_empty settings) changes ≡ b
             → (o : Option Tree) → steps (slice_get older) youngest changes ≡ o
             → option_and_then (λ t. loaded (older ++ t ∷ []) t left) o ≡ Some trees → Later
-            → AreFilteredTrimming settings older youngest (changes ∷ left)
+            → AreAllTrimming settings older youngest (changes ∷ left)
             (map (map delete_nodes) (parts_of (map length written) texts))
         cases b kept None at bad later = absurd (let worse : None ≡ Some trees = bad in cc)
         cases false dropped (Some tree) at behind later =

@@ -4,6 +4,5 @@ pub mod CutLaws
 pub mod WrittenChanges
 pub mod TrimmedTexts
 pub mod TrimmedLaw
-pub mod RenumberedLaw
 pub mod CopiesOver
 pub mod KeptChanges

@@ -3,7 +3,7 @@ ghost use Rattle.dump_history.specs.steps.CutDumps.{ExcludedDumpLoads, ExcludedD
 ghost use Rattle.dump_history.specs.DumpLaws.{DumpLoadsOnce, FilteredDumpRestricts, FilteredDumpRestrictsAfterDirectories, NoGapIsNeeded, FilteredDumpFrontRestricts, QuietDumpRestricts, QuietDumpRestrictsAfterDirectories, QuietDumpFrontRestricts};
 ghost use Rattle.dump_history.specs.steps.ExpandedDumps.{ExpandedDumpLoads};
 ghost use Rattle.dump_history.specs.steps.ExpandedText.{ExpansionsAreDumps};
-ghost use Rattle.dump_history.specs.steps.KeptChanges.{FilteredChangesAreKept, RenumberedChangesAreKept, TrimmedChangesAreKept};
+ghost use Rattle.dump_history.specs.steps.KeptChanges.{FilteredChangesAreKept, TrimmedChangesAreKept};
 ghost use Rattle.dump_history.specs.PartLaws.{FilteredPartRestricts, NoGapIsNeededInPart, QuietPartRestricts};
 ghost use Rattle.dump_history.specs.steps.Replacing.{KeptCopyReplaces};
 ghost use Rattle.dump_history.specs.SurveyLaws.{AlarmsAreExact, DumpFindingsAreOnce, FindingsAreOnce, ObstaclesAreExact, SurveyedDumpRestricts, SurveyedDumpFrontRestricts};
@@ -115,5 +115,4 @@ pub fn each_trimmed_dump_loads()
 pub fn filtered_changes_come_of_kept_ones()
     ensures filtered { FilteredChangesAreKept }
     ensures trimmed { TrimmedChangesAreKept }
-    ensures renumbered { RenumberedChangesAreKept }
 {}

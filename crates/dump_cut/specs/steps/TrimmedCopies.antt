@@ -1,10 +1,9 @@
 -- Copies to directories of which a part is excluded at the copy alone: the filter takes each as it is, and deletes of that part
 -- follow it.
-use Rattle.std.specs.Prelude.{◌≡◌, ℕ, Bool, true, false, not, List, [], ◌++◌, filter, length, map, if◌then◌else◌, IsTrue, slice_get, Some, IsFalse}
+use Rattle.std.specs.Prelude.{◌≡◌, ℕ, Bool, not, List, [], ◌++◌, filter, length, map, IsTrue, slice_get, Some, IsFalse}
 use Rattle.std.specs.List.{list_all}
 use Rattle.dump_records.specs.DumpText.{Ending, HasRecords}
 use Rattle.dump_records.specs.RecordText.{DumpRecord}
-use Rattle.dump_rules.specs.declared.options.Empty.TheVariants.{Pad}
 use Rattle.dump_rules.specs.Settings.{Settings}
 use Rattle.dump_filter.specs.FilterLaws.{LengthsFit}
 use Rattle.dump_filter.specs.WholeText.{IsCleanText}
@@ -21,7 +20,8 @@ use Rattle.dump_trees.specs.steps.Siblings.{ExcludesPaths}
 use Rattle.dump_trees.specs.Trees.{Tree, root_alone}
 use Rattle.dump_history.specs.DumpChanges.{LoadsAs}
 use Rattle.dump_history.specs.RecordChanges.{Patching}
-use Rattle.dump_history.specs.steps.TrimmedDumps.{FiltersRenumbered, FiltersTrimmed}
+use Rattle.dump_history.specs.steps.CutDumps.{leaves_no_gap}
+use Rattle.dump_history.specs.steps.TrimmedDumps.{FiltersTrimmed}
 use Rattle.dump_history.specs.WrittenNodes.{is_plain_path}
 use Rattle.dump_index.specs.steps.IndexLaws.{AreListed}
 use Rattle.dump_index.specs.steps.Listed.{listed_of}
@@ -51,8 +51,7 @@ pub record AreDeletes (excluded : List NodePath) (told : ToldKinds) (placed : Li
   pub paths : map (λ texts. map path_of texts) deletes ≡ map (lost_paths excluded told placed) (kept_changes excluded placed)
   pub plain : IsTrue (are_plain deletes)
 
--- if nothing excluded comes back, what the filter writes is trimmed with these deletes. Each of its revisions has its own
--- number, or the filter renumbers them
+-- if nothing excluded comes back, what the filter writes is trimmed with these deletes. It drops no revision, or renumbers
 pub record TrimsDump (patched : Patching) (settings : Settings) (excluded : List NodePath) (dump filtered text : List ℕ)
     (records : List DumpRecord) (changes : List NodeChange) (revisions : List (List Change)) (trees : List Tree)
     (deletes : List (List (List ℕ))) : Type 0 where
@@ -75,8 +74,7 @@ TrimmedCopiesLoad = (patched : Patching) (settings : Settings) (excluded : List 
     (records : List DumpRecord) (changes : List NodeChange) (revisions : List (List Change)) (trees : List Tree)
     (deletes : List (List (List ℕ))) →
     TrimsDump patched settings excluded dump filtered text records changes revisions trees deletes
-    → (settings.empty ≡ Pad → settings.renumber ≡ false → FiltersTrimmed patched settings dump records revisions trees text)
-    × (settings.renumber ≡ true → FiltersRenumbered patched settings dump records revisions trees text)
+    → IsTrue (leaves_no_gap settings) → FiltersTrimmed patched settings dump records revisions trees text
 
 -- the change at this place is kept, and takes something to a path that a load doesn't read unchanged
 pub record HasOddDelete (excluded : List NodePath) (told : ToldKinds) (placed : List Placed) (place : ℕ) : Type 0 where

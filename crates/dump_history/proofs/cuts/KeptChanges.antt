@@ -1,12 +1,11 @@
 -- What is written of a dump comes from its kept changes, if no record is replaced.
-use Rattle.dump_history.proofs.Prelude.{◌≡◌, true, refl, sym, ap, subst, inl, append-nil, or_left, or_right, drop, slice_get, MatchBool-at_false, Contains, Property, DumpRecord, Settings, KeptRevisions, kept_revisions, IsNewProperty, keeps, NodePath, Tree, root_alone, Made, Change, NewProperty, NewNumber, EmptyRule, AreNewRevisions, keeps_revision, IsWrittenNumber, Patching}
+use Rattle.dump_history.proofs.Prelude.{◌≡◌, true, refl, sym, subst, inl, append-nil, drop, slice_get, MatchBool-at_false, Contains, Property, DumpRecord, Settings, KeptRevisions, kept_revisions, IsNewProperty, keeps, NodePath, Tree, root_alone, Made, Change, NewProperty, NewNumber, EmptyRule, AreNewRevisions, keeps_revision, IsWrittenNumber, Patching}
 use Rattle.std.proofs.Common.{ℕ, Bool, false, List, [], ◌∷◌, ◌++◌, Option, Some, None, map, option_and_then}
 use Rattle.std.specs.List.{All}
 use Rattle.std.proofs.lemmas.Bool.{MatchBool-at_true}
 use Rattle.std.proofs.lemmas.List.Elements.{All-nil, All-cons, All-head, All-tail, All-append, All-same, All-weaker, All-contains_itself}
 use Rattle.dump_records.specs.DumpText.{Ending, HasRecords}
 use Rattle.dump_filter.specs.FilterLaws.{LengthsFit}
-use Rattle.dump_filter.specs.Groups.{is_pad}
 use Rattle.dump_filter.specs.WholeText.{IsCleanText}
 use Rattle.dump_trees.specs.Changes.{History, step, steps}
 use Rattle.dump_trees.specs.ComingBack.{SetsProperty, SomeKeptDoes, entries_in}
@@ -16,9 +15,9 @@ use Rattle.dump_trees.specs.steps.Trimming.{IsSameNumber}
 use Rattle.dump_history.specs.steps.CutDumps.{leaves_no_gap}
 use Rattle.dump_history.specs.DumpChanges.{MakeRevisions}
 use Rattle.dump_history.specs.KeptChanges.{CopiesPart, ComesOfKept, ChangesComeOfKept}
-use Rattle.dump_history.specs.steps.KeptChanges.{FilteredChangesAreKept, RenumberedChangesAreKept, TrimmedChangesAreKept}
+use Rattle.dump_history.specs.steps.KeptChanges.{FilteredChangesAreKept, TrimmedChangesAreKept}
 use Rattle.dump_history.specs.TrimmedDumps.{IsTrimmedText}
-use Rattle.dump_history.specs.steps.TrimmedDumps.{AreAllTrimming, AreFilteredTrimming, AreTrimming, changes_behind, part_groups, revisions_with, stays_empty}
+use Rattle.dump_history.specs.steps.TrimmedDumps.{AreAllTrimming, AreTrimming, changes_behind, part_groups, revisions_with, stays_empty}
 use Rattle.dump_history.specs.WrittenNodes.{WrittenNode}
 use Rattle.dump_history.specs.steps.WrittenNodes.{written_change}
 use Rattle.dump_history.proofs.restricted.FilteredLaw.{is_left, same_kept}
@@ -64,34 +63,13 @@ module _ (settings : Settings) where
       → loaded older youngest these ≡ Some trees → All (All Delete) groups
   all_trimming_deletes older youngest [] trees groups none at =
       All-same (All Delete) groups [] none (All-nil (All Delete))
-  all_trimming_deletes older youngest (changes ∷ these) trees groups (first, rest, listed, trims, further) at =
+  all_trimming_deletes older youngest (changes ∷ these) trees groups trims at =
       sides (λ t more trimming loads. all_trimming_deletes (older ++ t ∷ []) t these trees more trimming loads)
-      (steps (slice_get older) youngest changes) refl at
-    where
-      Later : Type 0
-      Later = (t : Tree) (more : List (List (List WrittenNode))) → AreAllTrimming settings (older ++ t ∷ []) t these more
-          → loaded (older ++ t ∷ []) t these ≡ Some trees → All (All Delete) more
-
-      sides : Later → (o : Option Tree) → steps (slice_get older) youngest changes ≡ o
-          → option_and_then (λ t. loaded (older ++ t ∷ []) t these) o ≡ Some trees → All (All Delete) groups
-      sides later None is bad = absurd (let worse : None ≡ Some trees = bad in cc)
-      sides later (Some t) is loads =
-          All-same (All Delete) groups (first ∷ rest) listed
-          (All-cons (All Delete) first rest (trimming_deletes (slice_get older) youngest t changes first trims is)
-          (later t rest (further t is) loads))
-
-  filtered_trimming_deletes : (older : List Tree) (youngest : Tree) (these : List (List Change)) (trees : List Tree)
-      (groups : List (List (List WrittenNode))) → AreFilteredTrimming settings older youngest these groups
-      → loaded older youngest these ≡ Some trees → All (All Delete) groups
-  filtered_trimming_deletes older youngest [] trees groups none at =
-      All-same (All Delete) groups [] none (All-nil (All Delete))
-  filtered_trimming_deletes older youngest (changes ∷ these) trees groups trims at =
-      sides (λ t more trimming loads. filtered_trimming_deletes (older ++ t ∷ []) t these trees more trimming loads)
       (steps (slice_get older) youngest changes) refl at (keeps_revision settings (stays_empty settings) changes) refl
     where
       Later : Type 0
       Later = (t : Tree) (more : List (List (List WrittenNode)))
-          → AreFilteredTrimming settings (older ++ t ∷ []) t these more
+          → AreAllTrimming settings (older ++ t ∷ []) t these more
           → loaded (older ++ t ∷ []) t these ≡ Some trees → All (All Delete) more
 
       sides : Later → (o : Option Tree) → steps (slice_get older) youngest changes ≡ o
@@ -241,15 +219,8 @@ filtered_changes_are_kept patched settings dump filtered records revisions clean
     filtered_come patched settings dump filtered records revisions clean fit makes no_gap
 
 pub trimmed_changes_are_kept : TrimmedChangesAreKept
-trimmed_changes_are_kept patched settings dump records revisions trees text f pad stays =
-    trimmed_come patched settings dump f.filtered records revisions f.clean f.fit f.loads.makes
-    (or_right settings.renumber (is_pad settings.empty) (ap is_pad pad)) f.again f.behind text f.has_again f.trimmed
+trimmed_changes_are_kept patched settings dump records revisions trees text f no_gap =
+    trimmed_come patched settings dump f.filtered records revisions f.clean f.fit f.loads.makes no_gap f.again f.behind text
+    f.has_again f.trimmed
     (all_trimming_deletes settings (root_alone ∷ []) root_alone revisions trees
-    (drop 1 (part_groups f.again f.behind)) f.trims f.loads.loads)
-
-pub renumbered_changes_are_kept : RenumberedChangesAreKept
-renumbered_changes_are_kept patched settings dump records revisions trees text f renumber =
-    trimmed_come patched settings dump f.filtered records revisions f.clean f.fit f.loads.makes
-    (or_left settings.renumber (is_pad settings.empty) renumber) f.again f.behind text f.has_again f.trimmed
-    (filtered_trimming_deletes settings (root_alone ∷ []) root_alone revisions trees
     (drop 1 (part_groups f.again f.behind)) f.trims f.loads.loads)

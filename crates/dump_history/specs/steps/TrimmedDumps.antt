@@ -75,14 +75,21 @@ AreTrimming settings history before (c ∷ changes) behind =
     × ((after : Tree) → step history before c ≡ Some after → AreTrimming settings history after changes rest))
     ((after : Tree) → step history before c ≡ Some after → AreTrimming settings history after changes behind)
 
--- so of each revision
+-- which revisions without a kept change stay by the options
+abbrev pub stays_empty : Settings → EmptyRule
+stays_empty settings changes = keeps_empty settings.empty (length changes == 0)
+
+-- after the kept changes of each revision that stays are the deletions of just what they take to paths that aren't kept
 abbrev pub AreAllTrimming : Settings → List Tree → Tree → List (List Change) → List (List (List WrittenNode)) → Type 0
 AreAllTrimming settings trees youngest [] groups = groups ≡ []
 AreAllTrimming settings trees youngest (changes ∷ revisions) groups =
-    (first : List (List WrittenNode)) × (rest : List (List (List WrittenNode))) × (groups ≡ first ∷ rest)
+    MatchBool (keeps_revision settings (stays_empty settings) changes)
+    ((first : List (List WrittenNode)) × (rest : List (List (List WrittenNode))) × (groups ≡ first ∷ rest)
     × AreTrimming settings (slice_get trees) youngest changes first
     × ((tree : Tree) → steps (slice_get trees) youngest changes ≡ Some tree
-    → AreAllTrimming settings (trees ++ tree ∷ []) tree revisions rest)
+    → AreAllTrimming settings (trees ++ tree ∷ []) tree revisions rest))
+    ((tree : Tree) → steps (slice_get trees) youngest changes ≡ Some tree
+    → AreAllTrimming settings (trees ++ tree ∷ []) tree revisions groups)
 
 -- the dump loads into a new repository, and the text is what the filter writes of it, if its answer is clean, with the
 -- deletions of what its copies take to paths that aren't kept
@@ -107,6 +114,15 @@ TrimmedDumpLoads = (patched : Patching) (settings : Settings) (dump : List ℕ) 
     → settings.side ≡ Exclude → settings.empty ≡ Pad → settings.preserve ≡ true → settings.renumber ≡ false
     → LoadsNumbered patched (TreeRestricts settings records) records trees text
 
+-- if prefixes are excluded and revisions are renumbered, the text loads into a new repository, and has the restricted
+-- trees at the images of the numbers
+abbrev pub TrimmedDumpLoadsRenumbered : Type 0
+TrimmedDumpLoadsRenumbered = (patched : Patching) (settings : Settings) (dump : List ℕ) (records : List DumpRecord)
+    (revisions : List (List Change)) (trees : List Tree) (text : List ℕ) →
+    FiltersTrimmed patched settings dump records revisions trees text
+    → settings.side ≡ Exclude → IsTrue settings.renumber
+    → LoadsNew patched settings (TreeRestricts settings records) records trees text
+
 -- each change is an expansion of itself, and each branch may be copied: what is asked of an expansion is that it does the
 -- same
 abbrev pub EachChangeStays : Type 0
@@ -114,42 +130,3 @@ EachChangeStays = (history : History) (before : Tree) (c : Change) → Expands k
 
 abbrev pub EachBranchIsCutAlike : Type 0
 EachBranchIsCutAlike = (path source : NodePath) (branch : Branch) → IsCutAlike keep_all path source branch
-
--- which revisions without a kept change stay by the options
-abbrev pub stays_empty : Settings → EmptyRule
-stays_empty settings changes = keeps_empty settings.empty (length changes == 0)
-
--- after the kept changes of each revision that stays are the deletions of just what they take to paths that aren't kept
-abbrev pub AreFilteredTrimming : Settings → List Tree → Tree → List (List Change) → List (List (List WrittenNode))
-    → Type 0
-AreFilteredTrimming settings trees youngest [] groups = groups ≡ []
-AreFilteredTrimming settings trees youngest (changes ∷ revisions) groups =
-    MatchBool (keeps_revision settings (stays_empty settings) changes)
-    ((first : List (List WrittenNode)) × (rest : List (List (List WrittenNode))) × (groups ≡ first ∷ rest)
-    × AreTrimming settings (slice_get trees) youngest changes first
-    × ((tree : Tree) → steps (slice_get trees) youngest changes ≡ Some tree
-    → AreFilteredTrimming settings (trees ++ tree ∷ []) tree revisions rest))
-    ((tree : Tree) → steps (slice_get trees) youngest changes ≡ Some tree
-    → AreFilteredTrimming settings (trees ++ tree ∷ []) tree revisions groups)
-
--- the dump loads into a new repository, and the text is what the filter writes of it, with these deletions
-pub record FiltersRenumbered (patched : Patching) (settings : Settings) (dump : List ℕ) (records : List DumpRecord)
-    (revisions : List (List Change)) (trees : List Tree) (text : List ℕ) : Type 0 where
-  pub loads : LoadsAs patched root_alone records revisions trees
-  pub filtered : List ℕ
-  pub clean : IsCleanText settings dump records filtered
-  pub fit : LengthsFit settings records
-  pub again : List DumpRecord
-  pub has_again : HasRecords filtered again Ending.Whole
-  pub behind : List (List WrittenNode)
-  pub trimmed : IsTrimmedText again behind text
-  pub trims : AreFilteredTrimming settings (root_alone ∷ []) root_alone revisions (drop 1 (part_groups again behind))
-
--- if prefixes are excluded and revisions are renumbered, the text loads into a new repository, and has the restricted
--- trees at the images of the numbers
-abbrev pub TrimmedDumpLoadsRenumbered : Type 0
-TrimmedDumpLoadsRenumbered = (patched : Patching) (settings : Settings) (dump : List ℕ) (records : List DumpRecord)
-    (revisions : List (List Change)) (trees : List Tree) (text : List ℕ) →
-    FiltersRenumbered patched settings dump records revisions trees text
-    → settings.side ≡ Exclude → IsTrue settings.renumber
-    → LoadsNew patched settings (TreeRestricts settings records) records trees text

@@ -1,6 +1,5 @@
 use Rattle.dump_history.proofs.cuts.TrimmedTexts.{trimmed_texts_are_dumps}
-use Rattle.dump_history.proofs.cuts.TrimmedLaw.{trimmed_dump_loads, each_change_stays, each_branch_is_cut_alike}
-use Rattle.dump_history.proofs.cuts.RenumberedLaw.{trimmed_dump_loads_renumbered}
+use Rattle.dump_history.proofs.cuts.TrimmedLaw.{trimmed_dump_loads, trimmed_dump_loads_renumbered, each_change_stays, each_branch_is_cut_alike}
 use Rattle.dump_history.proofs.laws.each_trimmed_dump_loads.Goals as goal
 
 pub returns-clause-dump : goal.returns-clause-dump
