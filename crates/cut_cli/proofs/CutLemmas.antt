@@ -9,7 +9,6 @@ use Rattle.dump_records.specs.DumpText.{Ending, HasRecords}
 use Rattle.dump_records.specs.RecordText.{DumpRecord}
 use Rattle.dump_digest.specs.RecordParts.{is_revision_record}
 use Rattle.dump_rules.specs.Settings.{Settings}
-use Rattle.dump_rules.specs.declared.options.Empty.TheVariants.{Pad}
 use Rattle.dump_rules.specs.declared.options.Side.{Side}
 use Rattle.dump_rules.specs.declared.options.Side.TheVariants.{Exclude, Include}
 use Rattle.dump_filter.specs.FilterLaws.{LengthsFit}
@@ -17,12 +16,12 @@ use Rattle.dump_filter.specs.WholeText.{IsCleanText}
 use Rattle.dump_trees.specs.Changes.{Change}
 use Rattle.dump_trees.specs.Following.{Way}
 use Rattle.dump_trees.specs.steps.LoadCheck.{all_apply, TellsKinds, ToldKinds}
-use Rattle.dump_trees.specs.steps.Looking.{Placed, placed_from}
+use Rattle.dump_trees.specs.steps.Looking.{placed_from}
 use Rattle.dump_trees.specs.Paths.{NodePath}
 use Rattle.dump_trees.specs.Revisions.{loaded_over}
 use Rattle.dump_trees.specs.CanonicalPaths.{canonical_path}
 use Rattle.dump_trees.specs.Returns.{is_covered}
-use Rattle.dump_trees.specs.steps.Siblings.{ExcludesPaths, have_node_names, is_in_cut, is_sibling}
+use Rattle.dump_trees.specs.steps.Siblings.{ExcludesPaths, is_in_cut, is_sibling}
 use Rattle.dump_trees.proofs.cuts.CoveredPaths.{contains_cases, contains_first, contains_none}
 use Rattle.dump_trees.proofs.cuts.EverKept.{ever_kept_in_cut}
 use Rattle.dump_trees.proofs.paths.CutLineLemmas.{named_line_stays}
@@ -30,13 +29,12 @@ use Rattle.dump_trees.specs.Trees.{Tree, root_alone}
 use Rattle.dump_trees.proofs.cuts.FollowLemmas.{following_is_least}
 use Rattle.dump_trees.proofs.cuts.RestLemmas.{all_rests_are_listed}
 use Rattle.dump_filter.specs.Groups.{is_pad, revision_numbers}
-use Rattle.dump_history.specs.steps.CutDumps.{FiltersExpansion, LoadsNew, LoadsNumbered, TreeRestricts, leaves_no_gap}
+use Rattle.dump_history.specs.steps.CutDumps.{LoadsNew, LoadsNumbered, TreeRestricts, leaves_no_gap}
 use Rattle.dump_history.specs.DumpChanges.{HaveRevisionProperties, LoadsAs, MakeRevisions, counts_from}
 use Rattle.dump_history.specs.steps.ExpandedText.{made_in_stead}
 use Rattle.dump_history.specs.KeptChanges.{ChangesComeOfKept}
 use Rattle.dump_history.specs.steps.TrimmedDumps.{FiltersTrimmed}
-use Rattle.dump_history.proofs.cuts.CutLaws.{excluded_dump_loads}
-use Rattle.dump_history.proofs.cuts.KeptChanges.{filtered_changes_are_kept, trimmed_changes_are_kept}
+use Rattle.dump_history.proofs.cuts.KeptChanges.{trimmed_changes_are_kept}
 use Rattle.dump_history.proofs.cuts.TrimmedLaw.{trimmed_dump_loads, trimmed_dump_loads_renumbered}
 use Rattle.dump_history.specs.RecordChanges.{Patching}
 use Rattle.dump_index.specs.steps.IndexLaws.{AreListed}
@@ -53,15 +51,14 @@ use Rattle.dump_cut.specs.steps.NamedLines.{CoverMergeinfo, is_left_by}
 use Rattle.dump_cut.proofs.FoundSiblings.{found_siblings_are_all}
 use Rattle.dump_cut.specs.steps.LoadChecks.{IsFirstRejected}
 use Rattle.dump_cut.specs.steps.NamedPaths.{has_named_paths}
-use Rattle.dump_cut.specs.steps.TakenCopies.{IsFirstNotTaken, emptied_by}
+use Rattle.dump_cut.specs.steps.ExcludedPaths.{emptied_by}
 use Rattle.dump_cut.specs.TrimmedCopies.{IsTrimmedBy}
-use Rattle.dump_cut.specs.steps.TrimmedCopies.{TrimsDump}
+use Rattle.dump_cut.specs.steps.TrimmedCopies.{AreDeletes}
 use Rattle.dump_cut.proofs.LoadLaws.{unrejected_loads}
 use Rattle.dump_cut.proofs.NamedLemmas.{listed_in_named}
-use Rattle.dump_cut.proofs.OwnFormLemmas.{own_expansion}
-use Rattle.dump_cut.proofs.TakenLaw.{placed_named, revisions_named, taken_dump_loads}
-use Rattle.dump_cut.proofs.TakenLemmas.{taken_revisions_separate}
+use Rattle.dump_cut.proofs.NamedLemmas.{placed_named, revisions_named}
 use Rattle.dump_cut.proofs.TrimLaw.{trimmed_copies_load}
+use Rattle.dump_cut.proofs.TrimmedTextLemmas.{untrimmed}
 use Rattle.dump_expansion.specs.steps.GivenSteads.{GivenStead, IsExpandedBy, steads_in}
 use Rattle.dump_additions.specs.steps.AdditionLaws.{HasAdditions}
 use Rattle.dump_additions.specs.steps.Additions.{AreAdditionsFrom}
@@ -138,87 +135,50 @@ module _ (m : CutMeaning) (dump : List ℕ) (settings : Settings) (records : Lis
     (none_back : BringsNothingBack (map listed_of changes) excluded) (patched : Patching) (revisions : List (List Change))
     (listed : AreListed changes (placed_from 1 revisions)) (trees : List Tree)
     (loads_as : LoadsAs patched root_alone records revisions trees) where
-  names : have_node_names revisions ≡ true
-  names = revisions_named 1 revisions (placed_named (map listed_of changes) (placed_from 1 revisions) listed named)
-
-  abbrev placed : List Placed
-  placed = placed_from 1 revisions
-
-  abbrev told : ToldKinds
-  told = kinds_told_by (map listed_of changes)
-
-  tells : TellsKinds told root_alone placed
-  tells = index_tells_kinds changes placed listed
-
-  no_gap : (drops : Bool) → m.drop ≡ drops → (deletes : Option Deletes)
-      → IsSetUp m excluded (map listed_of changes) settings deletes → leaves_no_gap settings ≡ true
-  no_gap true is deletes set_up = ap (λ b. b || is_pad settings.empty) (set_up.numbers ∙ is)
-  no_gap false is deletes set_up =
-      or_right settings.renumber (is_pad settings.empty) (ap is_pad (set_up.empties ∙ ap emptied_by is))
-
-  -- each copy is taken as it is
-  module _ (set_up : IsSetUp m excluded (map listed_of changes) settings None) where
-    taken : IsFirstNotTaken excluded told placed None
-    taken = set_up.copies placed listed
-
-    own : LengthsFit settings records → FiltersExpansion patched settings dump records revisions trees records filtered
-    own fit = own_expansion patched settings dump filtered records revisions trees clean.whole loads_as
-        (taken_revisions_separate settings excluded told revisions trees tells loads_as.loads names set_up.excludes
-        set_up.have_names taken) clean fit
-
-    taken_written : Written m settings records patched revisions trees filtered
-    taken_written = record {
-      kept = λ fit. filtered_changes_are_kept patched settings dump filtered records revisions clean fit loads_as.makes
-          (no_gap m.drop refl None set_up);
-      numbered = λ stays fit. taken_dump_loads patched settings excluded dump filtered records changes revisions trees
-          clean.whole loads_as listed named set_up.excludes set_up.have_names taken clean fit
-          (set_up.empties ∙ ap emptied_by stays) set_up.preserves;
-      renumbered = λ drops fit. excluded_dump_loads patched settings dump filtered records records revisions trees (own fit)
-          set_up.excludes.side (no_gap m.drop refl None set_up);
-    }
-
-  -- deletes follow some copies
-  module _ (deletes : Deletes) (set_up : IsSetUp m excluded (map listed_of changes) settings (Some deletes))
+  -- with these deletes
+  module _ (option : Option Deletes) (set_up : IsSetUp m excluded (map listed_of changes) settings option) (deletes : Deletes)
+      (are_deletes : AreDeletes excluded (kinds_told_by (map listed_of changes)) (placed_from 1 revisions) deletes)
       (trims : IsTrimmedBy deletes filtered text) where
-    trims_dump : LengthsFit settings records
-        → TrimsDump patched settings excluded dump filtered text records changes revisions trees deletes
-    trims_dump fit = record {
-      has = clean.whole;
-      loads = loads_as;
-      listed = listed;
-      named = named;
-      excludes = set_up.excludes;
-      are_named = set_up.have_names;
-      apart = set_up.apart;
-      nothing_back = none_back placed listed;
-      are_deletes = (set_up.copies placed listed).0;
-      clean = clean;
-      fit = fit;
-      trimmed = trims;
-    }
+    no_gap : (drops : Bool) → m.drop ≡ drops → leaves_no_gap settings ≡ true
+    no_gap true is = ap (λ b. b || is_pad settings.empty) (set_up.numbers ∙ is)
+    no_gap false is = or_right settings.renumber (is_pad settings.empty) (ap is_pad (set_up.empties ∙ ap emptied_by is))
 
     filters : LengthsFit settings records → FiltersTrimmed patched settings dump records revisions trees text
     filters fit = trimmed_copies_load patched settings excluded dump filtered text records changes revisions trees deletes
-        (trims_dump fit) (no_gap m.drop refl (Some deletes) set_up)
-
-    pads : m.drop ≡ false → settings.empty ≡ Pad
-    pads stays = set_up.empties ∙ ap emptied_by stays
+        (record {
+          has = clean.whole;
+          loads = loads_as;
+          listed = listed;
+          named = named;
+          excludes = set_up.excludes;
+          are_named = set_up.have_names;
+          apart = set_up.apart;
+          nothing_back = none_back (placed_from 1 revisions) listed;
+          are_deletes = are_deletes;
+          clean = clean;
+          fit = fit;
+          trimmed = trims;
+        }) (no_gap m.drop refl)
 
     trimmed_written : Written m settings records patched revisions trees text
     trimmed_written = record {
       kept = λ fit. trimmed_changes_are_kept patched settings dump records revisions trees text (filters fit)
-          (no_gap m.drop refl (Some deletes) set_up);
+          (no_gap m.drop refl);
       numbered = λ stays fit. trimmed_dump_loads patched settings dump records revisions trees text (filters fit)
-          set_up.excludes.side (pads stays) set_up.preserves (set_up.numbers ∙ stays);
+          set_up.excludes.side (set_up.empties ∙ ap emptied_by stays) set_up.preserves (set_up.numbers ∙ stays);
       renumbered = λ drops fit. trimmed_dump_loads_renumbered patched settings dump records revisions trees text (filters fit)
           set_up.excludes.side (set_up.numbers ∙ drops);
     }
 
-  is_written : (deletes : Option Deletes) → IsSetUp m excluded (map listed_of changes) settings deletes
-      → IsTrimmedIf deletes filtered text → Written m settings records patched revisions trees text
-  is_written None set_up trims =
-      subst (Written m settings records patched revisions trees) (sym trims) (taken_written set_up)
-  is_written (Some deletes) set_up trims = trimmed_written deletes set_up trims
+  -- without deletes the text is trimmed by none
+  is_written : (option : Option Deletes) → IsSetUp m excluded (map listed_of changes) settings option
+      → IsTrimmedIf option filtered text → Written m settings records patched revisions trees text
+  is_written None set_up same =
+      let (deletes, are, nothing) = set_up.copies (placed_from 1 revisions) listed in
+      trimmed_written None set_up deletes are
+      (subst (IsTrimmedBy deletes filtered) (sym same) (untrimmed deletes filtered nothing))
+  is_written (Some deletes) set_up trims =
+      trimmed_written (Some deletes) set_up deletes (set_up.copies (placed_from 1 revisions) listed).0 trims
 
 -- what is cut is what the call asks of the dump
 module _ (m : CutMeaning) (dump : List ℕ) (settings : Settings) (records : List DumpRecord)

@@ -9,7 +9,7 @@ ghost use Rattle.dump_trees.specs.steps.Looking.{Placed};
 ghost use Rattle.dump_cut.specs.steps.NamedPaths.{has_named_paths};
 ghost use Rattle.dump_cut.specs.steps.ExcludedPaths.{paths_of};
 ghost use Rattle.dump_cut.specs.steps.Returned.{way_meant};
-ghost use Rattle.cut_cli.specs.steps.Cuts.{AreCopiesTaken, AreNamed, BeginsAsBefore, BringsSomeBack, FollowsAsAsked, HasPartIf, IsAskedBy, IsTakenDump, LeavesIncluded, text_read};
+ghost use Rattle.cut_cli.specs.steps.Cuts.{AreDeletesIfAny, AreNamed, BeginsAsBefore, BringsSomeBack, FollowsAsAsked, HasPartIf, IsAskedBy, IsTakenDump, LeavesIncluded, text_read};
 ghost use Rattle.cut_cli.specs.steps.Words.{cut_meaning};
 ghost use Rattle.cut_cli.specs.steps.Examined.{IsExamined, IsExpandedToCut, IsFrontOf, IsPrepared, expansion_text};
 
@@ -30,7 +30,7 @@ use dump_additions::NotAdded;
 use dump_changes::Memory;
 use dump_cut::{
     Deletes, Excluded, NoPart, PlacedRest, Rejected, Way, add_named_siblings, find_siblings,
-    first_not_taken, first_rejected, follow, no_part_after,
+    first_rejected, follow, no_part_after,
 };
 use dump_index::{ChangeIndex, NodeChange};
 use dump_rules::{Options, Side};
@@ -283,13 +283,13 @@ fn look_for_deletes<E: Write>(
 ) -> Result<Result<Option<Deletes>, usize>, Memory>
     requires { IsTrue (list_all has_named_paths index.now) }
     ensures { IfOk result (λ found. IfOk found (λ deletes. (placed : List Placed) → AllZip IsListed index.now placed
-        → AreCopiesTaken (paths_of excluded.now) (kinds_told_by index.now) placed deletes)) }
+        → AreDeletesIfAny (paths_of excluded.now) (kinds_told_by index.now) placed deletes)) }
 {
-    if first_not_taken(alloc, index, excluded)?.is_none() {
-        return Ok(Ok(None));
-    }
     match Deletes::find(alloc, index, excluded)? {
         Ok(deletes) => {
+            if deletes.is_empty() {
+                return Ok(Ok(None));
+            }
             if call.verbose {
                 let changes = index.changes();
                 let first = count_earlier(changes, call.after);

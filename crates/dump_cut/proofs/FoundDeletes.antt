@@ -1,10 +1,10 @@
 -- The deletes that are found for the changes of an index, one by one.
-use Rattle.std.proofs.Common.{◌≡◌, ℕ, zero, suc, ◌+◌, ◌<◌, ◌≤◌, Bool, true, false, not, ◌&&◌, cond, nat_eq, List, [], ◌∷◌, ◌++◌, length, map, take, Option, Some, None, refl, sym, ap, ap₂, ◌∙◌, subst, arith}
+use Rattle.std.proofs.Common.{◌≡◌, ◌==◌, ℕ, zero, suc, ◌+◌, Bool, true, false, not, ◌&&◌, cond, nat_eq, List, [], ◌∷◌, ◌++◌, length, map, take, Option, Some, None, refl, sym, ap, ap₂, ◌∙◌, subst, arith}
 use Rattle.std.specs.Global.{Vec}
 use Rattle.std.specs.Prelude.{slice_get}
 use Rattle.std.specs.List.{list_all}
 use Rattle.std.proofs.lemmas.Bool.{and_parts, and_from, eqb-true}
-use Rattle.std.proofs.lemmas.List.{map-append}
+use Rattle.std.proofs.lemmas.List.{length-map, map-append}
 use Rattle.std.proofs.lemmas.List.Elements.{filter-append}
 use Rattle.std.proofs.lemmas.List.Folds.{list_all-append}
 use Rattle.dump_trees.specs.Changes.{Made}
@@ -16,7 +16,7 @@ use Rattle.dump_trees.specs.Paths.{NodePath, names_of, path_of}
 use Rattle.dump_trees.specs.Returns.{is_covered}
 use Rattle.dump_trees.specs.Siblings.{has_node_names}
 use Rattle.dump_history.specs.WrittenNodes.{is_plain_path}
-use Rattle.dump_cut.specs.steps.TrimmedCopies.{are_plain, AreDeletes, kept_changes, lost_paths}
+use Rattle.dump_cut.specs.steps.TrimmedCopies.{are_plain, deletes_nothing, AreDeletes, kept_changes, lost_paths}
 use Rattle.dump_cut.specs.steps.Deletes.{delete_texts_of}
 
 -- a path with names of nodes has no leading slash
@@ -66,6 +66,12 @@ all_shown (paths ∷ deletes) = ap₂ (λ a b. a && b) (one_shown paths.items) (
 pub plain_shown : (deletes : List (Vec (Vec ℕ))) → are_plain (delete_texts_of deletes) ≡ true
     → list_all (λ paths. list_all (λ path. is_plain_path path.items) paths.items) deletes ≡ true
 plain_shown deletes are = all_shown deletes ∙ are
+
+pub nothing_shown : (deletes : List (Vec (Vec ℕ)))
+    → list_all (λ paths. length paths.items == 0) deletes ≡ deletes_nothing (delete_texts_of deletes)
+nothing_shown [] = refl
+nothing_shown (paths ∷ deletes) =
+    ap₂ (λ n b. (n == 0) && b) (sym (length-map paths.items (λ path. path.items))) (nothing_shown deletes)
 
 -- the texts of one more list of paths
 pub plain_more : (deletes all : List (Vec (Vec ℕ))) (paths : Vec (Vec ℕ)) → all ≡ deletes ++ paths ∷ []

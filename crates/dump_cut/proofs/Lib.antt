@@ -23,15 +23,11 @@ pub mod NamedLemmas
 pub mod NamedSiblings
 pub mod NameTextLemmas
 pub mod NodeNames
-pub mod OwnFormLemmas
 pub mod ParentLemmas
 pub mod RangeLemmas
 pub mod RejectionLemmas
 pub mod ReturnedLemmas
 pub mod SeenLemmas
-pub mod SourceLemmas
-pub mod TakenLaw
-pub mod TakenLemmas
 pub mod TrimLaw
 pub mod TrimLemmas
 pub mod TrimmedTextLemmas

@@ -1,6 +1,7 @@
 -- The changes that are read from a dump have paths with names of nodes.
-use Rattle.std.proofs.Common.{◌≡◌, ℕ, Bool, true, false, not, ◌&&◌, cond, List, [], ◌∷◌, map, Some, None, codes, refl, sym, ap, ◌∙◌, subst, Option, ap₂}
+use Rattle.std.proofs.Common.{◌≡◌, ℕ, suc, Bool, true, false, not, ◌&&◌, cond, List, [], ◌∷◌, map, Some, None, codes, refl, sym, ap, ◌∙◌, subst, Option, ap₂}
 use Rattle.std.proofs.lemmas.Bool.{and_parts, and_from}
+use Rattle.std.proofs.lemmas.List.Folds.{list_all-append, list_all-map}
 use Rattle.std.specs.List.{AllZip, list_all}
 use Rattle.dump_text.specs.HeaderLine.{has_byte}
 use Rattle.dump_text.specs.PropertyList.{Property}
@@ -8,9 +9,10 @@ use Rattle.dump_text.specs.Names.{node_kind_name}
 use Rattle.dump_records.specs.RecordText.{DumpRecord}
 use Rattle.dump_digest.specs.RecordParts.{is_copy, node_path}
 use Rattle.dump_trees.specs.Changes.{Made, Change}
-use Rattle.dump_trees.specs.steps.Looking.{Placed}
+use Rattle.dump_trees.specs.steps.Looking.{Placed, placed_from}
 use Rattle.dump_trees.specs.Paths.{is_short, names_of}
 use Rattle.dump_trees.specs.Siblings.{has_node_names}
+use Rattle.dump_trees.specs.steps.Siblings.{have_node_names}
 use Rattle.dump_trees.proofs.paths.SiblingLemmas.{short_names}
 use Rattle.dump_history.specs.RecordChanges.{Patching, MakesChange, copied_from, copy_path, has_known_action, has_undefined_delta, is_plain_line, made_by_kind, made_of, makes, says, property_change_of, text_change_of, deletes}
 use Rattle.dump_index.specs.steps.IndexLaws.{IsListed}
@@ -115,3 +117,29 @@ pub same_named : (one other : List Listed) → map without_number one ≡ map wi
     → list_all has_named_paths one ≡ list_all has_named_paths other
 same_named one other same =
     sym (numbers_unnamed one) ∙ ap (list_all has_named_paths) same ∙ numbers_unnamed other
+
+-- so the changes of revisions have, of which an index says this
+
+pub placed_named : (listed : List Listed) (placed : List Placed) → AllZip IsListed listed placed
+    → list_all has_named_paths listed ≡ true → list_all (λ (p : Placed). has_node_names p.change.path) placed ≡ true
+placed_named [] [] all named = refl
+placed_named [] (p ∷ placed) all named = absurd all
+placed_named (l ∷ listed) [] all named = refl
+placed_named (l ∷ listed) (p ∷ placed) (its, all) named =
+    let parts = and_parts (has_named_paths l) (list_all has_named_paths listed) named in
+    and_from (has_node_names p.change.path) (list_all (λ (q : Placed). has_node_names q.change.path) placed)
+    (ap has_node_names its.path ∙ (and_parts (has_node_names (names_of l.path)) (has_named_source l.made) parts.0).0)
+    (placed_named listed placed all parts.1)
+
+pub revisions_named : (number : ℕ) (revisions : List (List Change))
+    → list_all (λ (p : Placed). has_node_names p.change.path) (placed_from number revisions) ≡ true
+    → have_node_names revisions ≡ true
+revisions_named number [] named = refl
+revisions_named number (changes ∷ revisions) named =
+    let test = λ (p : Placed). has_node_names p.change.path in
+    let here = map (λ (c : Change). record { revision = number; change = c }) changes in
+    let parts = and_parts (list_all test here) (list_all test (placed_from (suc number) revisions))
+    (sym (list_all-append test here (placed_from (suc number) revisions)) ∙ named) in
+    and_from (list_all (λ (c : Change). has_node_names c.path) changes) (have_node_names revisions)
+    (sym (list_all-map test (λ (c : Change). record { revision = number; change = c }) changes) ∙ parts.0)
+    (revisions_named (suc number) revisions parts.1)

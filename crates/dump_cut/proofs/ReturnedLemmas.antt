@@ -13,7 +13,6 @@ use Rattle.dump_index.specs.steps.InOrder.{ends_in_slash}
 use Rattle.dump_index.specs.steps.ToldKinds.{kind_meant}
 use Rattle.dump_index.specs.declared.change.NodeKind.{NodeKind}
 use Rattle.dump_cut.specs.steps.Returned.{placed_rests}
-use Rattle.dump_cut.specs.steps.TakenCopies.{is_made_taken, is_taken_at}
 use Rattle.dump_cut.proofs.RangeLemmas.{shown_twice}
 
 -- two clauses of one result
@@ -74,9 +73,3 @@ rests_next way tops told placed place p path made old new there at makes before 
     more
     ∙ (ap (λ rests. rests ++ placed_rests place (rests_made way tops told placed path made)) before
     ∙ sym (rests_more way tops told placed place p path made there at makes))
-
-pub taken_there : (tops : List NodePath) (told : ToldKinds) (placed : List Placed) (place : ℕ) (p : Placed)
-    (path : NodePath) (made : Option Made) → slice_get placed place ≡ Some p → p.change.path ≡ path → p.change.made ≡ made
-    → is_taken_at tops told placed (slice_get placed place) ≡ is_made_taken tops told placed path made
-taken_there tops told placed place p path made there at makes =
-    ap (is_taken_at tops told placed) there ∙ ap₂ (λ one other. is_made_taken tops told placed one other) at makes

@@ -25,7 +25,7 @@ use Rattle.dump_index.proofs.ToldLemmas.{index_tells_kinds}
 use Rattle.dump_cut.specs.TrimmedCopies.{deletes_behind, delete_nodes}
 use Rattle.dump_cut.specs.steps.TrimmedCopies.{TrimmedCopiesLoad, TrimsDump}
 use Rattle.dump_cut.proofs.DeleteGroups.{all_sizes, front_nodes, group_sizes, grouped_parts, none_first, parts_of, sizes_made}
-use Rattle.dump_cut.proofs.TakenLaw.{placed_named, revisions_named}
+use Rattle.dump_cut.proofs.NamedLemmas.{placed_named, revisions_named}
 use Rattle.dump_cut.proofs.TrimLemmas as trims
 
 module _ (patched : Patching) (settings : Settings) (excluded : List NodePath) (dump filtered text : List ℕ)

@@ -1,5 +1,5 @@
 -- What is written so far of a dump with deletes after its nodes.
-use Rattle.std.proofs.Common.{◌≡◌, ℕ, ◌+◌, ◌-◌, ◌≤◌, Bool, true, false, List, [], ◌∷◌, ◌++◌, if◌then◌else◌, length, length-append, map, take, drop, get_or, codes, Vec, Global, refl, sym, ap, ◌∙◌, subst, arith, append-nil, append_assoc, IsTrue}
+use Rattle.std.proofs.Common.{◌≡◌, ◌==◌, ℕ, ◌+◌, ◌-◌, ◌≤◌, Bool, true, false, List, [], ◌∷◌, ◌++◌, if◌then◌else◌, length, length-append, map, take, drop, get_or, codes, Vec, Global, refl, sym, ap, ap₂, ◌∙◌, subst, arith, append-nil, append_assoc, IsTrue}
 use Rattle.std.proofs.lemmas.Bool.{and_from, and_parts}
 use Rattle.std.proofs.lemmas.List.{drop-drop, length-drop, take-append-drop, take_rest}
 use Rattle.std.proofs.Math.Seq.{drop-append_seam, take-append_seam}
@@ -24,8 +24,10 @@ use Rattle.dump_history.specs.ExpandedText.{AreRecordTexts}
 use Rattle.dump_history.specs.TrimmedDumps.{records_behind, may_stand_behind, IsTrimmedText}
 use Rattle.dump_history.specs.WrittenNodes.{WrittenNode, can_be_written, is_plain_path, node_lines, node_record}
 use Rattle.dump_history.specs.steps.WrittenNodes.{node_bytes}
-use Rattle.dump_cut.specs.TrimmedCopies.{delete_nodes, deletes_behind}
+use Rattle.dump_cut.specs.TrimmedCopies.{delete_nodes, deletes_behind, IsTrimmedBy}
+use Rattle.dump_cut.specs.steps.TrimmedCopies.{deletes_nothing}
 use Rattle.dump_cut.specs.steps.TrimmedTexts.{delete_texts}
+use Rattle.dump_cut.proofs.RangeLemmas.{empty_list}
 
 -- the texts of deletes
 
@@ -472,3 +474,47 @@ module _ (deletes : List (List (List ℕ))) (dump : List ℕ) (cutter after : Cu
         (ends_as Ending.Whole step.0)).0 in
         with_rest []
         (same ∙ sym (ap (λ (rs : List DumpRecord). so_far.done ++ rs) (append-nil so_far.pending))) refl plain
+
+-- a text without deletes
+
+abbrev nones : List DumpRecord → List (List WrittenNode)
+nones records = map (λ (r : DumpRecord). []) records
+
+none_behind : (records : List DumpRecord) (deletes : List (List (List ℕ))) → deletes_nothing deletes ≡ true
+    → deletes_behind records deletes ≡ nones records
+none_behind [] deletes none = refl
+none_behind (r ∷ records) [] none = ap (λ rest. [] ∷ rest) (none_behind records [] none)
+none_behind (r ∷ records) (paths ∷ deletes) none =
+    let parts = and_parts (length paths == 0) (deletes_nothing deletes) none in
+    cases (is_node r) (empty_list paths parts.0) (none_behind records deletes parts.1)
+    (none_behind records (paths ∷ deletes) none)
+  where
+    cases : (b : Bool) → paths ≡ [] → deletes_behind records deletes ≡ nones records
+        → deletes_behind records (paths ∷ deletes) ≡ nones records
+        → (if b then delete_nodes paths ∷ deletes_behind records deletes else [] ∷ deletes_behind records (paths ∷ deletes))
+        ≡ [] ∷ nones records
+    cases true empty later same = ap₂ (λ ps rest. delete_nodes ps ∷ rest) empty later
+    cases false empty later same = ap (λ rest. [] ∷ rest) same
+
+same_behind : (records : List DumpRecord) → records_behind records (nones records) ≡ records
+same_behind [] = refl
+same_behind (r ∷ records) = ap (λ rest. r ∷ rest) (same_behind records)
+
+may_none : (records : List DumpRecord) → AllZip (λ r nodes. IsTrue (may_stand_behind r nodes)) records (nones records)
+may_none [] = tt
+may_none (r ∷ records) = (refl, may_none records)
+
+pub untrimmed : (deletes : List (List (List ℕ))) (dump : List ℕ) → deletes_nothing deletes ≡ true
+    → IsTrimmedBy deletes dump dump
+untrimmed deletes dump none records has =
+    let (rest, cut, versions, ends) = has in
+    let (lfs, front, spelled, texts) = cut_texts 0 0 dump records
+    (subst (λ t. IsCutInto 0 0 dump records t) ends.0 cut) in
+    subst (λ behind. IsTrimmedText records behind dump) (sym (none_behind records deletes none))
+    (record {
+      may = may_none records;
+      lfs = lfs;
+      front = front;
+      spelled = spelled;
+      texts = subst (λ (rs : List DumpRecord). AreRecordTexts rs front) (sym (same_behind records)) texts;
+    })

@@ -20,6 +20,5 @@ pub mod OpenRevisions
 pub mod ParentTexts
 pub mod Rejections
 pub mod Returned
-pub mod TakenCopies
 pub mod TrimmedCopies
 pub mod TrimmedTexts

@@ -1,5 +1,5 @@
 //! The paths to delete after copies that take something to excluded paths.
-ghost use Rattle.std.specs.Prelude.{◌≡◌, ◌++◌, IfOk, IsTrue, List, map, option_map};
+ghost use Rattle.std.specs.Prelude.{◌≡◌, ◌==◌, ◌++◌, IfOk, IsTrue, List, length, map, option_map};
 ghost use Rattle.std.specs.List.{AllZip, list_all};
 ghost use Rattle.dump_history.specs.WrittenNodes.{is_plain_path};
 ghost use Rattle.dump_index.specs.steps.IndexLaws.{IsListed};
@@ -12,6 +12,7 @@ ghost use Rattle.dump_trees.specs.Paths.{names_of};
 ghost use Rattle.dump_trees.specs.Siblings.{has_node_names};
 ghost use Rattle.dump_cut.specs.steps.NamedPaths.{has_named_paths};
 ghost use Rattle.dump_cut.specs.TrimmedCopies.{IsTrimmedBy};
+ghost use Rattle.dump_cut.specs.steps.TrimmedCopies.{deletes_nothing};
 ghost use Rattle.dump_cut.specs.steps.Deletes.{AreFoundDeletes, delete_texts_of};
 ghost use Rattle.dump_cut.specs.steps.ExcludedPaths.{paths_of};
 
@@ -40,6 +41,18 @@ fn are_plain_paths(paths: &[Vec<u8>]) -> bool
 {
     for path in paths {
         if !is_plain_path(path) {
+            return false;
+        }
+    }
+    true
+}
+
+/// Whether each of these lists is empty.
+fn are_empty(deletes: &[Vec<Vec<u8>>]) -> bool
+    ensures { result ≡ list_all (λ paths. length paths.items == 0) deletes.now }
+{
+    for paths in deletes {
+        if !paths.is_empty() {
             return false;
         }
     }
@@ -112,6 +125,13 @@ impl Deletes {
             behind.push(paths)?;
         }
         Ok(Ok(Deletes { behind }))
+    }
+
+    /// Whether nothing is to be deleted.
+    pub fn is_empty(&self) -> bool
+        ensures { result ≡ deletes_nothing self.now }
+    {
+        are_empty(&self.behind)
     }
 
     /// The paths to delete after each of these changes.

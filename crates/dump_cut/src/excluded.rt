@@ -14,8 +14,7 @@ ghost use Rattle.dump_index.specs.steps.Children.{is_child_named};
 ghost use Rattle.dump_index.specs.steps.Effects.{goes_on};
 ghost use Rattle.dump_index.specs.steps.InOrder.{ends_in_slash};
 ghost use Rattle.dump_index.specs.steps.Names.{AddsNames, texts_of};
-ghost use Rattle.dump_cut.specs.steps.TakenCopies.{emptied_by};
-ghost use Rattle.dump_cut.specs.steps.ExcludedPaths.{IsGrownIf, paths_of};
+ghost use Rattle.dump_cut.specs.steps.ExcludedPaths.{IsGrownIf, emptied_by, paths_of};
 ghost use Rattle.dump_cut.specs.steps.ExcludedTexts.{is_text_below, texts_below};
 
 use crate::canonical::canonical_prefix;

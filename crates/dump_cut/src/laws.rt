@@ -6,7 +6,6 @@ ghost use Rattle.dump_cut.specs.steps.FoundSiblings.{FoundSiblingsAreAll};
 ghost use Rattle.dump_cut.specs.steps.LaterParts.{DumpsLoadInParts};
 ghost use Rattle.dump_cut.specs.steps.LoadChecks.{RejectedIsFirst, UnrejectedLoads};
 ghost use Rattle.dump_cut.specs.steps.Rejections.{RejectedIsNotAllowed};
-ghost use Rattle.dump_cut.specs.steps.TakenCopies.{SeparatedDumpIsItsExpansion, TakenDumpLoads, TakenRevisionsSeparate};
 ghost use Rattle.dump_cut.specs.steps.TrimmedCopies.{TrimmedCopiesLoad};
 
 /// If the load check rejects no change, a dump whose text deltas apply loads into an empty repository. If it rejects
@@ -15,14 +14,6 @@ pub fn loads_are_decided()
     ensures kinds { RejectedIsNotAllowed }
     ensures loads { UnrejectedLoads }
     ensures stops { RejectedIsFirst }
-{}
-
-/// If the filter takes each change of a dump as it is, what it writes loads into an empty repository. Each revision
-/// has the tree that it had, without the excluded paths.
-pub fn taken_dumps_are_cut()
-    ensures separated { TakenRevisionsSeparate }
-    ensures expansion { SeparatedDumpIsItsExpansion }
-    ensures loads { TakenDumpLoads }
 {}
 
 /// If nothing excluded comes back, each copy can stay. Then the output of the filter is the cut, if deletes after the

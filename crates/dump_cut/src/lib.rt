@@ -11,13 +11,11 @@
 //! `cut::is_read` of `finding_tests` runs this.
 //!
 //! An [`Excluded`] is the set of paths that a cut excludes. [`all_followed`] finds what copies bring
-//! back of them. [`first_not_taken`] finds the first change, if there is one, that the filter can
-//! neither drop nor write unchanged:
+//! back of them:
 //!
 //! ```
 //! let excluded = Excluded::of(alloc, prefixes)?;
 //! let found = all_followed(alloc, &index, &excluded, Way::ToCopies)?;
-//! let not_taken = first_not_taken(alloc, &index, &excluded)?;
 //! ```
 //!
 //! `cut::brings` of `finding_tests` runs this. [`Deletes`] are the paths to delete after copies that take something to
@@ -93,7 +91,6 @@ mod rejection;
 mod returns;
 mod seen_parent;
 mod siblings;
-mod taken;
 mod trimming;
 
 pub use canonical::canonical_prefix;
@@ -112,4 +109,3 @@ pub use named_siblings::add_named_siblings;
 pub use rejection::{Rejection, rejection_of};
 pub use returns::{PlacedRest, Way, all_followed, followed_rests};
 pub use siblings::find_siblings;
-pub use taken::first_not_taken;

@@ -7,8 +7,8 @@ ghost use Rattle.dump_cut.specs.steps.NamedPaths.{has_named_paths};
 use dump_changes::{End, read_changes};
 use dump_cut::{
     Addition, Deletes, Excluded, Memory, NoPart, PlacedRest, Rejected, Rejection, Way,
-    all_followed, canonical_prefix, cut_differences, find_siblings, first_not_taken, first_part,
-    first_rejected, follow, later_part, merge_paths, no_part_after, revision_fates,
+    all_followed, canonical_prefix, cut_differences, find_siblings, first_part, first_rejected,
+    follow, later_part, merge_paths, no_part_after, revision_fates,
 };
 use dump_index::{ChangeIndex, first_out_of_order};
 use dump_rules::{Empty, keeps};
@@ -134,38 +134,31 @@ fn is_rest(found: &[PlacedRest<'_>], rest: Option<&[u8]>) -> bool {
     }
 }
 
-/// Whether the copy of `d` to `e` brings back this rest, if these prefixes are excluded, and this change is the first
-/// that the filter doesn't take as it is.
-fn brings(
-    alloc: Global,
-    prefixes: &[&[u8]],
-    rest: Option<&[u8]>,
-    first: Option<usize>,
-) -> Result<bool, Memory> {
+/// Whether the copy of `d` to `e` brings back this rest, if these prefixes are excluded.
+fn brings(alloc: Global, prefixes: &[&[u8]], rest: Option<&[u8]>) -> Result<bool, Memory> {
     let dump = dump_with(alloc, COPY)?;
     let Some(index) = index_of(alloc, &dump)? else {
         return Ok(false);
     };
     let excluded = Excluded::of(alloc, prefixes)?;
     let found = all_followed(alloc, &index, &excluded, Way::ToCopies)?;
-    let not_taken = first_not_taken(alloc, &index, &excluded)?;
-    Ok(is_rest(&found, rest) && not_taken == first)
+    Ok(is_rest(&found, rest))
 }
 
 #[test]
 fn copies_bring_excluded_paths_back(rt: HostRuntime) -> Result<(), Fail> {
     let alloc = rt.alloc();
-    assert!(rt; brings(alloc, &[b"/d/f".as_slice()], Some(b"f"), Some(2))?);
-    assert!(rt; brings(alloc, &[b"d".as_slice()], Some(b""), Some(2))?);
-    assert!(rt; brings(alloc, &[b"e/f".as_slice()], None, Some(2))?);
-    assert!(rt; brings(alloc, &[b"d/f".as_slice(), b"e/./f"], None, None)?);
-    assert!(rt; brings(alloc, &[b"d/g".as_slice()], None, None)?);
+    assert!(rt; brings(alloc, &[b"/d/f".as_slice()], Some(b"f"))?);
+    assert!(rt; brings(alloc, &[b"d".as_slice()], Some(b""))?);
+    assert!(rt; brings(alloc, &[b"e/f".as_slice()], None)?);
+    assert!(rt; brings(alloc, &[b"d/f".as_slice(), b"e/./f"], None)?);
+    assert!(rt; brings(alloc, &[b"d/g".as_slice()], None)?);
     Ok(())
 }
 
 #[test]
 fn returns_or_no_memory(rt: HostRuntime) {
-    let answer = brings(rt.alloc(), &[b"d/f".as_slice(), b"e"], None, None);
+    let answer = brings(rt.alloc(), &[b"d/f".as_slice(), b"e"], None);
     assert!(rt; matches!(answer, Ok(true) | Err(Memory)));
 }
 
@@ -197,8 +190,7 @@ fn is_added(additions: &[Addition], path: &[u8]) -> bool {
     }
 }
 
-/// Whether the copy of `d` to `e` is followed from this prefix to the path, and the filter then takes each change as
-/// it is.
+/// Whether the copy of `d` to `e` is followed from this prefix to the path, and then no copy is.
 fn follows(alloc: Global, prefix: &[u8], way: Way, path: &[u8]) -> Result<bool, Memory> {
     let dump = dump_with(alloc, COPY)?;
     let Some(index) = index_of(alloc, &dump)? else {
@@ -206,8 +198,8 @@ fn follows(alloc: Global, prefix: &[u8], way: Way, path: &[u8]) -> Result<bool, 
     };
     let mut excluded = Excluded::of(alloc, &[prefix])?;
     let additions = follow(alloc, &index, &mut excluded, way)?;
-    let not_taken = first_not_taken(alloc, &index, &excluded)?;
-    Ok(is_added(&additions, path) && excluded.covers(path) && not_taken.is_none())
+    let left = all_followed(alloc, &index, &excluded, way)?;
+    Ok(is_added(&additions, path) && excluded.covers(path) && left.is_empty())
 }
 
 #[test]

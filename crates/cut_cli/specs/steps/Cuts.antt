@@ -1,5 +1,5 @@
 -- What is found out of a dump before it is filtered, and what the filter then writes.
-use Rattle.std.specs.Prelude.{◌≡◌, ◌≢◌, ℕ, true, false, List, [], ◌∷◌, length, map, take, Bool, Option, Some, None, MatchBool, Contains, IsTrue, unwrap_or, ⊤}
+use Rattle.std.specs.Prelude.{◌≡◌, ◌≢◌, ℕ, true, false, List, [], ◌∷◌, length, map, take, Bool, Option, Some, None, MatchBool, Contains, IsFalse, IsTrue, unwrap_or, ⊤}
 use Rattle.std.specs.List.{AllZip, list_all}
 use Rattle.dump_digest.specs.RecordParts.{HasPropertyList, is_mergeinfo, value_of}
 use Rattle.dump_records.specs.DumpText.{Ending, HasRecords}
@@ -46,8 +46,8 @@ use Rattle.dump_cut.specs.steps.NamedLines.{CoverMergeinfo}
 use Rattle.dump_cut.specs.LaterParts.{IsFirstPart}
 use Rattle.dump_cut.specs.steps.LaterParts.{IsWhyNoPart}
 use Rattle.dump_cut.specs.steps.LoadChecks.{IsFirstRejected}
-use Rattle.dump_cut.specs.steps.TakenCopies.{IsFirstNotTaken, emptied_by}
-use Rattle.dump_cut.specs.steps.TrimmedCopies.{AreDeletes}
+use Rattle.dump_cut.specs.steps.ExcludedPaths.{emptied_by}
+use Rattle.dump_cut.specs.steps.TrimmedCopies.{AreDeletes, deletes_nothing}
 use Rattle.dump_expansion.specs.steps.GivenSteads.{GivenStead, IsExpandedBy}
 use Rattle.cut_cli.specs.Words.{CutMeaning}
 use Rattle.cut_cli.specs.declared.examine.Obstacle.{Obstacle}
@@ -218,20 +218,20 @@ IsObstacleTo m dump (obstacles.NoPart why) = ⊤
 IsObstacleTo m dump (obstacles.OddDelete place) = ⊤
 IsObstacleTo m dump (obstacles.NotAdded not_added) = ⊤
 
--- the filter takes each change of a dump as it is; or it doesn't take the one at some place, and these paths are to be deleted
--- behind its nodes
-abbrev pub AreCopiesTaken : List NodePath → ToldKinds → List Placed → Option (List (List (List ℕ))) → Type 0
-AreCopiesTaken excluded told placed None = IsFirstNotTaken excluded told placed None
-AreCopiesTaken excluded told placed (Some deletes) =
-    AreDeletes excluded told placed deletes × ((place : ℕ) × IsFirstNotTaken excluded told placed (Some place))
+-- these are the paths to delete after each node that the filter keeps; or there are none
+abbrev pub AreDeletesIfAny : List NodePath → ToldKinds → List Placed → Option (List (List (List ℕ))) → Type 0
+AreDeletesIfAny excluded told placed None =
+    (deletes : List (List (List ℕ))) × AreDeletes excluded told placed deletes × IsTrue (deletes_nothing deletes)
+AreDeletesIfAny excluded told placed (Some deletes) =
+    AreDeletes excluded told placed deletes × IsFalse (deletes_nothing deletes)
 
 -- these are the options of a filter that cuts a dump with these changes, and the paths to delete after each node that it keeps: it
 -- excludes these paths, leaves mergeinfo of them out, and keeps each revision with its number and properties; or it drops those
--- that lose all of their nodes, and renumbers. Without deletes it takes each change as it is
+-- that lose all of their nodes, and renumbers
 pub record IsSetUp (m : CutMeaning) (excluded : List NodePath) (read : List Listed) (settings : Settings)
     (deletes : Option (List (List (List ℕ)))) : Type 0 where
   pub copies : (placed : List Placed) → AllZip IsListed read placed
-      → AreCopiesTaken excluded (kinds_told_by read) placed deletes
+      → AreDeletesIfAny excluded (kinds_told_by read) placed deletes
   pub apart : IsTrue (lie_apart excluded)
   pub excludes : ExcludesPaths settings excluded
   pub have_names : IsTrue (list_all has_node_names excluded)

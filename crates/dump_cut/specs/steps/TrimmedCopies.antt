@@ -1,6 +1,6 @@
 -- Copies to directories of which a part is excluded at the copy alone: the filter takes each as it is, and deletes of that part
 -- follow it.
-use Rattle.std.specs.Prelude.{◌≡◌, ℕ, Bool, not, List, [], ◌++◌, filter, length, map, IsTrue, slice_get, Some, IsFalse}
+use Rattle.std.specs.Prelude.{◌≡◌, ◌==◌, ℕ, Bool, not, List, [], ◌++◌, filter, length, map, IsTrue, slice_get, Some, IsFalse}
 use Rattle.std.specs.List.{list_all}
 use Rattle.dump_records.specs.DumpText.{Ending, HasRecords}
 use Rattle.dump_records.specs.RecordText.{DumpRecord}
@@ -44,6 +44,10 @@ kept_changes excluded placed = filter (λ (p : Placed). not (is_covered excluded
 -- whether a load reads all these texts unchanged, as paths of nodes
 abbrev pub are_plain : List (List (List ℕ)) → Bool
 are_plain deletes = list_all (λ texts. list_all is_plain_path texts) deletes
+
+-- whether nothing is deleted
+abbrev pub deletes_nothing : List (List (List ℕ)) → Bool
+deletes_nothing deletes = list_all (λ texts. length texts == 0) deletes
 
 -- these are the paths to delete after each kept change of a dump, as such texts
 pub record AreDeletes (excluded : List NodePath) (told : ToldKinds) (placed : List Placed) (deletes : List (List (List ℕ)))
