@@ -1,6 +1,5 @@
 -- What is filtered of dumps by excluded prefixes.
 pub mod OwnNumbers
-pub mod CutLaws
 pub mod WrittenChanges
 pub mod TrimmedTexts
 pub mod TrimmedLaw

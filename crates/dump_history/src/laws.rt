@@ -1,5 +1,4 @@
 //! Laws of dumps and of the repositories that they make; each is the contract of a function that does nothing.
-ghost use Rattle.dump_history.specs.steps.CutDumps.{ExcludedDumpLoads, ExcludedDumpLoadsNumbered, NumbersAreKept};
 ghost use Rattle.dump_history.specs.DumpLaws.{DumpLoadsOnce, FilteredDumpRestricts, FilteredDumpRestrictsAfterDirectories, NoGapIsNeeded, FilteredDumpFrontRestricts, QuietDumpRestricts, QuietDumpRestrictsAfterDirectories, QuietDumpFrontRestricts};
 ghost use Rattle.dump_history.specs.steps.ExpandedDumps.{ExpandedDumpLoads};
 ghost use Rattle.dump_history.specs.steps.ExpandedText.{ExpansionsAreDumps};
@@ -86,14 +85,6 @@ pub fn each_expanded_dump_loads()
 /// there.
 pub fn written_copies_replace()
     ensures { KeptCopyReplaces }
-{}
-
-/// What the filter writes of a dump's expanded form by excluded prefixes loads into a new repository, if it renumbers
-/// or drops no revision, and has the restricted trees. The only condition on the dump is that it loads.
-pub fn each_excluded_dump_loads()
-    ensures numbers { NumbersAreKept }
-    ensures excluded { ExcludedDumpLoads }
-    ensures excluded_numbered { ExcludedDumpLoadsNumbered }
 {}
 
 /// The filter may write, by excluded prefixes, deletions after its copies, which remove what the copies take to paths

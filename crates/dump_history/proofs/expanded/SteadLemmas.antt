@@ -1,19 +1,17 @@
 -- The changes that replace a dump's changes are those of the records that replace its records.
-use Rattle.dump_history.proofs.Prelude.{◌≡◌, Bool, true, ◌++◌, drop, map, refl, sym, ap, ◌∙◌, subst, take_while, AllZip, if◌then◌else◌, list_all, take_while-cons, first_true, second_true, absurd_bool, false_from_ne_true, has_header, path_name, change_of, loads_as_written, DumpRecord, is_node, is_revision_record, alone, Group, group_of, groups, Change, Patching, MakesChange, MakeChanges, MakeRevisions, makes, Ending, HasRecords, Settings, root_alone}
+use Rattle.dump_history.proofs.Prelude.{◌≡◌, Bool, true, ◌++◌, drop, map, refl, sym, ap, ◌∙◌, subst, take_while, AllZip, if◌then◌else◌, list_all, take_while-cons, first_true, second_true, absurd_bool, false_from_ne_true, has_header, path_name, change_of, loads_as_written, DumpRecord, is_node, is_revision_record, alone, Group, group_of, groups, Change, Patching, MakesChange, MakeChanges, makes}
 use Rattle.std.proofs.Common.{ℕ, false, List, [], ◌∷◌, codes}
 use Rattle.dump_text.specs.Names.{revision_name}
 use Rattle.dump_history.specs.RecordChanges.{has_action}
 use Rattle.dump_history.specs.WrittenNodes.{WrittenNode, node_record, can_be_written}
 use Rattle.dump_history.specs.steps.WrittenNodes.{written_change}
-use Rattle.dump_history.specs.steps.ExpandedDumps.{OwnForm, Stead, own_records, stead_records, may_be_left, may_precede, IsSameRecord, IsExpandedDump}
-use Rattle.dump_history.specs.steps.ExpandedText.{own_changes, changes_for, expanded_changes, expanded_revisions, node_steads, stead_groups, made_in_stead, IsExpandedText, ExpansionsAreDumps}
+use Rattle.dump_history.specs.steps.ExpandedDumps.{OwnForm, Stead, own_records, stead_records, may_be_left, may_precede, IsSameRecord}
+use Rattle.dump_history.specs.steps.ExpandedText.{own_changes, changes_for, expanded_changes, expanded_revisions, node_steads, stead_groups, ExpansionsAreDumps}
 use Rattle.dump_history.proofs.expanded.NodeLemmas.{written_nodes_make_changes}
 use Rattle.dump_history.proofs.expanded.FormLemmas.{AllFit, replacing_makes}
 use Rattle.dump_history.proofs.expanded.StandLemmas.{StandFor, AllStandFor, all_stand, precedes, is_left, other_stands, stand_nodes, take_nodes, groups_behind, node_of, HaveSameRevisions, same_revisions, same_list}
 use Rattle.dump_history.proofs.expanded.TextLemmas.{expansion_is_dump}
 use Rattle.dump_history.proofs.expanded.ExpandedLaw.{whole_fits}
-use Rattle.dump_history.proofs.restricted.LoadsOnce.{whole_records_once}
-use Rattle.dump_trees.specs.steps.Expansions.{AllRevisionsExpand}
 
 module _ (patched : Patching) where
   -- the same record makes the same change
@@ -219,16 +217,3 @@ expansions_are_dumps patched settings dump text records steads revisions has mak
         expands = expands;
       },
     )
-
--- a text has only one list of records, so what is true of an expanded form is true of its records
-pub with_records : (patched : Patching) (settings : Settings) (dump text : List ℕ) (records again : List DumpRecord)
-    (steads : List Stead) (revisions : List (List Change)) → HasRecords dump records Ending.Whole
-    → MakeRevisions patched records revisions → IsExpandedText records steads text
-    → AllRevisionsExpand settings (root_alone ∷ []) root_alone revisions (made_in_stead records steads revisions)
-    → HasRecords text again Ending.Whole
-    → IsExpandedDump patched settings records steads again revisions (made_in_stead records steads revisions)
-with_records patched settings dump text records again steads revisions has makes is expands whole =
-    let (found, has_found, expansion) = expansions_are_dumps patched settings dump text records steads revisions has makes
-    is expands in
-    subst (λ l. IsExpandedDump patched settings records steads l revisions (made_in_stead records steads revisions))
-    (whole_records_once text found again has_found whole) expansion

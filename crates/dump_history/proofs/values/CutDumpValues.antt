@@ -1,5 +1,5 @@
 -- Examples for the definitions of cuts, which wrong definitions don't satisfy.
-use Rattle.dump_history.proofs.Prelude.{◌≡◌, ◌++◌, Bool, None, refl, sym, ap, ◌∙◌, inr, suc, zero, AllZip, DropEmptied, DropAll, path_of, Tree, root_alone, Patching, slice_get}
+use Rattle.dump_history.proofs.Prelude.{◌≡◌, ◌++◌, Bool, None, refl, ap, ◌∙◌, inr, suc, zero, AllZip, DropEmptied, DropAll, path_of, Tree, root_alone, Patching, slice_get}
 use Rattle.std.proofs.Common.{ℕ, true, false, List, [], ◌∷◌, Some, is_some, is_none, codes}
 use Rattle.std.specs.Fmt.{digits}
 use Rattle.dump_records.specs.DumpText.{line_feeds}
@@ -15,10 +15,10 @@ use Rattle.dump_history.specs.steps.ExpandedDumps.{OwnForm, stead_records, expan
 use Rattle.dump_history.specs.ExpandedText.{AreRecordTexts}
 use Rattle.dump_history.specs.steps.ExpandedText.{IsExpandedText}
 use Rattle.dump_history.specs.CutDumps.{TreeRelation, ImagesRelate}
-use Rattle.dump_history.specs.steps.CutDumps.{leaves_no_gap, FiltersExpansion, LoadsNew, LoadsNumbered}
+use Rattle.dump_history.specs.steps.CutDumps.{leaves_no_gap, LoadsNew, LoadsNumbered}
 use Rattle.dump_history.proofs.expanded.ReplacingLemmas.{kept_copy_replaces}
 use Rattle.dump_history.proofs.values.WorkedExpansion.{stays}
-use Rattle.dump_history.proofs.values.WorkedCut.{app, three, branch, records, dump, settings, adds_trunk, adds_old, copies_old, revisions, begun_tree, first_tree, second_tree, trees, file, adds_app, source_branch, again}
+use Rattle.dump_history.proofs.values.WorkedCut.{app, three, branch, records, settings, adds_trunk, adds_old, copies_old, revisions, begun_tree, first_tree, second_tree, trees, file, adds_app, source_branch, again}
 
 -- options that leave no gap
 
@@ -132,21 +132,9 @@ replaces_nothing : is_none (steps (slice_get (root_alone ∷ first_tree ∷ []))
     ≡ true
 replaces_nothing = refl
 
--- what is filtered
-
 -- every delta is rejected
 abbrev refused : Patching
 refused delta text = None
-
--- something is written of the expanded form
-not_nothing : FiltersExpansion refused settings dump records revisions trees again [] → ⊥
-not_nothing f = let (front, rest, is, written, more) = f.clean.written in
-    let none : front ≡ [] = first_nothing front rest (sym is) in
-    absurd (let bad : false ≡ true = ap has_some (sym none ∙ written) in cc)
-  where
-    first_nothing : (front rest : List ℕ) → front ++ rest ≡ [] → front ≡ []
-    first_nothing [] rest is = refl
-    first_nothing (b ∷ front) rest is = let bad : b ∷ (front ++ rest) ≡ [] = is in cc
 
 -- trees at images
 
