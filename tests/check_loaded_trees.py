@@ -30,7 +30,8 @@ properties. It has to have each revision of the original with its number and its
 alone, and no text that only excluded files have. The same is done with parts of each history, with dumps whose numbers have
 gaps, which svndumpfilter makes, and with dumps in which copies are made over what exists, with no node that deletes it before:
 there the original is what svnadmin loads of them, and nothing may be written of a dump that it rejects. If it rejects the
-mergeinfo alone, the cut is not judged.
+mergeinfo alone, the cut is not judged. And dumps are spoiled: they end behind the record of a revision, lack revisions, or have
+some twice. Each of these has to be reported.
 
 The files of a failed run are kept in build/loaded_trees. If Subversion is not installed, the test is skipped and says
 so. The last line is 'N passed, M failed'.
@@ -60,7 +61,7 @@ PARTS, PART_RUNS = 3, 5
 PATHS = 80
 # for each repository, the number of sets of paths that are cut out, and the number of parts, of dumps with gaps and of
 # dumps with copies over something that are given to svndumpcut
-CUTS, CUT_PARTS, CUT_GAPS, CUT_OVERS = 70, 6, 6, 12
+CUTS, CUT_PARTS, CUT_GAPS, CUT_OVERS, CUT_SPOILED = 70, 6, 6, 12, 4
 OPTIONS = [
     ["--drop-empty-revs", "--renumber-revs"],
     ["--drop-empty-revs", "--renumber-revs", "--skip-missing-merge-sources"],
@@ -130,6 +131,18 @@ OWN_LIFE = re.compile(
     rb"content\n",
     re.MULTILINE,
 )
+# that numbers are missing, or that the last revision is empty
+HOLE = re.compile(rb"^svndumpcut: warning: the dump has no r(\d+)(?: to r(\d+))?\n", re.MULTILINE)
+HOLES = re.compile(
+    rb"^svndumpcut: warning: ([\d,]+) numbers of revisions are missing in the dump, in [\d,]+ places\n", re.MULTILINE
+)
+EMPTY_END = re.compile(
+    rb"^svndumpcut: warning: the last revision, r(\d+), is empty: if it is not so in the repository, svnadmin dump failed "
+    rb"there\n",
+    re.MULTILINE,
+)
+# that revision numbers do not rise
+DISORDER = re.compile(rb"^svndumpcut: r\d+: .* \(fault 8, record \d+, byte \d+\)\n\Z", re.MULTILINE)
 # svnadmin's message that it can't give mergeinfo other numbers, as after a gap
 MERGEINFO_REFUSED = re.compile("mergeinfo|bad range|Negative revision number")
 # the number of a dump's first revision
@@ -840,7 +853,7 @@ class Cut(Trial):
     def wrong(self, answer, named, meant):
         """What is wrong with an answer to a call with some paths, if these are meant to be excluded or included."""
         status = meant.status(self.original, self.dump)
-        warnings = OWN_LIFE.findall(answer.stderr) + FILE_PARENT.findall(answer.stderr)
+        warnings = [found for it in (OWN_LIFE, FILE_PARENT, EMPTY_END) for found in it.findall(answer.stderr)]
         if answer.returncode != status or answer.stderr.count(b"warning") != len(warnings):
             return f"the status is {answer.returncode}, and {status} is meant: {answer.stderr.decode()}"
         if status and answer.stdout:
@@ -1116,6 +1129,8 @@ class CutOther(Trial):
 
     def judge(self, built):
         it = ran(built["cut"], *self.words, given=self.dump)
+        if not are_gaps_reported(self.dump, it):
+            return self.fail(f"the dump's gaps are not reported: {it.stderr.decode()}")
         with tempfile.TemporaryDirectory(dir=MEMORY) as folder:
             first = int(FIRST.search(self.dump)[1])
             original, refusal = load(folder, self.dump, [], first, ["--ignore-uuid"])
@@ -1153,6 +1168,21 @@ class CutOther(Trial):
         if not why:
             self.verdicts.append("another dump cut and equal")
         return why
+
+
+class CutSpoiled(Trial):
+    """A run of svndumpcut on a dump that was spoiled: it has to say so."""
+
+    def __init__(self, name, dump, words, is_reported):
+        super().__init__(name, None, dump, words)
+        self.is_reported = is_reported
+
+    def judge(self, built):
+        it = ran(built["cut"], *self.words, given=self.dump)
+        if it.returncode and it.stdout or not self.is_reported(it):
+            return self.fail(f"the status is {it.returncode}, with {len(it.stdout)} bytes: {it.stderr.decode()}")
+        self.verdicts.append("spoiled dump reported")
+        return self
 
 
 def is_below(path, other):
@@ -1260,6 +1290,9 @@ def cut_runs(name, original, dumps, chance):
         near = [os.path.dirname(copy.target).decode() or "/", copy.source.decode()]
         words = chance.choice([["include", *near], ["include", *near], ["exclude", *cut_prefixes(original, chance)]])
         runs.append(CutOther(f"{name}-over-{place}", original, dump, words))
+    for place, (dump, is_reported) in enumerate(spoiled_dumps(dumps, chance)):
+        words = [chance.choice(["exclude", "include"]), "--quiet", *cut_prefixes(original, chance)]
+        runs.append(CutSpoiled(f"{name}-spoiled-{place}", dump, words, is_reported))
     return runs
 
 
@@ -1293,6 +1326,36 @@ def dumps_copied_over(dumps, chance):
                 left.append(dump[place:after])
         if overs:
             yield dump[: placed[0][0]] + b"".join(left), chance.choice(overs)
+
+
+def spoiled_dumps(dumps, chance):
+    """Dumps that end early, that lack revisions and that have some twice, each with what says whether this is reported."""
+    for _ in range(CUT_SPOILED):
+        dump = chance.choice(dumps)
+        placed = list(placed_records(dump))
+        begins = [(place, int(it.headers[b"Revision-number"])) for place, it in placed if b"Revision-number" in it.headers]
+        places, numbers = [place for place, _ in begins], [number for _, number in begins]
+        first = chance.randrange(1, len(numbers) - 1)
+        last = chance.randrange(first, len(numbers) - 1)
+        behind = min((place for place, _ in placed if place > places[first]), default=len(dump))
+        yield dump[:behind], functools.partial(ends_with, numbers[first])
+        lacking_some = dump[: places[first]] + dump[places[last + 1] :]
+        yield lacking_some, functools.partial(are_gaps_reported, lacking_some)
+        yield dump + dump[places[first] :], lambda it: it.returncode == 1 and DISORDER.search(it.stderr)
+
+
+def ends_with(number, answer):
+    """Whether it is reported that a dump ends with this revision, which is empty."""
+    return EMPTY_END.findall(answer.stderr) == [b"%d" % number]
+
+
+def are_gaps_reported(dump, answer):
+    """Whether it is reported which numbers a dump lacks between others: one gap, or how many numbers in several."""
+    numbers = [int(it.headers[b"Revision-number"]) for it in records(dump) if b"Revision-number" in it.headers]
+    gaps = [(one + 1, other - 1) for one, other in zip(numbers, numbers[1:]) if other > one + 1]
+    one = [(b"%d" % first, b"%d" % last if first < last else b"") for first, last in gaps] if len(gaps) == 1 else []
+    several = [f"{sum(last - first + 1 for first, last in gaps):,}".encode()] if len(gaps) > 1 else []
+    return HOLE.findall(answer.stderr) == one and HOLES.findall(answer.stderr) == several
 
 
 def is_delete(record):
