@@ -64,7 +64,7 @@ use Rattle.dump_additions.specs.steps.AdditionLaws.{HasAdditions}
 use Rattle.dump_additions.specs.steps.Additions.{AreAdditionsFrom}
 use Rattle.dump_additions.proofs.AdditionLaw.{additions_load}
 use Rattle.cut_cli.specs.Sent.{IsTrimmedIf}
-use Rattle.cut_cli.specs.steps.Cuts.{AreChangesOf, AreKnownAs, AreListedButNumbers, BringsNothingBack, CutLoads, ExcludesAsAsked, FollowsAsAsked, HasPartIf, IsAskedBy, IsClosureOf, IsCutAsAsked, IsCutText, IsObstacleTo, IsReadFor, IsReadyFor, IsSetUp, LeadsNowhere, MergeinfoStaysByCut, text_read, writes_additions}
+use Rattle.cut_cli.specs.steps.Cuts.{AgreesIfAdded, AreChangesOf, AreKnownAs, AreListedButNumbers, BringsNothingBack, CutLoads, ExcludesAsAsked, FollowsAsAsked, HasPartIf, IsAskedBy, IsClosureOf, IsCutAsAsked, IsCutText, IsObstacleTo, IsReadFor, IsReadyFor, IsSetUp, LeadsNowhere, MergeinfoStaysByCut, text_read, writes_additions}
 use Rattle.cut_cli.specs.steps.Drive.{CleanTextsAreCuts, CutsDump, CutsInput, EndsUnwritten, WritesBoth, WritesIfAsked, obstacle_status}
 use Rattle.cut_cli.specs.Words.{CutMeaning}
 use Rattle.cut_cli.specs.steps.Words.{asked_map}
@@ -292,10 +292,10 @@ module _ (m : CutMeaning) (dump : List ℕ) (settings : Settings) (deletes : Opt
   -- what the filter reads: the dump itself, or the dump with additions
   loads_read : (patched : Patching) (revisions : List (List Change)) (trees : List Tree)
       → LoadsAs patched root_alone records revisions trees → AreListed its.changes (placed_from 1 revisions)
-      → (e : Option (List ℕ)) → IsReadFor m dump are.listed excluded e read
+      → (e : Option (List ℕ)) → AgreesIfAdded e patched → IsReadFor m dump are.listed excluded e read
       → HasRecords (text_read e dump) again Ending.Whole → AreListedIn again others.changes
       → LoadsRead patched records again others.changes revisions trees
-  loads_read patched revisions trees loads listed None same has listed_in =
+  loads_read patched revisions trees loads listed None agrees same has listed_in =
       let one = whole_records_once dump records again whole has in
       let (placed, nodes, zip) = listed_in patched in
       let reads = subst (λ rs. LoadsAs patched root_alone rs revisions trees) one loads in
@@ -305,11 +305,12 @@ module _ (m : CutMeaning) (dump : List ℕ) (settings : Settings) (deletes : Opt
         listed = subst (AreListed others.changes) (nodes_are patched again revisions placed reads.makes nodes) zip;
         properties = λ props have. subst (λ rs. HaveRevisionProperties rs props) one have;
       }
-  loads_read patched revisions trees loads listed (Some t) (adds, some, has) has_again listed_in =
+  loads_read patched revisions trees loads listed (Some t) agrees (adds, some, has) has_again listed_in =
       let same = whole_records_once dump has.records records has.whole whole in
       added_read patched dump t records again its.changes others.changes revisions trees excluded has.given
       (record {
         has = whole;
+        agrees = agrees;
         loads = loads;
         listed = its_listed_in;
         numbers = subst (λ rs. HaveNodeNumbers rs its.changes) its_records its.numbers;
@@ -357,16 +358,16 @@ module _ (m : CutMeaning) (dump : List ℕ) (settings : Settings) (deletes : Opt
 
   -- the dump loads if its deltas apply
   loaded : (patched : Patching) (revisions : List (List Change)) → MakeRevisions patched records revisions
-      → AreListed its.changes (placed_from 1 revisions)
+      → AreListed its.changes (placed_from 1 revisions) → AgreesIfAdded expansion patched
       → all_apply root_alone (placed_from 1 revisions) (length (placed_from 1 revisions)) ≡ true
       → CutLoads patched m settings excluded records again revisions text
-  loaded patched revisions makes listed apply =
+  loaded patched revisions makes listed agrees apply =
       let unrejected = subst (λ l. IsFirstRejected l None) (sym its_listed) are.is_taken.1 in
       let (trees, leads) = some_value (loaded_over root_alone revisions)
       (unrejected_loads its.changes revisions listed unrejected apply) in
       let loads : LoadsAs patched root_alone records revisions trees = record { makes = makes; loads = leads } in
       cut_of patched revisions trees loads listed
-      (loads_read patched revisions trees loads listed expansion are.is_read clean.whole
+      (loads_read patched revisions trees loads listed expansion agrees are.is_read clean.whole
       (subst (λ rs. AreListedIn rs others.changes) other_records others.are_listed))
 
   is_cut : IsCutText m expansion settings dump text

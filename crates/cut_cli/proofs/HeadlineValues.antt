@@ -27,7 +27,9 @@ use Rattle.dump_history.proofs.values.WorkedDump as worked
 use Rattle.dump_cut.specs.LaterParts.{IsFirstPart, IsLaterPart, KeepsVersion, head_part, part_from, part_up_to}
 use Rattle.dump_cut.proofs.LaterLaw.{dumps_load_in_parts}
 use Rattle.cli_support.specs.declared.info.Info.TheVariants.{Version}
-use Rattle.cut_cli.specs.Headline.{IfLoads, IsCut, IsCutTree, IsDroppedCut, IsKept, IsNamed, IsOfKept, IsRestOfCut, IsSameNode, IsSameProperty, IsTreeAsAsked, ZeroIsCut, ZeroIsDroppedCut, ZeroIsOfKept, ZeroIsRest, ZeroPromises}
+use Rattle.svndiff.specs.Svndiff.{patch}
+use Rattle.dump_changes.specs.TextDeltas.{AgreesWithSvndiff}
+use Rattle.cut_cli.specs.Headline.{IfLoads, IfLoadsBySvndiff, IsCut, IsCutTree, IsDroppedCut, IsKept, IsNamed, IsOfKept, IsRestOfCut, IsSameNode, IsSameProperty, IsTreeAsAsked, ZeroIsCut, ZeroIsDroppedCut, ZeroIsOfKept, ZeroIsRest, ZeroPromises}
 use Rattle.cut_cli.specs.Words.{CutMeaning}
 
 abbrev call : Side → (follow : Bool) → List ℕ → CutMeaning
@@ -216,7 +218,7 @@ whole_tree tree = record {
   gone = λ path none. absurd (none (inr ([], refl)));
 }
 
--- IsCut, IfLoads
+-- IsCut, IfLoads, IfLoadsBySvndiff
 
 module _ (patched : Patching) where
   whole_cut : IsCut all_of_it patched worked.records worked.revisions worked.trees worked.dump
@@ -257,6 +259,13 @@ not_for_each_load : ¬ IfLoads (λ patched records revisions trees text. ⊥) wo
 not_for_each_load holds =
     holds (λ delta old. None) worked.records worked.revisions worked.trees worked.whole (worked.loads (λ delta old. None))
 
+-- svndiff agrees with itself; so the premise of the headline can be met, and an untrue end is not reached
+patch_agrees : AgreesWithSvndiff patch
+patch_agrees delta old text is = is
+
+not_for_each_svndiff : ¬ IfLoadsBySvndiff (λ patched records revisions trees text. ⊥) worked.dump worked.dump
+not_for_each_svndiff holds = holds patch worked.records worked.revisions worked.trees worked.whole (worked.loads patch) patch_agrees
+
 whole_if_loads : (after : Option ℕ) → IfLoads (IsCut (from after)) worked.dump worked.dump
 whole_if_loads after patched records revisions trees has loads = record {
   again = records;
@@ -281,16 +290,20 @@ whole_if_loads after patched records revisions trees has loads = record {
 -- ZeroIsCut
 
 zero_is_cut : ZeroIsCut all_of_it worked.dump (Some []) (Some worked.dump)
-zero_is_cut wet stays all = (worked.dump, refl, λ short. whole_if_loads None)
+zero_is_cut wet stays all = (
+  worked.dump,
+  refl,
+  λ short patched records revisions trees has loads agrees. whole_if_loads None patched records revisions trees has loads,
+)
 
 not_zero : ¬ ZeroIsCut without_other worked.dump (Some []) (Some worked.dump)
 not_zero holds =
     let (text, is, cut) = holds refl refl refl in
     let same : worked.dump ≡ text = is in
-    not_the_dump (λ delta old. None)
-    (subst (IsCut without_other (λ delta old. None) worked.records worked.revisions worked.trees) (sym same)
-    (cut (subst (λ t. length t < 10 ^ 18) same (lit< tt)) (λ delta old. None) worked.records worked.revisions worked.trees
-    worked.whole (worked.loads (λ delta old. None))))
+    not_the_dump patch
+    (subst (IsCut without_other patch worked.records worked.revisions worked.trees) (sym same)
+    (cut (subst (λ t. length t < 10 ^ 18) same (lit< tt)) patch worked.records worked.revisions worked.trees
+    worked.whole (worked.loads patch) patch_agrees))
 
 -- IsDroppedCut, ZeroIsDroppedCut
 
@@ -360,10 +373,10 @@ not_zero_dropped : ¬ ZeroIsDroppedCut (record without_other { drop = true }) wo
 not_zero_dropped holds =
     let (text, is, cut) = holds refl refl refl in
     let same : worked.dump ≡ text = is in
-    no_dropped (λ delta old. None)
-    (subst (IsDroppedCut (record without_other { drop = true }) (λ delta old. None) worked.records worked.revisions worked.trees)
-    (sym same) (cut (subst (λ t. length t < 10 ^ 18) same (lit< tt)) (λ delta old. None) worked.records worked.revisions
-    worked.trees worked.whole (worked.loads (λ delta old. None))))
+    no_dropped patch
+    (subst (IsDroppedCut (record without_other { drop = true }) patch worked.records worked.revisions worked.trees)
+    (sym same) (cut (subst (λ t. length t < 10 ^ 18) same (lit< tt)) patch worked.records worked.revisions
+    worked.trees worked.whole (worked.loads patch) patch_agrees))
   where
     no_dropped : (patched : Patching) → ¬ IsDroppedCut (record without_other { drop = true }) patched worked.records
         worked.revisions worked.trees worked.dump
@@ -429,8 +442,13 @@ zero_is_rest number wet stays after =
     let both : Some 1 ≡ Some number = after in
     let same : 1 ≡ number = cc in
     subst (λ n. (text whole : List ℕ) × Appends (Some []) (Some later_part) text × IsLaterPart n whole text
-    × IfLoads (IsRestOfCut (from (Some 1)) n whole) worked.dump text) same
-    (later_part, worked.dump, refl, is_later, rest_if_loads)
+    × IfLoadsBySvndiff (IsRestOfCut (from (Some 1)) n whole) worked.dump text) same (
+      later_part,
+      worked.dump,
+      refl,
+      is_later,
+      λ patched records revisions trees has loads agrees. rest_if_loads patched records revisions trees has loads,
+    )
 
 -- what was written before isn't lost
 not_zero_rest : ¬ ZeroIsRest (from (Some 1)) worked.dump (Some (10 ∷ [])) (Some [])

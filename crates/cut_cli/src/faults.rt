@@ -5,6 +5,7 @@ use crate::lines::write_path;
 use crate::read::Unread;
 use crate::spot::{Spot, first_revision, spot_of};
 use dump_additions::{NotAdded, Reason};
+use dump_changes::{Defect, TextDefect};
 use dump_cut::{NoPart, Rejected, Rejection};
 use dump_digest::properties_of;
 use dump_index::NodeChange;
@@ -131,6 +132,11 @@ fn write_fault_at<E: Write>(
     write_place(errors, code, spot)
 }
 
+/// Writes the line of a fault of this kind.
+fn write_kind_at<E: Write>(errors: &mut E, kind: FaultKind, spot: Spot<'_>) -> io::Result<()> {
+    write_fault_at(errors, kind.code(), fault_text(kind), spot)
+}
+
 /// Writes the line of a fault that the filter found.
 pub fn write_fault<E: Write>(
     errors: &mut E,
@@ -138,8 +144,7 @@ pub fn write_fault<E: Write>(
     kind: FaultKind,
     number: u64,
 ) -> io::Result<()> {
-    let spot = spot_of(dump, number);
-    write_fault_at(errors, kind.code(), fault_text(kind), spot)
+    write_kind_at(errors, kind, spot_of(dump, number))
 }
 
 /// Says why the dump has no part after a revision.
@@ -154,6 +159,39 @@ pub fn write_no_part<E: Write>(errors: &mut E, number: Option<u64>, why: NoPart)
     writeln!(errors, "svndumpcut: --after {number}: {text}")
 }
 
+/// What is wrong with a delta.
+fn defect_text(defect: Defect) -> &'static str {
+    match defect {
+        Defect::Header => "it does not begin with SVN and a version",
+        Defect::Compressed => "it is compressed",
+        Defect::Number => "a number does not end",
+        Defect::Large => "an offset or a size is too large",
+        Defect::Cut => "it is truncated",
+        Defect::View => "a source view slides back or is outside of the old text",
+        Defect::Instruction => "not an instruction",
+        Defect::Copy => "an instruction copies what is not there, or too much",
+        Defect::Target => "the instructions do not make the target",
+    }
+}
+
+/// Says why the text of the node can't be made, which is needed in full.
+fn write_no_text<E: Write>(errors: &mut E, defect: TextDefect, spot: Spot<'_>) -> io::Result<()> {
+    match defect {
+        TextDefect::Delta {
+            defect: Defect::Compressed,
+            ..
+        } => write_fault_at(errors, 32, "compressed delta: dump without --deltas", spot),
+        TextDefect::Delta { defect, byte } => {
+            write_about(errors, spot)?;
+            let text = defect_text(defect);
+            write!(errors, "invalid delta: {text}, at its byte {byte}")?;
+            write_place(errors, 32, spot)
+        }
+        TextDefect::Md5 => write_kind_at(errors, FaultKind::Md5, spot),
+        TextDefect::Sha1 => write_kind_at(errors, FaultKind::Sha1, spot),
+    }
+}
+
 /// Says why nothing can be written in place of a copy.
 pub fn write_not_added<E: Write>(
     errors: &mut E,
@@ -162,7 +200,7 @@ pub fn write_not_added<E: Write>(
     not_added: NotAdded,
 ) -> io::Result<()> {
     let place = match not_added.reason {
-        Reason::Delta(place) => place,
+        Reason::Text(no_text) => no_text.place,
         Reason::NoLoad | Reason::NotWritable => not_added.place,
     };
     let Some(change) = changes.get(place) else {
@@ -170,12 +208,7 @@ pub fn write_not_added<E: Write>(
     };
     let spot = spot_of(dump, change.record_number);
     match not_added.reason {
-        Reason::Delta(_) => write_fault_at(
-            errors,
-            32,
-            "stored as a delta and needed in full: dump with svnadmin dump, without --deltas (load an svnrdump dump first)",
-            spot,
-        ),
+        Reason::Text(no_text) => write_no_text(errors, no_text.defect, spot),
         // the load check comes first, so no such copy gets here
         Reason::NoLoad => write_rejection(errors, dump, Rejection::NoSource, spot),
         Reason::NotWritable => {
@@ -224,11 +257,10 @@ pub fn write_unread<E: Write>(errors: &mut E, dump: &[u8], unread: Unread) -> io
                 byte: place,
                 ..spot_of(dump, u64::MAX)
             };
-            let text = match input_text(dump) {
-                Some(text) if spot.number == 0 => text,
-                _ => fault_text(kind),
-            };
-            write_fault_at(errors, kind.code(), text, spot)
+            match input_text(dump) {
+                Some(text) if spot.number == 0 => write_fault_at(errors, kind.code(), text, spot),
+                _ => write_kind_at(errors, kind, spot),
+            }
         }
         Unread::NoChange(number) => write_no_change(errors, spot_of(dump, number)),
         Unread::OutOfOrder(number) => write_out_of_order(errors, spot_of(dump, number)),

@@ -70,7 +70,7 @@ module _ (patched : Patching) (dump : List ℕ) (records : List DumpRecord) (cha
   known : AllRevisionsKnown (property_blocks records) (record_texts records) (map listed_of changes) excluded
       (root_alone ∷ []) root_alone revisions steads
   known =
-      revisions_known patched records changes revisions trees excluded lists h.ordered h.loads.loads revisions []
+      revisions_known patched h.agrees records changes revisions trees excluded lists h.ordered h.loads.loads revisions []
       (root_alone ∷ []) root_alone refl refl refl root_finite finite_root h.loads.loads (map listed_of changes) lists.listed
       steads its.1
 

@@ -47,9 +47,11 @@ use Rattle.dump_index.specs.declared.change.NodeKind.{NodeKind}
 use Rattle.dump_index.specs.declared.change.Setting.TheVariants.{Keeps}
 use Rattle.dump_index.proofs.LawLemmas.{end_same}
 use Rattle.dump_index.proofs.ToldLemmas.{index_tells_kinds}
-use Rattle.dump_changes.specs.steps.FileTexts.{IsStoredAt, TextStored, ToldText, record_texts}
+use Rattle.dump_changes.specs.TextDeltas.{AgreesWithSvndiff}
+use Rattle.dump_changes.specs.steps.FileTexts.{ToldText, record_texts}
 use Rattle.dump_changes.specs.steps.NodeProperties.{ArePropertiesAt, ListNodes, property_blocks}
-use Rattle.dump_changes.proofs.TextLemmas.{whole_is_of_file}
+use Rattle.dump_changes.specs.steps.PatchedTexts.{IsTextAt}
+use Rattle.dump_changes.proofs.PatchedLemmas.{patched_found}
 use Rattle.dump_expansion.specs.steps.ByChanges.{expanded_by}
 use Rattle.dump_expansion.specs.steps.GivenSteads.{GivenStead, left_alone}
 use Rattle.dump_additions.specs.steps.Additions.{AreNodesOf, IsAddition, IsNodeOfForm, MakesRoot, copies_over}
@@ -213,8 +215,8 @@ module _ (blocks : List (List ℕ)) (texts : List ToldText) (listed : List Liste
     λ tree at. revisions_expand left (older ++ tree ∷ []) tree (drop (length cs) steads) (more tree at),
   )
 
-module _ (patched : Patching) (records : List DumpRecord) (changes : List NodeChange) (revisions : List (List Change))
-    (trees : List Tree) (excluded : List NodePath) (lists : ListNodes patched records changes (placed_from 1 revisions))
+module _ (patched : Patching) (agrees : AgreesWithSvndiff patched) (records : List DumpRecord) (changes : List NodeChange)
+    (revisions : List (List Change)) (trees : List Tree) (excluded : List NodePath) (lists : ListNodes patched records changes (placed_from 1 revisions))
     (ordered : are_in_order 0 changes ≡ true) (loads : loaded_over root_alone revisions ≡ Some trees) where
   abbrev listed : List Listed
   listed = map listed_of changes
@@ -236,11 +238,11 @@ module _ (patched : Patching) (records : List DumpRecord) (changes : List NodeCh
       → (node : Node) → look root_alone here count (names_of text) ≡ Some node → properties_of node ≡ props
   properties_found text count props are node at = are patched records changes here node refl refl lists ordered at
 
-  text_found : (text : List ℕ) (count : ℕ) (its : ToldText) → IsStoredAt texts listed text count (TextStored.Whole its)
+  text_found : (text : List ℕ) (count : ℕ) (its : ToldText) → IsTextAt texts listed text count its
       → (props : List Property) (found : List ℕ) → look root_alone here count (names_of text) ≡ Some (Node.File props found)
       → found ≡ its.text
-  text_found text count its stored props found at =
-      whole_is_of_file texts listed text count its stored patched records changes here props found refl refl lists ordered at
+  text_found text count its is props found at =
+      patched_found patched records changes here text count its props found agrees lists ordered is at
 
   module _ (number : ℕ) (old : Tree) (there : slice_get trees number ≡ Some old) (finite : IsFinite old) where
     -- what is looked up there is in that tree
@@ -264,13 +266,13 @@ module _ (patched : Patching) (records : List DumpRecord) (changes : List NodeCh
     form_found path source Copy rest w (is, kind) = is
     form_found path source Directory rest w (text, entries, text_is, change_is, are) =
         (entries, change_is, entries_found path source rest text entries text_is are)
-    form_found path source File rest w (text, entries, its, text_is, change_is, said, are, stored) = (
+    form_found path source File rest w (text, entries, its, text_is, change_is, said, are, is) = (
       entries,
       its.text,
       change_is,
       entries_found path source rest text entries text_is are,
       λ props found at.
-          text_found text (end_of (all_placed listed) number) its stored props found (looked_there source rest text text_is ∙ at),
+          text_found text (end_of (all_placed listed) number) its is props found (looked_there source rest text text_is ∙ at),
     )
 
     nodes_found : (path source : NodePath) (parts : List PartMeant) (nodes : List WrittenNode)
@@ -404,13 +406,13 @@ module _ (patched : Patching) (records : List DumpRecord) (changes : List NodeCh
             made ∙ replaced (λ p. directory_of p a.is_root.own),
             (no_text_of c.text (subst (λ s. HasText s c.text) keeps is.text), refl),
           )
-          root_by File (its, stored, said, made) = (
+          root_by File (its, set, said, made) = (
             file_of c.path a.is_root.own its.text,
             made ∙ replaced (λ p. file_of p a.is_root.own its.text),
             (
               its.text,
               refl,
-              λ props found there. text_found l.path (suc place) its stored props found (looked_after ∙ there),
+              λ props found there. text_found l.path (suc place) its set props found (looked_after ∙ there),
             ),
           )
 

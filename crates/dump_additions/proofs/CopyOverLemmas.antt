@@ -371,7 +371,7 @@ module _ (blocks : List (List ℕ)) (texts : List ToldText) (listed : List Liste
   node_path number top source Copy rest w is = ap (λ (c : Change). c.path) is.0
   node_path number top source Directory rest w (text, entries, text_is, change_is, are) =
       ap (λ (c : Change). c.path) change_is
-  node_path number top source File rest w (text, entries, its, text_is, change_is, said, are, stored) =
+  node_path number top source File rest w (text, entries, its, text_is, change_is, said, are, set) =
       ap (λ (c : Change). c.path) change_is
 
   at_parts : (number : ℕ) (top source : NodePath) (parts : List PartMeant) (nodes : List WrittenNode)
@@ -396,7 +396,7 @@ module _ (blocks : List (List ℕ)) (texts : List ToldText) (listed : List Liste
     deletes = ap (λ (c : Change). c.deletes) is;
     plain = ap (λ (c : Change). is_copied c.made) is;
   }
-  plain_root place l own File w (its, stored, said, is) = record {
+  plain_root place l own File w (its, set, said, is) = record {
     at = ap (λ (c : Change). c.path) is;
     deletes = ap (λ (c : Change). c.deletes) is;
     plain = ap (λ (c : Change). is_copied c.made) is;

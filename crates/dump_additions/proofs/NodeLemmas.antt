@@ -14,6 +14,7 @@ use Rattle.dump_index.specs.steps.Listed.{Listed}
 use Rattle.dump_index.specs.declared.change.NodeKind.{NodeKind}
 use Rattle.dump_index.specs.declared.change.NodeKind.TheVariants as kinds
 use Rattle.dump_changes.specs.steps.FileTexts.{ToldText}
+use Rattle.dump_changes.specs.declared.no_text.NoText.{NoText}
 use Rattle.dump_index.specs.steps.InOrder.{ends_in_slash}
 use Rattle.dump_index.specs.steps.Touching.{joined_text}
 use Rattle.dump_index.proofs.SlashLemmas.{names_joined}
@@ -22,10 +23,10 @@ use Rattle.dump_expansion.specs.steps.GivenSteads.{GivenStead}
 use Rattle.dump_expansion.specs.steps.NewNodes.{written_kind}
 use Rattle.dump_expansion.specs.declared.expanding.Stead as code
 use Rattle.dump_additions.specs.steps.Additions.{AreNodesOf, BringsNone, IsAddition, IsCleared, IsNodeOf, IsRootOf, SaysKind, copies_over}
-use Rattle.dump_additions.specs.steps.FirstNotAdded.{BringsSome, CannotBeAdded, HasDelta, IsReason}
-use Rattle.dump_additions.specs.steps.Nodes.{AddsNodes, IsAdditionOr, IsClearingOr, IsNodeOrDelta, IsRootOr, IsSteadFor, IsSteadOr}
+use Rattle.dump_additions.specs.steps.FirstNotAdded.{BringsSome, CannotBeAdded, HasNoText, IsReason}
+use Rattle.dump_additions.specs.steps.Nodes.{AddsNodes, IsAdditionOr, IsClearingOr, IsNodeOrNoText, IsRootOr, IsSteadFor, IsSteadOr}
 use Rattle.dump_additions.specs.declared.not_added.Reason.{Reason}
-use Rattle.dump_additions.specs.declared.not_added.Reason.TheVariants.{Delta, NoLoad, NotWritable}
+use Rattle.dump_additions.specs.declared.not_added.Reason.TheVariants.{Text, NoLoad, NotWritable}
 use Rattle.dump_additions.specs.declared.parts.Form.{Form}
 use Rattle.dump_additions.specs.declared.parts.Form.TheVariants.{Copy, Directory, File}
 use Rattle.dump_additions.specs.declared.parts.Part.{Part}
@@ -81,26 +82,26 @@ module _ (blocks : List (List ℕ)) (texts : List ToldText) (listed : List Liste
         (nodes_pushed (map part_meant (take k parts)) more (part_meant (get_or parts k d)) w are is),
   )
 
-  -- if no delta is found, the nodes are added
-  pub all_added : (parts : List PartMeant) (old new : List WrittenNode) (found : Option ℕ)
-      → ((at : ℕ) → found ≡ Some at → ⊥)
+  -- if each text can be made, the nodes are added
+  pub all_added : (parts : List PartMeant) (old new : List WrittenNode) (found : Option NoText)
+      → ((why : NoText) → found ≡ Some why → ⊥)
       → AddsNodes blocks texts listed excluded number path source parts old new found
       → AddsNodes blocks texts listed excluded number path source parts old new None
   all_added parts old new None none adds = adds
-  all_added parts old new (Some at) none adds = absurd (none at refl)
+  all_added parts old new (Some why) none adds = absurd (none why refl)
 
-  -- a part that is a file whose text is stored as a delta
-  pub delta_there : (parts : List Part) (k : ℕ) (d : Part) → k < length parts → (at : ℕ)
-      → IsNodeOrDelta blocks texts listed excluded number path source (part_meant (get_or parts k d)) (Err at)
-      → HasDelta blocks texts listed excluded number path source (map part_meant parts) at
-  delta_there parts k d low at (is, delta) = (
+  -- a part that is a file whose text can't be made
+  pub no_text_there : (parts : List Part) (k : ℕ) (d : Part) → k < length parts → (why : NoText)
+      → IsNodeOrNoText blocks texts listed excluded number path source (part_meant (get_or parts k d)) (Err why)
+      → HasNoText blocks texts listed excluded number path source (map part_meant parts) why
+  no_text_there parts k d low why (is, none) = (
     names_of (get_or parts k d).rest.items,
     subst (Contains (map part_meant parts))
         (get_or-map part_meant parts k d (part_meant d) low
         ∙ ap (λ f. record { form = f; rest = names_of (get_or parts k d).rest.items }) is)
         (Contains-get_or (map part_meant parts) k (part_meant d)
         (subst (λ n. k < n) (sym (length-map parts part_meant)) low)),
-    delta,
+    none,
   )
 
 -- what is in place of a change, or why nothing can be written
@@ -136,14 +137,14 @@ module _ (blocks : List (List ℕ)) (texts : List ToldText) (listed : List Liste
     -- the root can't be written
     pub root_refused : (reason : Reason) → IsRootOr blocks texts listed excluded place l form (Err reason)
         → CannotBeAdded blocks texts listed excluded place l reason
-    root_refused (Delta at) (is, stored) = refused (Delta at) (form, inside, refl, inl (is, stored))
+    root_refused (Text why) (is, none) = refused (Text why) (form, inside, refl, inl (is, none))
     root_refused NoLoad (is, text) = refused NoLoad (inr (directory_there is, text))
     root_refused NotWritable is = absurd is
 
     -- nor can a file below it
-    pub inside_refused : (at : ℕ) → HasDelta blocks texts listed excluded number (names_of l.path) source inside at
-        → CannotBeAdded blocks texts listed excluded place l (Delta at)
-    inside_refused at has = refused (Delta at) (form, inside, refl, inr has)
+    pub inside_refused : (why : NoText) → HasNoText blocks texts listed excluded number (names_of l.path) source inside why
+        → CannotBeAdded blocks texts listed excluded place l (Text why)
+    inside_refused why has = refused (Text why) (form, inside, refl, inr has)
 
     pub stead_made : (root : WrittenNode) → IsRootOf blocks texts listed excluded place l form root
         → (first new : List WrittenNode) → first ≡ root ∷ []

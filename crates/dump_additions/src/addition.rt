@@ -15,11 +15,11 @@ ghost use Rattle.dump_expansion.specs.steps.NewNodes.{written_of};
 ghost use Rattle.dump_additions.specs.steps.Additions.{SaysKind};
 ghost use Rattle.dump_additions.specs.steps.Parts.{ArePartsOf, kind_in, part_meant};
 ghost use Rattle.dump_additions.specs.declared.parts.Form.TheVariants as forms;
-ghost use Rattle.dump_additions.specs.steps.Nodes.{AddsNodes, AreAdditions, IsAdditionOr, IsClearingOr, IsDirectoryNode, IsNodeOrDelta, IsRootOr, IsRootText, IsSteadFor, IsSteadOr, given_found};
+ghost use Rattle.dump_additions.specs.steps.Nodes.{AddsNodes, AreAdditions, IsAdditionOr, IsClearingOr, IsDirectoryNode, IsNodeOrNoText, IsRootOr, IsRootText, IsSteadFor, IsSteadOr, given_found};
 
 use crate::not_added::{NotAdded, Reason};
 use crate::parts::{Form, Part, parts_of};
-use dump_changes::{NodeText, PropertyTable, StoredText, TextTable, properties_at, text_at};
+use dump_changes::{FileText, NoText, PropertyTable, TextTable, properties_at, text_at};
 use dump_cut::{Excluded, source_of};
 use dump_expansion::{NewNode, Stead};
 use dump_index::{ChangeIndex, NodeChange, NodeKind, Setting, Source, joined};
@@ -76,8 +76,7 @@ fn directory_node<'a>(
     })
 }
 
-/// The node that makes a file as it is at a rest of the source. The error is the place of the change that stores its
-/// text as a delta.
+/// The node that makes a file as it is at a rest of the source. The error says why its text can't be made.
 fn file_node<'a>(
     alloc: Global,
     table: &PropertyTable<'a>,
@@ -86,33 +85,30 @@ fn file_node<'a>(
     path: &[u8],
     source: Source<'_>,
     rest: &[u8],
-) -> Result<Result<NewNode<'a>, usize>, Memory>
+) -> Result<Result<NewNode<'a>, NoText>, Memory>
     requires path { IsTrue (has_node_names (names_of path.now)) }
     requires source { IsTrue (has_node_names (names_of source.path.now)) }
     requires rest { IsTrue (has_node_names (names_of rest.now)) }
-    ensures { (excluded : List NodePath) → IfOk result (IsNodeOrDelta table.now texts.now index.now excluded
+    ensures { (excluded : List NodePath) → IfOk result (IsNodeOrNoText table.now texts.now index.now excluded
         source.entry.revision (names_of path.now) (names_of source.entry.path.now)
         (record { form = forms.File; rest = names_of rest.now })) }
 {
     let there = joined(alloc, source.path, rest)?;
     let end = index.end_of(source.revision);
     let text = match text_at(alloc, texts, index, &there, end)? {
-        StoredText::Whole(text) => text,
-        StoredText::Delta(place) => return Ok(Err(place)),
+        Ok(text) => text,
+        Err(no_text) => return Ok(Err(no_text)),
     };
     let entries = properties_at(alloc, table, index, &there, end)?;
     Ok(Ok(NewNode::File {
         replaces: false,
         path: joined(alloc, path, rest)?,
         entries,
-        text: text.text,
-        md5: text.md5,
-        sha1: text.sha1,
+        text,
     }))
 }
 
-/// The node that writes a part of what is copied. The error is the place of the change that stores its text as a
-/// delta.
+/// The node that writes a part of what is copied. The error says why its text can't be made.
 fn node_of<'a>(
     alloc: Global,
     table: &PropertyTable<'a>,
@@ -121,11 +117,11 @@ fn node_of<'a>(
     path: &[u8],
     source: Source<'_>,
     part: &Part,
-) -> Result<Result<NewNode<'a>, usize>, Memory>
+) -> Result<Result<NewNode<'a>, NoText>, Memory>
     requires path { IsTrue (has_node_names (names_of path.now)) }
     requires source { IsTrue (has_node_names (names_of source.path.now)) }
     requires part { IsTrue (has_node_names (names_of part.now.rest.items)) }
-    ensures { (excluded : List NodePath) → IfOk result (IsNodeOrDelta table.now texts.now index.now excluded
+    ensures { (excluded : List NodePath) → IfOk result (IsNodeOrNoText table.now texts.now index.now excluded
         source.entry.revision (names_of path.now) (names_of source.entry.path.now) (part_meant part.now)) }
 {
     match part.form {
@@ -135,8 +131,7 @@ fn node_of<'a>(
     }
 }
 
-/// Appends the nodes that write these parts. If the text of one is stored as a delta, returns the place of the change
-/// that does this.
+/// Appends the nodes that write these parts. If the text of one can't be made, returns why.
 fn push_nodes<'a>(
     alloc: Global,
     table: &PropertyTable<'a>,
@@ -146,7 +141,7 @@ fn push_nodes<'a>(
     source: Source<'_>,
     parts: &[Part],
     nodes: &mut Vec<NewNode<'a>>,
-) -> Result<Option<usize>, Memory>
+) -> Result<Option<NoText>, Memory>
     requires path { IsTrue (has_node_names (names_of path.now)) }
     requires source { IsTrue (has_node_names (names_of source.path.now)) }
     requires parts { IsTrue (list_all (λ part. has_node_names (names_of part.rest.items)) parts.now) }
@@ -157,14 +152,14 @@ fn push_nodes<'a>(
     for part in parts {
         match node_of(alloc, table, texts, index, path, source, part)? {
             Ok(node) => nodes.push(node)?,
-            Err(place) => return Ok(Some(place)),
+            Err(no_text) => return Ok(Some(no_text)),
         }
     }
     Ok(None)
 }
 
 /// The text at the path of the last of the first `count` changes, after it, if it copies a file; `None` if it copies a
-/// directory. The error says why the text can't be written.
+/// directory. The error says why there is none.
 fn root_text<'a>(
     alloc: Global,
     texts: &TextTable<'a>,
@@ -172,7 +167,7 @@ fn root_text<'a>(
     count: usize,
     change: &NodeChange<'_>,
     form: Form,
-) -> Result<Result<Option<NodeText<'a>>, Reason>, Memory>
+) -> Result<Result<Option<FileText<'a>>, Reason>, Memory>
     requires named { IsTrue (has_named_paths (listed_of change.now)) }
     requires count { 0 < count }
     requires form { form ≡ forms.Copy → ⊥ }
@@ -180,8 +175,8 @@ fn root_text<'a>(
 {
     if let Form::File = form {
         return match text_at(alloc, texts, index, change.path, count)? {
-            StoredText::Whole(text) => Ok(Ok(Some(text))),
-            StoredText::Delta(place) => Ok(Err(Reason::Delta(place))),
+            Ok(text) => Ok(Ok(Some(text))),
+            Err(no_text) => Ok(Err(Reason::Text(no_text))),
         };
     }
     match change.text {
@@ -215,13 +210,11 @@ fn root_node<'a>(
     let entries = properties_at(alloc, table, index, change.path, count)?;
     let path = Vec::from_slice(alloc, change.path)?;
     match text {
-        Some(own) => Ok(Ok(NewNode::File {
+        Some(text) => Ok(Ok(NewNode::File {
             replaces,
             path,
             entries,
-            text: own.text,
-            md5: own.md5,
-            sha1: own.sha1,
+            text,
         })),
         None => Ok(Ok(NewNode::Directory {
             replaces,
@@ -280,8 +273,10 @@ fn stead_of<'a>(
         Err(reason) => return Ok(Err(reason)),
     }
     let path = change.path;
-    if let Some(place) = push_nodes(alloc, table, texts, index, path, source, inside, &mut nodes)? {
-        return Ok(Err(Reason::Delta(place)));
+    if let Some(no_text) = push_nodes(
+        alloc, table, texts, index, path, source, inside, &mut nodes,
+    )? {
+        return Ok(Err(Reason::Text(no_text)));
     }
     Ok(stead_for(change, nodes, false))
 }

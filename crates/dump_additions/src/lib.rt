@@ -25,9 +25,9 @@
 //! ```
 //!
 //! `additions::expands` of `finding_tests` runs this. A file is written with its whole text, which is a
-//! slice of the dump. If the dump has only a delta of it, nothing can be written in place of the copy;
-//! [`NotAdded`] says which copy that is, and why. [`laws`] says that the new dump loads to the same
-//! trees.
+//! slice of the dump, or is made of deltas of the dump. If a delta can't be applied, or makes a text with
+//! another digest than the dump gives, nothing can be written in place of the copy; [`NotAdded`] says
+//! which copy that is, and why. [`laws`] says that the new dump loads to the same trees.
 #![tactic(auto)]
 
 mod addition;

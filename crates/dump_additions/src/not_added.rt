@@ -1,10 +1,12 @@
 //! Copies for which no other nodes can be written.
 
+use dump_changes::NoText;
+
 /// Why nothing can be written in place of a copy.
 #[derive(Clone, Copy, Debug, PartialEq, Eq)]
 pub enum Reason {
-    /// The text of a file that comes back is stored as a delta, by the change at this place of the index.
-    Delta(usize),
+    /// The text of a file that comes back can't be made.
+    Text(NoText),
     /// A load would reject the copy: nothing exists at its source, or a directory does and the change sets a text.
     NoLoad,
     /// A load would read one of the nodes in another way than the program means it, as

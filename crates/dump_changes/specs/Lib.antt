@@ -1,2 +1,3 @@
 pub mod ListedDumps
+pub mod TextDeltas
 pub mod steps

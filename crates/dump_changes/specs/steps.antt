@@ -1,10 +1,12 @@
 pub mod ChangedProperties
+pub mod DeltaTexts
 pub mod DumpReading
 pub mod FileTexts
 pub mod ListedDumps
 pub mod MadeTexts
 pub mod NodeProperties
+pub mod NodeTexts
 pub mod Nodes
 pub mod PatchedTexts
 pub mod Reading
-pub mod StoredTexts
+pub mod TextBytes

@@ -19,30 +19,36 @@
 //! `changes::other_ends_are_told` of `model_tests` runs this.
 //!
 //! [`properties_at`] finds the properties of the node at a path after some of the changes, with a
-//! [`PropertyTable`] of the dump. [`text_at`] finds the text of a file in the same way, if the dump has
-//! it as a whole, with a [`TextTable`]; [`patched_text_at`] makes the text of whole texts and deltas.
+//! [`PropertyTable`] of the dump. [`text_at`] finds the text of a file in the same way, with a
+//! [`TextTable`]: it is a part of the dump, or deltas of the dump make it. If they don't, [`NoText`]
+//! says why.
 #![tactic(auto)]
 
+mod file_text;
 pub mod laws;
+mod made_text;
+mod no_text;
 mod node;
 mod node_text;
 mod numbers;
-mod patched_texts;
 mod properties;
 mod property_edit;
 mod property_table;
 mod read;
+mod text_bytes;
 mod text_table;
 mod texts;
 
 pub use dump_rules::Memory;
+pub use file_text::FileText;
+pub use no_text::{NoText, TextDefect};
 pub use node::node_change;
-pub use node_text::{NodeText, StoredText};
+pub use node_text::NodeText;
 pub use numbers::{copies_from_gap, with_loaded_source};
-pub use patched_texts::{FileText, PatchedText, patched_text_at};
 pub use properties::properties_at;
 pub use property_edit::NodeProperty;
 pub use property_table::PropertyTable;
 pub use read::{End, Reading, read_changes};
+pub use svndiff::Defect;
 pub use text_table::TextTable;
 pub use texts::text_at;

@@ -4,7 +4,7 @@ ghost use Rattle.dump_records.specs.RecordText.{DumpRecord};
 ghost use Rattle.dump_records.specs.DumpText.{Ending, HasRecords};
 ghost use Rattle.dump_records.specs.steps.RecordViews.{record_item};
 ghost use Rattle.dump_changes.specs.steps.FileTexts.{record_texts, told_text};
-ghost use Rattle.dump_changes.specs.steps.StoredTexts.{told_of};
+ghost use Rattle.dump_changes.specs.steps.NodeTexts.{told_of};
 
 use crate::node_text::NodeText;
 use dump_records::{Cut, Cutter, Record};
@@ -24,7 +24,7 @@ pub struct TextTable<'a> {
 impl<'a> Model for TextTable<'a> {
     ghost use Rattle.std.specs.Prelude.{List, map};
     ghost use Rattle.dump_changes.specs.steps.FileTexts.{ToldText};
-    ghost use Rattle.dump_changes.specs.steps.StoredTexts.{told_of};
+    ghost use Rattle.dump_changes.specs.steps.NodeTexts.{told_of};
 
     ghost Value = { List ToldText };
 

@@ -1,5 +1,5 @@
 -- Examples that the right definitions satisfy and wrong ones do not.
-use Rattle.std.proofs.Common.{◌≡◌, ℕ, Bool, true, false, List, [], ◌∷◌, ◌++◌, Some, None, Vec, Global, Bor, codes, map, refl, sym, ap, ◌∙◌}
+use Rattle.std.proofs.Common.{◌≡◌, ℕ, Bool, true, false, List, [], ◌∷◌, ◌++◌, Some, None, Vec, Global, codes, map, option_copied, refl, sym, ap, ◌∙◌}
 use Rattle.dump_text.specs.declared.fault.FaultKind.TheVariants.{HeaderCut}
 use Rattle.dump_records.specs.DumpText.{Ending}
 use Rattle.dump_records.specs.RecordText.{DumpRecord}
@@ -10,7 +10,9 @@ use Rattle.dump_index.specs.declared.change.NodeKind.TheVariants as kinds
 use Rattle.dump_expansion.specs.declared.expanding.Stead as code
 use Rattle.dump_expansion.specs.declared.written_node.NewNode.TheVariants as nodes
 use Rattle.dump_changes.specs.declared.property_edit.NodeProperty.{NodeProperty}
+use Rattle.dump_changes.specs.declared.file_text.FileText.{FileText}
 use Rattle.dump_changes.specs.steps.ChangedProperties.{as_property}
+use Rattle.dump_changes.specs.steps.MadeTexts.{told_of_file}
 use Rattle.dump_expansion.specs.steps.GivenSteads.{GivenStead, steads_in}
 use Rattle.dump_expansion.specs.steps.ExpandedBytes.{IsExactlyExpandedBy, expanded_bytes, first_lfs, unread_bytes}
 use Rattle.dump_expansion.specs.steps.Given.{can_all_be_written, given_of}
@@ -140,9 +142,10 @@ module _ (path source : Vec ℕ Global) (entries : Vec NodeProperty Global) (p :
       ≡ format.WrittenNode.Copy format.NodeKind.Dir 7 source.items path.items
   directory_copied = refl
 
-  file_made : (text md5 : Bor (List ℕ)) → written_of (nodes.File true path entries text (Some md5) None)
-      ≡ format.WrittenNode.File true path.items (map as_property entries.items) text.now (Some md5.now) None
-  file_made text md5 = refl
+  file_made : (text : FileText) → written_of (nodes.File true path entries text)
+      ≡ format.WrittenNode.File true path.items (map as_property entries.items) (told_of_file text).text
+      (option_copied text.md5) (option_copied text.sha1)
+  file_made text = refl
 
   property_set : as_property p ≡ record { name = p.name.now; value = Some p.value.now }
   property_set = refl

@@ -26,7 +26,7 @@ mod expanding;
 pub mod laws;
 mod written_node;
 
-pub use dump_changes::NodeProperty;
+pub use dump_changes::{FileText, NodeProperty, NodeText};
 pub use dump_index::NodeKind;
 pub use dump_rules::Memory;
 pub use expanding::{Stead, can_all_be_written, expanded};

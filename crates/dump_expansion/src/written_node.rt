@@ -10,10 +10,11 @@ ghost use Rattle.dump_records.specs.DumpText.{line_feeds};
 ghost use Rattle.dump_history.specs.WrittenNodes.{WrittenNode, are_plain_entries, can_be_written, is_plain_option, is_plain_path, is_plain_value, is_readable, kind_word, line, line_of_some, making_word};
 ghost use Rattle.dump_history.specs.steps.WrittenNodes.{node_bytes};
 ghost use Rattle.dump_changes.specs.steps.ChangedProperties.{as_property};
+ghost use Rattle.dump_changes.specs.steps.MadeTexts.{told_of_file};
 ghost use Rattle.dump_expansion.specs.steps.NewNodes.{written_kind, written_of};
 ghost use Rattle.dump_expansion.specs.steps.NodeTexts.{file_lines, lfs_after};
 
-use dump_changes::NodeProperty;
+use dump_changes::{FileText, NodeProperty};
 use dump_index::NodeKind;
 use dump_nodes::is_canonical;
 use dump_rules::Memory;
@@ -22,7 +23,7 @@ use std::alloc::Global;
 
 /// A node that is written in place of another. Its paths are written unchanged; the paths of a dump have no leading
 /// slash.
-#[derive(Debug, Drop)]
+#[derive(Drop)]
 pub enum NewNode<'t> {
     /// Deletes what is at the path.
     Deletion {
@@ -42,15 +43,13 @@ pub enum NewNode<'t> {
         path: Vec<u8>,
         entries: Vec<NodeProperty<'t>>,
     },
-    /// Makes a file with these properties and this text, where nothing is or in place of what is there.
+    /// Makes a file with these properties and this text, where nothing is or in place of what is there. The digests of
+    /// the text are written too, if it has some.
     File {
         replaces: bool,
         path: Vec<u8>,
         entries: Vec<NodeProperty<'t>>,
-        text: &'t [u8],
-        /// The digests of the text in hexadecimal, if they are known.
-        md5: Option<&'t [u8]>,
-        sha1: Option<&'t [u8]>,
+        text: FileText<'t>,
     },
 }
 
@@ -122,13 +121,13 @@ fn are_entries_plain(entries: &[NodeProperty<'_>]) -> bool
     are_names_plain(entries) && block_size(entries) < TOO_LONG
 }
 
-/// Whether a file can have these properties and this text, as [`NewNode::can_be_written`] requires.
+/// Whether a file can have these properties and a text of this size, as [`NewNode::can_be_written`] requires.
 #[tactic(auto, using(crate::proofs::NodeLemmas::plain_entries))]
-fn is_content_plain(entries: &[NodeProperty<'_>], text: &[u8]) -> bool
+fn is_content_plain(entries: &[NodeProperty<'_>], text_size: usize) -> bool
     ensures { let ps = map as_property entries.now in
-        result ≡ (are_plain_entries ps && is_readable (length (property_block_text ps) + length text.now)) }
+        result ≡ (are_plain_entries ps && is_readable (length (property_block_text ps) + text_size)) }
 {
-    are_names_plain(entries) && block_size(entries).saturating_add(text.len() as u64) < TOO_LONG
+    are_names_plain(entries) && block_size(entries).saturating_add(text_size as u64) < TOO_LONG
 }
 
 /// Appends a header line.
@@ -249,23 +248,22 @@ fn push_file_lines(
 
 /// Appends a node that makes a file with the properties of this block and this text.
 fn push_file(
+    alloc: Global,
     out: &mut Vec<u8>,
     replaces: bool,
     path: &[u8],
     block: &[u8],
-    text: &[u8],
-    md5: Option<&[u8]>,
-    sha1: Option<&[u8]>,
+    text: &FileText<'_>,
 ) -> Result<(), Memory>
     ensures { (entries : List Property) → block.now ≡ property_block_text entries
-        → OnOk result (out.new.items ≡ out.old.items ++ node_bytes (WrittenNode.File replaces path.now entries text.now
-        (option_copied md5.entry) (option_copied sha1.entry))) }
+        → let its = told_of_file text.now in
+        OnOk result (out.new.items ≡ out.old.items ++ node_bytes (WrittenNode.File replaces path.now entries its.text its.md5 its.sha1)) }
 {
     let block_size = block.len() as u64;
-    let text_size = text.len() as u64;
+    let text_size = text.size() as u64;
     push_file_lines(out, replaces, path, block_size, text_size)?;
-    push_digest(out, HeaderName::TextContentMd5, md5)?;
-    push_digest(out, HeaderName::TextContentSha1, sha1)?;
+    push_digest(out, HeaderName::TextContentMd5, text.md5())?;
+    push_digest(out, HeaderName::TextContentSha1, text.sha1())?;
     push_header(
         out,
         HeaderName::ContentLength.bytes(),
@@ -273,7 +271,8 @@ fn push_file(
     )?;
     out.extend_from_slice(b"\n")?;
     out.extend_from_slice(block)?;
-    Ok(out.extend_from_slice(text)?)
+    text.write(alloc, out)?;
+    Ok(())
 }
 
 impl<'t> NewNode<'t> {
@@ -299,14 +298,12 @@ impl<'t> NewNode<'t> {
                 path,
                 entries,
                 text,
-                md5,
-                sha1,
                 ..
             } => {
                 is_plain_path(path)
-                    && is_content_plain(entries, text)
-                    && is_plain_digest(*md5)
-                    && is_plain_digest(*sha1)
+                    && is_content_plain(entries, text.size())
+                    && is_plain_digest(text.md5())
+                    && is_plain_digest(text.sha1())
             }
         }
     }
@@ -336,11 +333,9 @@ impl<'t> NewNode<'t> {
                 path,
                 entries,
                 text,
-                md5,
-                sha1,
             } => {
                 let block = block_of(alloc, entries)?;
-                push_file(out, *replaces, path, &block, text, *md5, *sha1)
+                push_file(alloc, out, *replaces, path, &block, text)
             }
         }
     }

@@ -3,7 +3,7 @@
 
 use crate::cut::index_of;
 use dump_additions::{Form, Memory, NotAdded, Part, Reason, additions, parts_of};
-use dump_changes::{PropertyTable, TextTable};
+use dump_changes::{Defect, NoText, PropertyTable, TextDefect, TextTable};
 use dump_cut::Excluded;
 use dump_expansion::{can_all_be_written, expanded};
 use dump_index::Source;
@@ -189,7 +189,30 @@ fn added_or_no_memory(rt: HostRuntime) {
     assert!(rt; matches!(answer, Ok(true) | Err(Memory)));
 }
 
-/// A delta of a text, and a copy of the directory that contains the file.
+/// A delta of the file's text, and in the next revision a copy of the file.
+const PATCHED: &str =
+    "Node-path: old/sub/f\nNode-kind: file\nNode-action: change\nText-delta: true\n\
+Text-content-md5: a3227f7e56d728727fe53192222fdbb1\nText-content-length: 13\nContent-length: 13\n\n\
+SVN\0\0\x06\x04\x04\0\x02\x03\x02\0\n\nRevision-number: 4\n\n\
+Node-path: g\nNode-kind: file\nNode-action: add\n\
+Node-copyfrom-rev: 3\nNode-copyfrom-path: old/sub/f\n\n\n";
+
+/// The same if `old` is excluded: the text that the delta makes is written.
+const PATCHED_ADDED: &str =
+    "Node-path: old/sub/f\nNode-kind: file\nNode-action: change\nText-delta: true\n\
+Text-content-md5: a3227f7e56d728727fe53192222fdbb1\nText-content-length: 13\nContent-length: 13\n\n\
+SVN\0\0\x06\x04\x04\0\x02\x03\x02\0\n\nRevision-number: 4\n\n\
+Node-path: g\nNode-kind: file\nNode-action: add\nProp-content-length: 36\nText-content-length: 4\n\
+Text-content-md5: a3227f7e56d728727fe53192222fdbb1\nContent-length: 40\n\n\
+K 14\nsvn:executable\nV 1\n*\nPROPS-END\nlohe\n\n";
+
+#[test]
+fn texts_of_deltas_are_added(rt: HostRuntime) -> Result<(), Fail> {
+    assert!(rt; expands(rt.alloc(), PATCHED, &[b"old"], PATCHED_ADDED)?);
+    Ok(())
+}
+
+/// A delta that can't be read, and a copy of the directory that contains the file.
 const DELTA: &str = "Node-path: old/sub/f\nNode-kind: file\nNode-action: change\nText-delta: true\n\
 Text-content-length: 1\nContent-length: 1\n\nd\n\nRevision-number: 4\n\n\
 Node-path: new\nNode-kind: dir\nNode-action: add\n\
@@ -225,7 +248,13 @@ fn not_added(alloc: Global, node: &str, prefixes: &[&[u8]]) -> Result<Option<Not
 fn why_nothing_is_added(rt: HostRuntime) -> Result<(), Fail> {
     let delta = NotAdded {
         place: 6,
-        reason: Reason::Delta(5),
+        reason: Reason::Text(NoText {
+            place: 5,
+            defect: TextDefect::Delta {
+                defect: Defect::Header,
+                byte: 0,
+            },
+        }),
     };
     assert!(rt; not_added(rt.alloc(), DELTA, &[b"old/sub/f"])? == Some(delta));
     assert!(rt; not_added(rt.alloc(), FILE_DELTA, &[b"old"])? == Some(delta));

@@ -1,7 +1,7 @@
 //! What no contract says: worked dumps, and allocations that fail.
 use dump_changes::{
-    End, Memory, NodeProperty, NodeText, PropertyTable, Reading, StoredText, TextTable,
-    copies_from_gap, properties_at, read_changes, text_at, with_loaded_source,
+    End, Memory, NodeProperty, NodeText, PropertyTable, Reading, TextTable, copies_from_gap,
+    properties_at, read_changes, with_loaded_source,
 };
 use dump_index::{
     ChangeIndex, NodeChange, NodeKind, NodeMade, Setting, Source, ends_in_slash, first_out_of_order,
@@ -280,8 +280,7 @@ fn properties_or_no_memory(rt: HostRuntime) {
     assert!(rt; answered);
 }
 
-/// f gets a text in r1, another one with its digests in r2, and a delta in r3. In r3, copy is copied from f in r2. g
-/// has no text.
+/// f gets a text in r1, and another one with its digests in r2. g has no text.
 const TEXTS: &[u8] = b"SVN-fs-dump-format-version: 3\n\n\
 Revision-number: 0\n\n\
 Revision-number: 1\n\n\
@@ -290,11 +289,7 @@ Node-path: g\nNode-kind: file\nNode-action: add\n\n\n\
 Revision-number: 2\n\n\
 Node-path: f\nNode-kind: file\nNode-action: change\nText-content-length: 6\n\
 Text-content-md5: b1946ac92492d2347c6235b4d2611184\n\
-Text-content-sha1: f572d396fae9206628714fb2ce00f72e94f2258f\nContent-length: 6\n\nhello\n\n\n\
-Revision-number: 3\n\n\
-Node-path: copy\nNode-kind: file\nNode-action: add\nNode-copyfrom-rev: 2\nNode-copyfrom-path: f\n\n\n\
-Node-path: f\nNode-kind: file\nNode-action: change\nText-delta: true\n\
-Text-content-length: 1\nContent-length: 1\n\nd\n\n\n";
+Text-content-sha1: f572d396fae9206628714fb2ce00f72e94f2258f\nContent-length: 6\n\nhello\n\n\n";
 
 const HELLO: NodeText<'static> = NodeText {
     text: b"hello\n",
@@ -315,49 +310,7 @@ fn texts_are_found(rt: HostRuntime) -> Result<(), Fail> {
     let table = TextTable::of(rt.alloc(), TEXTS)?;
     assert!(rt; table.text(3) == Some(text(b"x\n")));
     assert!(rt; table.text(6) == Some(HELLO));
-    assert!(rt; table.text(7) == Some(text(b"")));
-    assert!(rt; table.text(10) == None);
+    assert!(rt; table.text(4) == Some(text(b"")));
+    assert!(rt; table.text(7) == None);
     Ok(())
-}
-
-fn stored<'a>(
-    alloc: Global,
-    dump: &'a [u8],
-    path: &[u8],
-    count: usize,
-) -> Result<Option<StoredText<'a>>, Memory> {
-    let table = TextTable::of(alloc, dump)?;
-    let reading = read_changes(alloc, dump)?;
-    if ends_in_slash(path) || first_out_of_order(&reading.changes).is_some() {
-        return Ok(None);
-    }
-    let index = ChangeIndex::new(alloc, reading.changes)?;
-    Ok(Some(text_at(alloc, &table, &index, path, count)?))
-}
-
-fn is_stored(alloc: Global, path: &[u8], count: usize, wanted: StoredText<'_>) -> bool {
-    match stored(alloc, TEXTS, path, count) {
-        Ok(found) => found == Some(wanted),
-        Err(_) => false,
-    }
-}
-
-#[test]
-fn texts_of_the_past_are_found(rt: HostRuntime) {
-    let alloc = rt.alloc();
-    assert!(rt; is_stored(alloc, b"f", 1, StoredText::Whole(text(b"x\n"))));
-    assert!(rt; is_stored(alloc, b"f", 4, StoredText::Whole(HELLO)));
-    assert!(rt; is_stored(alloc, b"f", 5, StoredText::Delta(4)));
-    assert!(rt; is_stored(alloc, b"copy", 5, StoredText::Whole(HELLO)));
-    assert!(rt; is_stored(alloc, b"g", 5, StoredText::Whole(text(b""))));
-}
-
-/// Run with each allocation failing in turn: the call returns the text, or the error for memory.
-#[test]
-fn texts_or_no_memory(rt: HostRuntime) {
-    let answered = match stored(rt.alloc(), TEXTS, b"copy", 5) {
-        Ok(found) => found == Some(StoredText::Whole(HELLO)),
-        Err(refused) => refused == Memory,
-    };
-    assert!(rt; answered);
 }

@@ -1,6 +1,7 @@
 //! What no contract says: expanded dumps, compared with what the format says about them, and allocations that fail.
 use dump_expansion::{
-    Memory, NewNode, NodeKind, NodeProperty, Stead, can_all_be_written, expanded,
+    FileText, Memory, NewNode, NodeKind, NodeProperty, NodeText, Stead, can_all_be_written,
+    expanded,
 };
 use std::alloc::Global;
 use std::test::Fail;
@@ -98,13 +99,16 @@ fn file(
             value: b"*",
         }],
     )?;
+    let own = NodeText {
+        text: b"hello\n",
+        md5,
+        sha1,
+    };
     Ok(NewNode::File {
         replaces,
         path,
         entries,
-        text: b"hello\n",
-        md5,
-        sha1,
+        text: FileText::whole(alloc, own),
     })
 }
 

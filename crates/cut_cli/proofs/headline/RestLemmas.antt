@@ -22,7 +22,7 @@ use Rattle.cut_cli.specs.Sent.{IsSent}
 use Rattle.cut_cli.specs.Headline.{IsTreeAsAsked, ZeroIsRest}
 use Rattle.cut_cli.specs.Words.{CutMeaning}
 use Rattle.cut_cli.proofs.CutLemmas.{read_numbered}
-use Rattle.cut_cli.proofs.headline.WholeCuts.{whole_cut}
+use Rattle.cut_cli.proofs.headline.WholeCuts.{agrees_if_added, whole_cut}
 use Rattle.cut_cli.proofs.headline.ZeroLemmas.{CleanFiltered, SentClean}
 
 -- what the filter wrote, and the cut of which a part was sent
@@ -76,10 +76,11 @@ zero_is_rest m dump old new apart sends number wet stays after =
       c.whole,
       s.arrived,
       c.part,
-      λ patched records revisions trees has loads.
+      λ patched records revisions trees has loads agrees.
           let is_cut = whole_cut m apart dump c.whole s.expansion s.settings
           (s.cuts records f.again f.filtered c.whole has (read_numbered patched records revisions loads.makes) f.clean f.trims)
-          f.again f.filtered f.clean c.fits patched records revisions trees has loads stays in
+          f.again f.filtered f.clean c.fits patched records revisions trees has loads
+          (agrees_if_added s.expansion patched agrees) stays in
           record {
             is_cut = is_cut;
             parts = λ keeps first is_first. dumps_load_in_parts patched number c.whole first s.sent is_cut.again is_cut.written

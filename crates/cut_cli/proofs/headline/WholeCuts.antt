@@ -27,13 +27,23 @@ use Rattle.dump_history.specs.KeptChanges.{ChangesComeOfKept}
 use Rattle.dump_history.specs.RecordChanges.{Patching}
 use Rattle.dump_history.proofs.cuts.OwnNumbers.{zip_length}
 use Rattle.dump_history.proofs.restricted.LoadsOnce.{later_once, trees_once, whole_records_once}
-use Rattle.cut_cli.specs.steps.Cuts.{CutLoads, ExcludesNamed, IsClosureOf, IsCutAsAsked, IsCutText, text_read}
+use Rattle.dump_changes.specs.TextDeltas.{AgreesWithSvndiff}
+use Rattle.cut_cli.specs.steps.Cuts.{AgreesIfAdded, CutLoads, ExcludesNamed, IsClosureOf, IsCutAsAsked, IsCutText, text_read}
 use Rattle.cut_cli.specs.Headline.{IsCut, IsDroppedCut, IsKept, IsNamed, IsOfKept, IsTreeAsAsked}
 use Rattle.cut_cli.specs.Words.{CutMeaning}
 use Rattle.cut_cli.proofs.headline.CutTrees.{Agrees, covered_named, cut_tree, exclude_agrees, include_agrees, named_covered, zip_where}
 use Rattle.cut_cli.proofs.headline.DroppedCuts.{kept_below, kept_rising, left_of}
 use Rattle.cut_cli.proofs.headline.LengthLemmas.{lengths_fit}
 use Rattle.cut_cli.proofs.headline.LoadLemmas.{changes_named, deltas_apply}
+
+-- a reading that agrees with svndiff does so where texts are written as additions
+pub agrees_if_added : (e : Option (List ℕ)) (patched : Patching) → AgreesWithSvndiff patched → AgreesIfAdded e patched
+agrees_if_added None patched agrees = tt
+agrees_if_added (Some text) patched agrees = agrees
+
+-- any reading does, if none are
+pub none_added : (e : Option (List ℕ)) (patched : Patching) → e ≡ None → AgreesIfAdded e patched
+none_added e patched is = subst (λ o. AgreesIfAdded o patched) (sym is) tt
 
 -- the filter keeps what the call keeps, where something exists
 module _ (m : CutMeaning) (apart : (m.keep && m.follow) ≡ false) (settings : Settings) (records : List DumpRecord)
@@ -68,7 +78,7 @@ module _ (m : CutMeaning) (apart : (m.keep && m.follow) ≡ false) (dump text : 
     (read : List DumpRecord) (filtered : List ℕ) (clean : IsCleanText settings (text_read expansion dump) read filtered)
     (short : length filtered < 10 ^ 18) (patched : Patching) (records : List DumpRecord) (revisions : List (List Change))
     (trees : List Tree) (has : HasRecords dump records Ending.Whole)
-    (loads : LoadsAs patched root_alone records revisions trees) where
+    (loads : LoadsAs patched root_alone records revisions trees) (agrees : AgreesIfAdded expansion patched) where
   records_same : it.records ≡ records
   records_same = whole_records_once dump it.records records it.whole has
 
@@ -84,7 +94,7 @@ module _ (m : CutMeaning) (apart : (m.keep && m.follow) ≡ false) (dump text : 
 
   cut : CutLoads patched m settings it.excluded it.records it.again made text
   unfolding made
-  cut = (it.loads patched).2
+  cut = (it.loads patched).2 agrees
       (subst (λ (rs : List (List Change)). all_apply root_alone (placed_from 1 rs) (length (placed_from 1 rs)) ≡ true)
       (sym revisions_same) (deltas_apply revisions trees loads.loads))
 

@@ -24,7 +24,7 @@ use Rattle.cut_cli.specs.Headline.{ZeroIsCut, ZeroIsDroppedCut, ZeroIsOfKept}
 use Rattle.cut_cli.specs.Words.{CutMeaning, with_texts_of}
 use Rattle.cut_cli.specs.steps.Words.{asked_map, cut_meaning}
 use Rattle.cut_cli.proofs.CutLemmas.{read_numbered}
-use Rattle.cut_cli.proofs.headline.WholeCuts.{dropped_cut, of_kept, whole_cut}
+use Rattle.cut_cli.proofs.headline.WholeCuts.{agrees_if_added, dropped_cut, none_added, of_kept, whole_cut}
 
 pub not_one : (n : ℕ) → n ≡ 0 → n ≡ 1 → ⊥
 not_one n zero one = omega (arith, zero, one)
@@ -210,12 +210,12 @@ zero_is_cut m dump old new apart sends wet stays all =
     (subst (λ a. IsSent s.settings s.deletes a (text_read s.expansion dump) s.sent (Clean s.report)) all s.answered) in (
       s.sent,
       s.arrived,
-      λ short patched records revisions trees has loads.
+      λ short patched records revisions trees has loads agrees.
           whole_cut m apart dump s.sent s.expansion s.settings
           (s.cuts records c.again c.filtered s.sent has (read_numbered patched records revisions loads.makes) c.clean c.trims)
           c.again c.filtered c.clean
           (c.short short)
-          patched records revisions trees has loads stays,
+          patched records revisions trees has loads (agrees_if_added s.expansion patched agrees) stays,
     )
 
 pub zero_is_dropped : (m : CutMeaning) (dump : List ℕ) (old new : Option (List ℕ)) → (m.keep && m.follow) ≡ false
@@ -226,12 +226,12 @@ zero_is_dropped m dump old new apart sends wet drops all =
     (subst (λ a. IsSent s.settings s.deletes a (text_read s.expansion dump) s.sent (Clean s.report)) all s.answered) in (
       s.sent,
       s.arrived,
-      λ short patched records revisions trees has loads.
+      λ short patched records revisions trees has loads agrees.
           dropped_cut m apart dump s.sent s.expansion s.settings
           (s.cuts records c.again c.filtered s.sent has (read_numbered patched records revisions loads.makes) c.clean c.trims)
           c.again c.filtered c.clean
           (c.short short)
-          patched records revisions trees has loads s.preserves drops,
+          patched records revisions trees has loads (agrees_if_added s.expansion patched agrees) s.preserves drops,
     )
 
 pub zero_is_of_kept : (m : CutMeaning) (dump : List ℕ) (old new : Option (List ℕ)) → (m.keep && m.follow) ≡ false
@@ -245,5 +245,6 @@ zero_is_of_kept m dump old new apart sends side unkept wet all =
       λ short patched records revisions trees has loads.
           of_kept m apart dump s.sent s.expansion s.settings
           (s.cuts records c.again c.filtered s.sent has (read_numbered patched records revisions loads.makes) c.clean c.trims)
-          c.again c.filtered c.clean (c.short short) patched records revisions trees has loads (s.plain side unkept) side unkept,
+          c.again c.filtered c.clean (c.short short) patched records revisions trees has loads
+          (none_added s.expansion patched (s.plain side unkept)) (s.plain side unkept) side unkept,
     )

@@ -35,6 +35,7 @@ use Rattle.dump_index.specs.steps.ToldKinds.{kinds_told_by}
 use Rattle.dump_index.specs.declared.change.NodeChange.{NodeChange}
 use Rattle.dump_additions.specs.steps.Additions.{AreAdditionsFrom}
 use Rattle.dump_additions.specs.declared.not_added.NotAdded.{NotAdded}
+use Rattle.dump_changes.specs.TextDeltas.{AgreesWithSvndiff}
 use Rattle.dump_changes.specs.steps.FileTexts.{record_texts}
 use Rattle.dump_changes.specs.ListedDumps.{rise_from}
 use Rattle.dump_changes.specs.steps.ListedDumps.{AreListedIn, are_numbered, without_number}
@@ -311,6 +312,11 @@ pub record CutLoads (patched : Patching) (m : CutMeaning) (settings : Settings) 
   pub renumbered : m.drop ≡ true → LengthsFit settings again
       → LoadsNew patched settings (TreeRestricts settings again) again trees text
 
+-- where texts are written as additions, the reading of text deltas agrees with svndiff
+abbrev pub AgreesIfAdded : Option (List ℕ) → Patching → Type 0
+AgreesIfAdded None patched = ⊤
+AgreesIfAdded (Some text) patched = AgreesWithSvndiff patched
+
 -- the text is the cut of the dump, where text deltas apply, if it has some
 pub record IsCutText (m : CutMeaning) (expansion : Option (List ℕ)) (settings : Settings) (dump text : List ℕ) : Type 0 where
   pub excluded : List NodePath
@@ -321,5 +327,5 @@ pub record IsCutText (m : CutMeaning) (expansion : Option (List ℕ)) (settings 
   pub whole : HasRecords dump records Ending.Whole
   pub whole_again : HasRecords (text_read expansion dump) again Ending.Whole
   pub loads : (patched : Patching) → (revisions : List (List Change)) × MakeRevisions patched records revisions
-      × (IsTrue (all_apply root_alone (placed_from 1 revisions) (length (placed_from 1 revisions)))
+      × (AgreesIfAdded expansion patched → IsTrue (all_apply root_alone (placed_from 1 revisions) (length (placed_from 1 revisions)))
       → CutLoads patched m settings excluded records again revisions text)

@@ -16,6 +16,7 @@ use Rattle.dump_history.specs.RecordChanges.{Patching}
 use Rattle.dump_index.specs.steps.InOrder.{are_in_order}
 use Rattle.dump_index.specs.steps.Listed.{listed_of}
 use Rattle.dump_index.specs.declared.change.NodeChange.{NodeChange}
+use Rattle.dump_changes.specs.TextDeltas.{AgreesWithSvndiff}
 use Rattle.dump_changes.specs.steps.FileTexts.{record_texts}
 use Rattle.dump_changes.specs.steps.ListedDumps.{AreListedIn}
 use Rattle.dump_changes.specs.steps.NodeProperties.{HaveNodeNumbers, property_blocks}
@@ -23,10 +24,12 @@ use Rattle.dump_expansion.specs.steps.GivenSteads.{GivenStead, IsExpandedBy, ste
 use Rattle.dump_additions.specs.steps.Additions.{AreAdditionsFrom}
 
 -- the dump loads into an empty repository, an index lists its changes, and these are in place of those with which something
--- excluded comes back, and before copies over something
+-- excluded comes back, and before copies over something. Texts that deltas make are written in full, so the reading of deltas has
+-- to agree with svndiff
 pub record HasAdditions (patched : Patching) (dump : List ℕ) (records : List DumpRecord) (changes : List NodeChange)
     (revisions : List (List Change)) (trees : List Tree) (excluded : List NodePath) (given : List GivenStead) : Type 0 where
   pub has : HasRecords dump records Ending.Whole
+  pub agrees : AgreesWithSvndiff patched
   pub loads : LoadsAs patched root_alone records revisions trees
   pub listed : AreListedIn records changes
   pub numbers : HaveNodeNumbers records changes

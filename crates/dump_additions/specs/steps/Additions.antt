@@ -15,8 +15,9 @@ use Rattle.dump_index.specs.steps.Listed.{Listed, all_placed}
 use Rattle.dump_index.specs.declared.change.NodeKind.{NodeKind}
 use Rattle.dump_index.specs.declared.change.NodeKind.TheVariants as kinds
 use Rattle.dump_index.specs.declared.change.Setting.TheVariants.{Keeps}
-use Rattle.dump_changes.specs.steps.FileTexts.{IsStoredAt, TextStored, ToldText}
+use Rattle.dump_changes.specs.steps.FileTexts.{ToldText}
 use Rattle.dump_changes.specs.steps.NodeProperties.{ArePropertiesAt}
+use Rattle.dump_changes.specs.steps.PatchedTexts.{IsTextAt}
 use Rattle.dump_expansion.specs.steps.GivenSteads.{GivenStead}
 use Rattle.dump_additions.specs.declared.parts.Form.{Form}
 use Rattle.dump_additions.specs.declared.parts.Form.TheVariants.{Copy, Directory, File}
@@ -54,7 +55,7 @@ IsCleared l g = (w : WrittenNode) × (written_change w ≡ deletion_of (names_of
 module _ (blocks : List (List ℕ)) (texts : List ToldText) (listed : List Listed) (excluded : List NodePath) (number : ℕ)
     (path source : NodePath) where
   -- the node writes what exists at this rest of the source in this form: a directory or a file as it is there in the revision
-  -- of this number, with the digests that the record of the file's text has
+  -- of this number, with the digests that the record which sets the file's text last has
   abbrev pub IsNodeOfForm : Form → NodePath → WrittenNode → Type 0
   IsNodeOfForm Copy rest w = (written_change w ≡ copy_of number (source ++ rest) (path ++ rest))
       × SaysKind (kind_in listed number (source ++ rest)) w
@@ -66,7 +67,7 @@ module _ (blocks : List (List ℕ)) (texts : List ToldText) (listed : List Liste
       × (written_change w ≡ file_of (path ++ rest) entries its.text)
       × (text_said w ≡ Some its)
       × ArePropertiesAt blocks listed text (end_of (all_placed listed) number) entries
-      × IsStoredAt texts listed text (end_of (all_placed listed) number) (TextStored.Whole its)
+      × IsTextAt texts listed text (end_of (all_placed listed) number) its
 
   abbrev pub IsNodeOf : PartMeant → WrittenNode → Type 0
   IsNodeOf part w = IsNodeOfForm part.form part.rest w
@@ -84,7 +85,7 @@ module _ (blocks : List (List ℕ)) (texts : List ToldText) (listed : List Liste
       × (written_change w
       ≡ replacing (is_some (kind_look listed place (names_of l.path))) (directory_of (names_of l.path) own))
   MakesRoot place l own File w = (its : ToldText)
-      × IsStoredAt texts listed l.path (suc place) (TextStored.Whole its)
+      × IsTextAt texts listed l.path (suc place) its
       × (text_said w ≡ Some its)
       × (written_change w
       ≡ replacing (is_some (kind_look listed place (names_of l.path))) (file_of (names_of l.path) own its.text))

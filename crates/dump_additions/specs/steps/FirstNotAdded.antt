@@ -8,35 +8,37 @@ use Rattle.dump_history.specs.WrittenNodes.{can_be_written}
 use Rattle.dump_index.specs.steps.Listed.{Listed, all_placed}
 use Rattle.dump_index.specs.declared.change.NodeKind.TheVariants as kinds
 use Rattle.dump_index.specs.declared.change.Setting.TheVariants.{Keeps}
-use Rattle.dump_changes.specs.steps.FileTexts.{IsStoredAt, TextStored, ToldText}
+use Rattle.dump_changes.specs.steps.FileTexts.{ToldText}
+use Rattle.dump_changes.specs.steps.MadeTexts.{IsNoTextAt}
+use Rattle.dump_changes.specs.declared.no_text.NoText.{NoText}
 use Rattle.dump_expansion.specs.steps.GivenSteads.{GivenStead}
 use Rattle.dump_additions.specs.steps.Additions.{AreAdditionsFrom, BringsNone, IsAddition, IsCleared, copies_over}
 use Rattle.dump_additions.specs.steps.Parts.{ArePartsOf, PartMeant, TakesSomeBack, kind_in}
 use Rattle.dump_additions.specs.declared.not_added.Reason.{Reason}
-use Rattle.dump_additions.specs.declared.not_added.Reason.TheVariants.{Delta, NoLoad, NotWritable}
+use Rattle.dump_additions.specs.declared.not_added.Reason.TheVariants.{Text, NoLoad, NotWritable}
 use Rattle.dump_additions.specs.declared.parts.Form.{Form}
 use Rattle.dump_additions.specs.declared.parts.Form.TheVariants.{File}
 
--- the text of what exists at this rest of the source is stored as a delta, by the change at this place
-abbrev pub IsDeltaIn : List ToldText → List Listed → ℕ → NodePath → NodePath → ℕ → Type 0
-IsDeltaIn texts listed number source rest at = (text : List ℕ) × (names_of text ≡ source ++ rest)
-    × IsStoredAt texts listed text (end_of (all_placed listed) number) (TextStored.Delta at)
+-- the text of what exists at this rest of the source can't be made
+abbrev pub IsNoTextIn : List ToldText → List Listed → ℕ → NodePath → NodePath → NoText → Type 0
+IsNoTextIn texts listed number source rest why = (text : List ℕ) × (names_of text ≡ source ++ rest)
+    × IsNoTextAt texts listed text (end_of (all_placed listed) number) why
 
 module _ (blocks : List (List ℕ)) (texts : List ToldText) (listed : List Listed) (excluded : List NodePath) (number : ℕ)
     (path source : NodePath) where
-  -- one of the parts is a file whose text is stored as a delta by the change at this place
-  abbrev pub HasDelta : List PartMeant → ℕ → Type 0
-  HasDelta parts at = (rest : NodePath) × Contains parts (record { form = File; rest = rest })
-      × IsDeltaIn texts listed number source rest at
+  -- one of the parts is a file whose text can't be made
+  abbrev pub HasNoText : List PartMeant → NoText → Type 0
+  HasNoText parts why = (rest : NodePath) × Contains parts (record { form = File; rest = rest })
+      × IsNoTextIn texts listed number source rest why
 
 module _ (blocks : List (List ℕ)) (texts : List ToldText) (listed : List Listed) (excluded : List NodePath) where
   -- why the copy of this source that the change at this place makes can't be written, where these are its parts
   abbrev pub IsReason : ℕ → Listed → ℕ → NodePath → List PartMeant → Reason → Type 0
-  -- the text of the file that is copied is stored as a delta by the change at this place, or that of a file in the directory
-  IsReason place l number source parts (Delta at) =
+  -- the text of the file that is copied can't be made, or that of a file in the directory
+  IsReason place l number source parts (Text why) =
       (form : Form) × (inside : List PartMeant) × (parts ≡ record { form = form; rest = [] } ∷ inside)
-      × (((form ≡ File) × IsStoredAt texts listed l.path (suc place) (TextStored.Delta at))
-      ⊎ HasDelta blocks texts listed excluded number (names_of l.path) source inside at)
+      × (((form ≡ File) × IsNoTextAt texts listed l.path (suc place) why)
+      ⊎ HasNoText blocks texts listed excluded number (names_of l.path) source inside why)
   -- nothing exists at the source, or a directory does, and is given a text
   IsReason place l number source parts NoLoad =
       (kind_in listed number source ≡ None) ⊎ ((kind_in listed number source ≡ Some kinds.Directory) × (l.text ≢ Keeps))

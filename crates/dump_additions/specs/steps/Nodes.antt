@@ -10,21 +10,23 @@ use Rattle.dump_history.specs.WrittenNodes.{WrittenNode, can_be_written}
 use Rattle.dump_history.specs.steps.WrittenNodes.{written_change}
 use Rattle.dump_index.specs.steps.Listed.{Listed, all_placed}
 use Rattle.dump_index.specs.declared.change.Setting.TheVariants.{Keeps}
-use Rattle.dump_changes.specs.steps.FileTexts.{IsStoredAt, TextStored, ToldText}
+use Rattle.dump_changes.specs.steps.FileTexts.{ToldText}
+use Rattle.dump_changes.specs.steps.MadeTexts.{IsNoTextAt, told_of_file}
 use Rattle.dump_changes.specs.steps.NodeProperties.{ArePropertiesAt}
-use Rattle.dump_changes.specs.declared.node_text.NodeText.{NodeText}
-use Rattle.dump_changes.specs.steps.StoredTexts.{told_of}
+use Rattle.dump_changes.specs.steps.PatchedTexts.{IsTextAt}
+use Rattle.dump_changes.specs.declared.file_text.FileText.{FileText}
+use Rattle.dump_changes.specs.declared.no_text.NoText.{NoText}
 use Rattle.dump_expansion.specs.steps.GivenSteads.{GivenStead}
 use Rattle.dump_expansion.specs.steps.Given.{given_of}
 use Rattle.dump_expansion.specs.steps.NewNodes.{written_of}
 use Rattle.dump_expansion.specs.declared.expanding.Stead as code
 use Rattle.dump_expansion.specs.declared.written_node.NewNode.{NewNode}
 use Rattle.dump_additions.specs.steps.Additions.{AreAdditionsFrom, AreNodesOf, BringsNone, IsAddition, IsCleared, IsNodeOf, IsRootOf, copies_over}
-use Rattle.dump_additions.specs.steps.FirstNotAdded.{CannotBeAdded, CannotStay, HasDelta, IsDeltaIn, IsFirstNotAdded}
+use Rattle.dump_additions.specs.steps.FirstNotAdded.{CannotBeAdded, CannotStay, HasNoText, IsFirstNotAdded, IsNoTextIn}
 use Rattle.dump_additions.specs.steps.Parts.{PartMeant}
 use Rattle.dump_additions.specs.declared.not_added.NotAdded.{NotAdded}
 use Rattle.dump_additions.specs.declared.not_added.Reason.{Reason}
-use Rattle.dump_additions.specs.declared.not_added.Reason.TheVariants.{Delta, NoLoad, NotWritable}
+use Rattle.dump_additions.specs.declared.not_added.Reason.TheVariants.{Text, NoLoad, NotWritable}
 use Rattle.dump_additions.specs.declared.parts.Form.{Form}
 use Rattle.dump_additions.specs.declared.parts.Form.TheVariants.{Directory, File}
 
@@ -36,13 +38,12 @@ IsDirectoryNode blocks listed number path source rest w =
     × ArePropertiesAt blocks listed text (end_of (all_placed listed) number) entries
 
 -- the change at this place, which makes a copy in this form, leaves a file with this text at its path, or copies a
--- directory and sets no text; otherwise the text is stored as a delta, or a text is set on a directory
-abbrev pub IsRootText : List ToldText → List Listed → ℕ → Listed → Form → Result (Option NodeText) Reason → Type 0
+-- directory and sets no text; otherwise the text can't be made, or a text is set on a directory
+abbrev pub IsRootText : List ToldText → List Listed → ℕ → Listed → Form → Result (Option FileText) Reason → Type 0
 IsRootText texts listed place l form (Ok (Some text)) = (form ≡ File)
-    × IsStoredAt texts listed l.path (suc place) (TextStored.Whole (told_of text))
+    × IsTextAt texts listed l.path (suc place) (told_of_file text)
 IsRootText texts listed place l form (Ok None) = (form ≡ Directory) × (l.text ≡ Keeps)
-IsRootText texts listed place l form (Err (Delta at)) = (form ≡ File)
-    × IsStoredAt texts listed l.path (suc place) (TextStored.Delta at)
+IsRootText texts listed place l form (Err (Text why)) = (form ≡ File) × IsNoTextAt texts listed l.path (suc place) why
 IsRootText texts listed place l form (Err NoLoad) = (form ≡ Directory) × (l.text ≢ Keeps)
 IsRootText texts listed place l form (Err NotWritable) = ⊥
 
@@ -53,16 +54,16 @@ given_found (Err not_added) = Err not_added
 
 module _ (blocks : List (List ℕ)) (texts : List ToldText) (listed : List Listed) (excluded : List NodePath) (number : ℕ)
     (path source : NodePath) where
-  -- the node writes the part, or the part is a file whose text is stored as a delta by the change at this place
-  abbrev pub IsNodeOrDelta : PartMeant → Result NewNode ℕ → Type 0
-  IsNodeOrDelta part (Ok node) = IsNodeOf blocks texts listed excluded number path source part (written_of node)
-  IsNodeOrDelta part (Err at) = (part.form ≡ File) × IsDeltaIn texts listed number source part.rest at
+  -- the node writes the part, or the part is a file whose text can't be made
+  abbrev pub IsNodeOrNoText : PartMeant → Result NewNode NoText → Type 0
+  IsNodeOrNoText part (Ok node) = IsNodeOf blocks texts listed excluded number path source part (written_of node)
+  IsNodeOrNoText part (Err why) = (part.form ≡ File) × IsNoTextIn texts listed number source part.rest why
 
-  -- the nodes that write the parts are appended, or one of the parts is a file whose text is stored as a delta
-  abbrev pub AddsNodes : List PartMeant → List WrittenNode → List WrittenNode → Option ℕ → Type 0
+  -- the nodes that write the parts are appended, or one of the parts is a file whose text can't be made
+  abbrev pub AddsNodes : List PartMeant → List WrittenNode → List WrittenNode → Option NoText → Type 0
   AddsNodes parts old new None = (more : List WrittenNode) × (new ≡ old ++ more)
       × AreNodesOf blocks texts listed excluded number path source parts more
-  AddsNodes parts old new (Some at) = HasDelta blocks texts listed excluded number path source parts at
+  AddsNodes parts old new (Some why) = HasNoText blocks texts listed excluded number path source parts why
 
 -- these nodes are for the node with this number; or one of them can't be written
 abbrev pub IsSteadFor : ℕ → List WrittenNode → Bool → Result code.Stead Reason → Type 0

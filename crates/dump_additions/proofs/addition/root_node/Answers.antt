@@ -1,5 +1,5 @@
 use Rattle.std.proofs.Common.{◌≡◌, ◌-◌, suc, is_some, map, arith, refl, ap, ap₂, ◌∙◌, sym, subst}
-use Rattle.std.specs.Prelude.{Ok, option_copied}
+use Rattle.std.specs.Prelude.{Ok}
 use Rattle.std.proofs.lemmas.Bool.{and_parts}
 use Rattle.dump_trees.specs.Paths.{names_of}
 use Rattle.dump_trees.specs.Siblings.{has_node_names}
@@ -8,7 +8,7 @@ use Rattle.dump_history.specs.WrittenNodes.{WrittenNode}
 use Rattle.dump_history.specs.steps.WrittenNodes.{replacing}
 use Rattle.dump_changes.specs.steps.NodeProperties.{ArePropertiesAt}
 use Rattle.dump_changes.specs.steps.ChangedProperties.{as_property}
-use Rattle.dump_changes.specs.steps.StoredTexts.{told_of}
+use Rattle.dump_changes.specs.steps.MadeTexts.{told_of_file}
 use Rattle.dump_cut.proofs.ParentLemmas.{ends_named}
 use Rattle.dump_index.specs.steps.Listed.{listed_of}
 use Rattle.dump_additions.specs.steps.Additions.{MakesRoot}
@@ -28,6 +28,7 @@ returns-in-Some c = λ excluded.
     c.in-Some.is
     (subst (IsRootText c.args.texts.now c.args.index.now (c.args.count - 1) (listed_of c.args.change.now) c.args.form)
     c.in-Ok.is c.in_ok-text.ensures) in
+    let text = told_of_file c.in-Some.text in
     record {
       own = map as_property c.in_ok-entries.entries.items;
       own_are =
@@ -38,11 +39,11 @@ returns-in-Some c = λ excluded.
           subst (λ f. MakesRoot c.args.table.now c.args.texts.now c.args.index.now excluded (c.args.count - 1)
           (listed_of c.args.change.now) (map as_property c.in_ok-entries.entries.items) f
           (WrittenNode.File c.is_some-replaces.result c.in_ok-path.path.items (map as_property c.in_ok-entries.entries.items)
-          c.in-Some.own.text.now (option_copied c.in-Some.own.md5) (option_copied c.in-Some.own.sha1))) (sym its.0) (
-            told_of c.in-Some.own,
+          text.text text.md5 text.sha1)) (sym its.0) (
+            text,
             its.1,
             refl,
-            ap₂ (λ b p. replacing b (file_of p (map as_property c.in_ok-entries.entries.items) c.in-Some.own.text.now))
+            ap₂ (λ b p. replacing b (file_of p (map as_property c.in_ok-entries.entries.items) text.text))
                 (c.is_some-replaces.ensures ∙ ap is_some c.in_ok-kind_at.ensures)
                 (named_bare c.in_ok-path.path.items
                 (ap (λ t. has_node_names (names_of t)) c.in_ok-path.ensures.items

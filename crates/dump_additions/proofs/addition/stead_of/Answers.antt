@@ -19,10 +19,10 @@ pub returns-in-Some : goal.returns-in-Some
 returns-in-Some c = λ excluded are.
     inside_refused c.args.table.now c.args.texts.now c.args.index.now excluded (c.args.count - 1) (listed_of c.args.change.now)
     c.args.source.revision (names_of c.args.source.path.now) (ap (option_map listed_made) c.requires.copies) c.args.form
-    (map part_meant c.args.inside.now) are c.in-Some.place
+    (map part_meant c.args.inside.now) are c.in-Some.no_text
     (subst (AddsNodes c.args.table.now c.args.texts.now c.args.index.now excluded c.args.source.revision
     (names_of c.args.change.now.path.now) (names_of c.args.source.path.now) (map part_meant c.args.inside.now)
-    (map written_of c.push.new.self.items) (map written_of c.push_nodes.new.nodes.items)) c.in-Some.is (c.in_ok-place.ensures excluded))
+    (map written_of c.push.new.self.items) (map written_of c.push_nodes.new.nodes.items)) c.in-Some.is (c.in_ok-no_text.ensures excluded))
 
 pub returns : goal.returns
 returns c = λ excluded are.
@@ -39,6 +39,6 @@ returns c = λ excluded are.
     (ap (map written_of) (c.in_ok-push-in-Ok.ensures.items ∙ ap (λ ns. ns ++ c.in-Ok.root ∷ []) c.new-nodes.ensures.items))
     (all_added c.args.table.now c.args.texts.now c.args.index.now excluded c.args.source.revision
     (names_of c.args.change.now.path.now) (names_of c.args.source.path.now) (map part_meant c.args.inside.now)
-    (map written_of c.push.new.self.items) (map written_of c.push_nodes.new.nodes.items) c.in_ok-place.field-0
-    c.in_default.not-Some (c.in_ok-place.ensures excluded)))
+    (map written_of c.push.new.self.items) (map written_of c.push_nodes.new.nodes.items) c.in_ok-no_text.field-0
+    c.in_default.not-Some (c.in_ok-no_text.ensures excluded)))
     c.stead_for.result c.stead_for.ensures

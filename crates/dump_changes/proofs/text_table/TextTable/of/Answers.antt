@@ -1,7 +1,7 @@
 use Rattle.std.proofs.Common.{subst, arith}
 use Rattle.dump_records.specs.declared.cutter.Cut.{Cut}
 use Rattle.dump_changes.specs.steps.FileTexts.{told_text}
-use Rattle.dump_changes.specs.steps.StoredTexts.{told_of}
+use Rattle.dump_changes.specs.steps.NodeTexts.{told_of}
 use Rattle.dump_records.proofs.CutterLemmas.{read_nearer}
 use Rattle.dump_changes.proofs.Prelude.{CutStep}
 use Rattle.dump_changes.proofs.TableLemmas.{all_parts, no_parts, one_more_part}

@@ -1,6 +1,6 @@
 use Rattle.std.proofs.Common.{◌-◌, length}
 use Rattle.dump_changes.specs.steps.FileTexts.{told_text}
-use Rattle.dump_changes.specs.steps.StoredTexts.{told_of}
+use Rattle.dump_changes.specs.steps.NodeTexts.{told_of}
 use Rattle.dump_changes.proofs.TableLemmas.{PartsSoFar}
 use Rattle.dump_changes.proofs.text_table.TextTable.of.Given as goal
 
