@@ -6,7 +6,7 @@
 SEED is 1 if none is given; another one makes other repositories. The words after it say which of the two parts below
 are run; both are run if none is given. Repositories are made by svnmucc and svn: copies, renames of projects and of the
 directories above them, replaced and deleted directories, properties, branches and merges. Each is dumped, without deltas
-and with them.
+and with them; for svndumpcut also by svnrdump, whose dumps have deltas alone.
 
 filter: each dump is surveyed and filtered by many sets of prefixes and options. The output is loaded by svnadmin over the
 directories that the survey lists, made in revision 1 in the order of its lines. Then the tree at each number is compared
@@ -50,7 +50,7 @@ import tempfile
 sys.path.insert(0, os.path.join(os.path.dirname(__file__), "..", "tools"))
 from repository import ended, lacking, path as path_to, programs
 
-TOOLS = ("svn", "svnadmin", "svnlook", "svnmucc")
+TOOLS = ("svn", "svnadmin", "svnlook", "svnmucc", "svnrdump")
 SECONDS = 120
 # on a disk a load waits for it more than a second
 MEMORY = "/dev/shm" if os.access("/dev/shm", os.W_OK) else None
@@ -117,9 +117,6 @@ WRITTEN_COUNT = re.compile(
 )
 KEPT_COUNT = re.compile(rb"^copies bring excluded content back, in ([\d,]+) places? \(--keep-copies\)$", re.MULTILINE)
 PARENTS_COUNT = re.compile(rb"^copies of parents of prefixes that are written as additions: ([\d,]+)$", re.MULTILINE)
-NEEDED_DELTA = re.compile(
-    rb"^svndumpcut: r\d+: /.*: stored as a delta and needed in full: .* \(fault 32, record \d+, byte \d+\)$", re.MULTILINE
-)
 # that later copies change what is cut up to a revision
 DIFFERING = re.compile(
     rb"^svndumpcut: nothing written: --follow-copies now cuts what exists up to r(\d+) differently, at ([\d,]+) paths?: "
@@ -555,8 +552,8 @@ class Excluded(Call):
         everything = (it for _, some in history.copies for it in some)
         return [it for it in everything if self.keeps(it.target) and not self.keeps(it.source)]
 
-    def status(self, history, dump):
-        """The status of a call. The dump does not matter here."""
+    def status(self, history):
+        """The status of a call."""
         return 3 if self.back(history) else 0
 
     def own_life(self, history, path):
@@ -593,8 +590,9 @@ class Excluded(Call):
 class Kept(Excluded):
     """Paths that svndumpcut excludes with --keep-copies."""
 
-    def status(self, history, dump):
-        return status_of_additions(self, history, dump)
+    def status(self, history):
+        """What comes back is written as additions, also if the dump has deltas of its texts."""
+        return 0
 
 
 class Included(Excluded):
@@ -612,8 +610,9 @@ class Included(Excluded):
         bare = path.removeprefix(b"/")
         return self.covers(bare) or self.is_above(bare)
 
-    def status(self, history, dump):
-        return status_of_additions(self, history, dump)
+    def status(self, history):
+        """What comes back is written as additions, also if the dump has deltas of its texts."""
+        return 0
 
     def followed(self, history):
         """With the sources of what copies bring to included paths, and their sources."""
@@ -624,12 +623,6 @@ class Included(Excluded):
             found.paths.update(it.source for it in more)
             more = [it for it in everything if found.covers(it.target) and not found.covers(it.source)]
         return found
-
-
-def status_of_additions(own, history, dump):
-    """What comes back is written as additions, unless a text of it is only there as a delta, as each is in version 3."""
-    is_file = any(history.trees[it.number][it.source].text is not None for it in own.back(history))
-    return 1 if is_file and dump.startswith(b"SVN-fs-dump-format-version: 3") else 0
 
 
 def mergeinfo(value):
@@ -852,7 +845,7 @@ class Cut(Trial):
 
     def wrong(self, answer, named, meant):
         """What is wrong with an answer to a call with some paths, if these are meant to be excluded or included."""
-        status = meant.status(self.original, self.dump)
+        status = meant.status(self.original)
         warnings = [found for it in (OWN_LIFE, FILE_PARENT, EMPTY_END) for found in it.findall(answer.stderr)]
         if answer.returncode != status or answer.stderr.count(b"warning") != len(warnings):
             return f"the status is {answer.returncode}, and {status} is meant: {answer.stderr.decode()}"
@@ -860,7 +853,7 @@ class Cut(Trial):
             return f"something is written with status {status}"
         why = self.wrong_added(answer.stderr, named, meant)
         if why or status:
-            return why or (self.wrong_back(answer.stderr, meant) if status == 3 else self.wrong_delta(answer.stderr))
+            return why or self.wrong_back(answer.stderr, meant)
         if meant.back(self.original):
             return self.wrong_written(answer.stderr, meant) or self.wrong_output(answer, meant)
         return self.wrong_deleted(answer, meant) or self.wrong_output(answer, meant)
@@ -900,13 +893,6 @@ class Cut(Trial):
         if why or left:
             return why or f"{left} are brought back, and only {places} are listed"
         self.verdicts.append("not cut, since copies bring content back")
-        return None
-
-    def wrong_delta(self, told):
-        """Where a text is only there as a delta, this has to be the fault."""
-        if not NEEDED_DELTA.search(told):
-            return f"a text is needed in full: {told.decode()}"
-        self.verdicts.append("not cut, since a text is needed in full")
         return None
 
     def wrong_written(self, told, meant):
@@ -1114,7 +1100,7 @@ class CutIncluded(Cut):
     def wrong_others(self, told, meant):
         """No path is listed as excluded that is meant to be kept, and each other one is at or below a listed one."""
         others = OTHERS.search(told)
-        if b"nothing written" in told or NEEDED_DELTA.search(told):
+        if b"nothing written" in told:
             return None
         paths = [it[3:] for it in others[2].splitlines()] if others else []
         if others and int(others[1].replace(b",", b"")) != len(paths) or any(map(meant.keeps, paths)):
@@ -1153,13 +1139,10 @@ class CutOther(Trial):
         meant = named(canonical(path) for path in self.words[1:] if path[0] != "-")
         if "--follow-copies" in self.words:
             meant = meant.followed(original)
-        status = meant.status(original, self.dump)
-        # the first revision of a part has whole texts, so the needed ones may be there
-        if it.returncode not in ({0, status} if status == 1 else {status}) or it.returncode and it.stdout:
+        status = meant.status(original)
+        if it.returncode != status or it.returncode and it.stdout:
             return f"the status is {it.returncode}, and {status} is meant, with {len(it.stdout)} bytes"
         if it.returncode:
-            if status == 1 and not NEEDED_DELTA.search(it.stderr):
-                return "a text is needed in full, and this is not the fault"
             self.verdicts.append("not cut, since copies of another dump bring content back")
             return None
         os.mkdir(folder)
@@ -1246,6 +1229,7 @@ def make_runs(number, seed, folder, tried):
     original.validate()
     plain = call("svnadmin", "dump", "-q", life.path)
     deltas = call("svnadmin", "dump", "-q", "--deltas", life.path)
+    remote = call("svnrdump", "dump", "-q", life.url)
     name, dumps, runs = f"{seed}-{number}", [plain, plain, deltas], []
     if "filter" in tried:
         for place in range(RUNS):
@@ -1254,7 +1238,7 @@ def make_runs(number, seed, folder, tried):
             runs.append(Run(f"{name}-{place}", original, chance.choice(dumps), words, place % 10 == 0))
         runs += part_runs(name, life, own, chance)
     if "cut" in tried:
-        runs += cut_runs(f"{name}-cut", original, dumps, random.Random(f"{name} cut"))
+        runs += cut_runs(f"{name}-cut", original, [plain, deltas, remote], random.Random(f"{name} cut"))
     return runs
 
 
