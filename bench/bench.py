@@ -54,6 +54,17 @@ CUTS = [
             "include tags/tag1 tags/tag500",
         ],
     ),
+    # the tag's files are written with their texts, each once whole in the dump, and once as a trail of deltas
+    (
+        "a tag of 2,000 files of 20 KB",
+        ["--revisions", "5000", "--nodes", "0", "--tagged", "2000", "--tags", "50", "--size", "20000"],
+        ["include tags/tag25", "include tags/tag50"],
+    ),
+    (
+        "the same with deltas",
+        ["--revisions", "5000", "--nodes", "0", "--tagged", "2000", "--tags", "50", "--size", "20000", "--deltas"],
+        ["include tags/tag25", "include tags/tag50"],
+    ),
     ("ten names in a directory", ["--revisions", "100000", "--nodes", "0", "--beside", "10"], ["include beside/name7"]),
     (
         "ten thousand names in a directory",
