@@ -1008,8 +1008,9 @@ class Cut(Trial):
         places = [place for place, _ in revisions] + [len(whole)]
         first, part = whole[: places[number + 1]], whole[: places[0]] + whole[places[number + 1] :]
         given = [place for place, it in placed_records(self.dump) if b"Revision-number" in it.headers] + [len(self.dump)]
-        before = ran(built["cut"], *self.words, given=self.dump[: given[number + 1]])
-        it = ran(built["cut"], *self.words, "--after", str(number), given=self.dump)
+        before = ran(built["cut"], *self.words, "--allow-missing", given=self.dump[: given[number + 1]])
+        youngest = ["--youngest", str(numbers[-1])]
+        it = ran(built["cut"], *self.words, "--after", str(number), *youngest, given=self.dump)
         if it.returncode == 3 and "--follow-copies" in self.words:
             return self.wrong_differing(it, number, self.dump[: given[number + 1]], before.stdout == first)
         if before.returncode or before.stdout != first:
@@ -1268,14 +1269,14 @@ def cut_runs(name, original, dumps, chance):
             runs.append(kind(f"{name}-{kind.side}-{place}", original, chance.choice(dumps), given, place))
     for place, dump in enumerate([*parts_of(original, chance), *dumps_with_gaps(original, dumps, chance)]):
         side = chance.choice(["exclude", "include"])
-        words = [side, *chance.choice([[], ["--follow-copies"]]), *cut_prefixes(original, chance)]
+        words = [side, "--allow-missing", *chance.choice([[], ["--follow-copies"]]), *cut_prefixes(original, chance)]
         runs.append(CutOther(f"{name}-other-{place}", original, dump, words))
     for place, (dump, copy) in enumerate(dumps_copied_over(dumps, chance)):
         near = [os.path.dirname(copy.target).decode() or "/", copy.source.decode()]
         words = chance.choice([["include", *near], ["include", *near], ["exclude", *cut_prefixes(original, chance)]])
         runs.append(CutOther(f"{name}-over-{place}", original, dump, words))
-    for place, (dump, is_reported) in enumerate(spoiled_dumps(dumps, chance)):
-        words = [chance.choice(["exclude", "include"]), "--quiet", *cut_prefixes(original, chance)]
+    for place, (dump, options, is_reported) in enumerate(spoiled_dumps(dumps, chance)):
+        words = [chance.choice(["exclude", "include"]), "--quiet", *options, *cut_prefixes(original, chance)]
         runs.append(CutSpoiled(f"{name}-spoiled-{place}", dump, words, is_reported))
     return runs
 
@@ -1313,7 +1314,9 @@ def dumps_copied_over(dumps, chance):
 
 
 def spoiled_dumps(dumps, chance):
-    """Dumps that end early, that lack revisions and that have some twice, each with what says whether this is reported."""
+    """Dumps that end early, that lack revisions and that have some twice, each with options and with what says whether this is
+    reported."""
+    missing = ["--allow-missing"]
     for _ in range(CUT_SPOILED):
         dump = chance.choice(dumps)
         placed = list(placed_records(dump))
@@ -1322,15 +1325,23 @@ def spoiled_dumps(dumps, chance):
         first = chance.randrange(1, len(numbers) - 1)
         last = chance.randrange(first, len(numbers) - 1)
         behind = min((place for place, _ in placed if place > places[first]), default=len(dump))
-        yield dump[:behind], functools.partial(ends_with, numbers[first])
+        yield dump[:behind], missing, functools.partial(ends_with, numbers[first])
+        early, youngest = dump[: places[first]], numbers[-1]
+        yield early, ["--youngest", str(youngest)], functools.partial(ends_before, numbers[first - 1], youngest)
         lacking_some = dump[: places[first]] + dump[places[last + 1] :]
-        yield lacking_some, functools.partial(are_gaps_reported, lacking_some)
-        yield dump + dump[places[first] :], lambda it: it.returncode == 1 and DISORDER.search(it.stderr)
+        yield lacking_some, missing, functools.partial(are_gaps_reported, lacking_some)
+        yield dump + dump[places[first] :], missing, lambda it: it.returncode == 1 and DISORDER.search(it.stderr)
 
 
 def ends_with(number, answer):
     """Whether it is reported that a dump ends with this revision, which is empty."""
     return EMPTY_END.findall(answer.stderr) == [b"%d" % number]
+
+
+def ends_before(number, youngest, answer):
+    """Whether a dump that ends with this revision is not cut, since another one is meant to be the youngest."""
+    said = b"svndumpcut: the dump ends at r%d, and --youngest is %d: it is not whole\n" % (number, youngest)
+    return answer.returncode == 1 and answer.stderr == said
 
 
 def are_gaps_reported(dump, answer):

@@ -19,7 +19,7 @@ unfolding clap_on_literals
 free = refl
 
 each_simple : Each (λ r. r.is_simple ≡ true) cut_command.top.rules
-each_simple = (refl, (refl, (refl, (refl, (refl, (refl, (refl, (refl, (refl, (refl, (refl, (refl, tt))))))))))))
+each_simple = (refl, (refl, (refl, (refl, (refl, (refl, (refl, (refl, (refl, (refl, (refl, (refl, (refl, (refl, tt))))))))))))))
 
 has_workers : HasNumber (codes "workers") 64 cut_command.top.rules
 has_workers = record { each = (is_numbered (codes "workers") 64 (codes "4"), tt); there = refl }

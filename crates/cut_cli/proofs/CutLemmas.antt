@@ -449,7 +449,9 @@ module _ (m : CutMeaning) (dump : List ℕ) (old map_old : Option (List ℕ)) wh
   pub stops_at : (obstacle : Obstacle) → IsObstacleTo m dump obstacle
       → CutsDump m dump old old map_old map_old (obstacle_status obstacle)
   stops_at obstacles.ComesBack is = ends_unwritten 3 (inr (refl, inl is))
-  stops_at obstacles.CutsOtherwise is = ends_unwritten 3 (inr (refl, inr is))
+  stops_at obstacles.CutsOtherwise is = ends_unwritten 3 (inr (refl, inr (inl is)))
+  stops_at obstacles.Missing is = ends_unwritten 3 (inr (refl, inr (inr is)))
+  stops_at obstacles.EndsElsewhere is = has_no_memory
   stops_at (obstacles.Unread reason) is = has_no_memory
   stops_at (obstacles.Rejected rejected) is = has_no_memory
   stops_at (obstacles.NoPart why) is = has_no_memory

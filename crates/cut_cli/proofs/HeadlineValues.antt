@@ -31,23 +31,10 @@ use Rattle.svndiff.specs.Svndiff.{patch}
 use Rattle.dump_changes.specs.TextDeltas.{AgreesWithSvndiff}
 use Rattle.cut_cli.specs.Headline.{IfLoads, IfLoadsBySvndiff, IsCut, IsCutTree, IsDroppedCut, IsKept, IsNamed, IsOfKept, IsRestOfCut, IsSameNode, IsSameProperty, IsTreeAsAsked, ZeroIsCut, ZeroIsDroppedCut, ZeroIsOfKept, ZeroIsRest, ZeroPromises}
 use Rattle.cut_cli.specs.Words.{CutMeaning}
+use Rattle.cut_cli.proofs.PlainCall.{plain_call}
 
 abbrev call : Side → (follow : Bool) → List ℕ → CutMeaning
-call side follow prefix = record {
-  side = side;
-  prefixes = prefix ∷ [];
-  targets = [];
-  map_name = None;
-  follow = follow;
-  keep = false;
-  drop = false;
-  after = None;
-  dry_run = false;
-  quiet = false;
-  verbose = false;
-  workers = 4;
-  window = 64;
-}
+call side follow prefix = record (plain_call side (prefix ∷ [])) { follow = follow }
 
 abbrev without_other : CutMeaning
 without_other = call Exclude false (codes "other")

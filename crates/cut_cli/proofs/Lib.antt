@@ -6,5 +6,6 @@ pub mod ExamineLemmas
 pub mod FrontLemmas
 mod HeadlineValues
 pub mod MapLemmas
+mod PlainCall
 pub mod headline
 mod Values

@@ -22,13 +22,14 @@ use Rattle.cut_cli.specs.steps.RevisionMap.{TakesPartOfMap}
 use Rattle.cut_cli.specs.Texts.{info_text}
 use Rattle.cut_cli.specs.Words.{CutMeaning, cut_of_words, with_texts_of}
 use Rattle.cut_cli.specs.steps.Words.{TellsCut, asked_map}
-use Rattle.cut_cli.specs.declared.examine.Obstacle.TheVariants.{ComesBack, NoPart, OddDelete}
+use Rattle.cut_cli.specs.declared.examine.Obstacle.TheVariants.{ComesBack, EndsElsewhere, Missing, NoPart, OddDelete}
+use Rattle.cut_cli.proofs.PlainCall.{plain_call}
 
 -- CommandLine
 
--- eleven options, and the prefixes
-twelve_rules : length cut_command.top.rules ≡ 12
-twelve_rules = refl
+-- thirteen options, and the prefixes
+fourteen_rules : length cut_command.top.rules ≡ 14
+fourteen_rules = refl
 
 no_sides : cut_command.subs ≡ []
 no_sides = refl
@@ -40,98 +41,28 @@ given words = codes "p" ∷ codes "exclude" ∷ words
 
 -- an option after a prefix is read, and one after the two minus signs is a prefix
 around : cut_of_words (given (codes "a" ∷ codes "--follow-copies" ∷ codes "--quiet" ∷ codes "--" ∷ codes "--x" ∷ []))
-    ≡ Ok (record {
-      side = Exclude;
-      prefixes = codes "a" ∷ codes "--x" ∷ [];
-      targets = [];
-      map_name = None;
-      follow = true;
-      keep = false;
-      drop = false;
-      after = None;
-      dry_run = false;
-      quiet = true;
-      verbose = false;
-      workers = 4;
-      window = 64;
-    })
+    ≡ Ok (record (plain_call Exclude (codes "a" ∷ codes "--x" ∷ [])) { follow = true; quiet = true })
 unfolding clap_on_literals
 around = refl
 
 others : cut_of_words (codes "p" ∷ codes "include" ∷ codes "--verbose" ∷ codes "--dry-run" ∷ codes "--drop-empty-revs"
     ∷ codes "/" ∷ [])
-    ≡ Ok (record {
-      side = Include;
-      prefixes = codes "/" ∷ [];
-      targets = [];
-      map_name = None;
-      follow = false;
-      keep = false;
-      drop = true;
-      after = None;
-      dry_run = true;
-      quiet = false;
-      verbose = true;
-      workers = 4;
-      window = 64;
-    })
+    ≡ Ok (record (plain_call Include (codes "/" ∷ [])) { drop = true; dry_run = true; verbose = true })
 unfolding clap_on_literals
 others = refl
 
 plan : cut_of_words (given (codes "--workers" ∷ codes "2" ∷ codes "a" ∷ codes "--window=300" ∷ []))
-    ≡ Ok (record {
-      side = Exclude;
-      prefixes = codes "a" ∷ [];
-      targets = [];
-      map_name = None;
-      follow = false;
-      keep = false;
-      drop = false;
-      after = None;
-      dry_run = false;
-      quiet = false;
-      verbose = false;
-      workers = 2;
-      window = 300;
-    })
+    ≡ Ok (record (plain_call Exclude (codes "a" ∷ [])) { workers = 2; window = 300 })
 unfolding clap_on_literals
 plan = refl
 
 files : cut_of_words (given (codes "--targets" ∷ codes "f" ∷ codes "--targets=g" ∷ []))
-    ≡ Ok (record {
-      side = Exclude;
-      prefixes = [];
-      targets = codes "f" ∷ codes "g" ∷ [];
-      map_name = None;
-      follow = false;
-      keep = false;
-      drop = false;
-      after = None;
-      dry_run = false;
-      quiet = false;
-      verbose = false;
-      workers = 4;
-      window = 64;
-    })
+    ≡ Ok (record (plain_call Exclude []) { targets = codes "f" ∷ codes "g" ∷ [] })
 unfolding clap_on_literals
 files = refl
 
 mapped : cut_of_words (given (codes "a" ∷ codes "--map" ∷ codes "m" ∷ codes "--dry-run" ∷ []))
-    ≡ Ok (record {
-      side = Exclude;
-      prefixes = codes "a" ∷ [];
-      targets = [];
-      map_name = Some (codes "m");
-      follow = false;
-      keep = false;
-      drop = false;
-      after = None;
-      dry_run = true;
-      quiet = false;
-      verbose = false;
-      workers = 4;
-      window = 64;
-    })
+    ≡ Ok (record (plain_call Exclude (codes "a" ∷ [])) { map_name = Some (codes "m"); dry_run = true })
 unfolding clap_on_literals
 mapped = refl
 
@@ -160,21 +91,7 @@ unfolding clap_on_literals
 quiet_and_verbose = refl
 
 keeping : cut_of_words (given (codes "--keep-copies" ∷ codes "a" ∷ []))
-    ≡ Ok (record {
-      side = Exclude;
-      prefixes = codes "a" ∷ [];
-      targets = [];
-      map_name = None;
-      follow = false;
-      keep = true;
-      drop = false;
-      after = None;
-      dry_run = false;
-      quiet = false;
-      verbose = false;
-      workers = 4;
-      window = 64;
-    })
+    ≡ Ok (record (plain_call Exclude (codes "a" ∷ [])) { keep = true })
 unfolding clap_on_literals
 keeping = refl
 
@@ -187,40 +104,12 @@ unfolding clap_on_literals
 keeping_under_include = refl
 
 after_a_revision : cut_of_words (given (codes "--after" ∷ codes "005" ∷ codes "a" ∷ []))
-    ≡ Ok (record {
-      side = Exclude;
-      prefixes = codes "a" ∷ [];
-      targets = [];
-      map_name = None;
-      follow = false;
-      keep = false;
-      drop = false;
-      after = Some 5;
-      dry_run = false;
-      quiet = false;
-      verbose = false;
-      workers = 4;
-      window = 64;
-    })
+    ≡ Ok (record (plain_call Exclude (codes "a" ∷ [])) { after = Some 5 })
 unfolding clap_on_literals
 after_a_revision = refl
 
 after_and_following : cut_of_words (given (codes "--after=5" ∷ codes "--follow-copies" ∷ codes "a" ∷ []))
-    ≡ Ok (record {
-      side = Exclude;
-      prefixes = codes "a" ∷ [];
-      targets = [];
-      map_name = None;
-      follow = true;
-      keep = false;
-      drop = false;
-      after = Some 5;
-      dry_run = false;
-      quiet = false;
-      verbose = false;
-      workers = 4;
-      window = 64;
-    })
+    ≡ Ok (record (plain_call Exclude (codes "a" ∷ [])) { follow = true; after = Some 5 })
 unfolding clap_on_literals
 after_and_following = refl
 
@@ -232,6 +121,20 @@ after_and_dropping : cut_of_words (given (codes "--after=5" ∷ codes "--drop-em
 unfolding clap_on_literals
 after_and_dropping = refl
 
+youngest_and_missing : cut_of_words (given (codes "--allow-missing" ∷ codes "--youngest=7" ∷ codes "a" ∷ []))
+    ≡ Ok (record (plain_call Exclude (codes "a" ∷ [])) { youngest = Some 7; allow_missing = true })
+unfolding clap_on_literals
+youngest_and_missing = refl
+
+youngest_is_a_name : cut_of_words (given (codes "--youngest" ∷ codes "HEAD" ∷ codes "a" ∷ [])) ≡ Err Words
+unfolding clap_on_literals
+youngest_is_a_name = refl
+
+youngest_and_after : cut_of_words (given (codes "--youngest=7" ∷ codes "--after=5" ∷ codes "a" ∷ []))
+    ≡ Ok (record (plain_call Exclude (codes "a" ∷ [])) { after = Some 5; youngest = Some 7 })
+unfolding clap_on_literals
+youngest_and_after = refl
+
 options_of_the_filter : cut_of_words (given (codes "--renumber-revs" ∷ codes "a" ∷ [])) ≡ Err Words
 unfolding clap_on_literals
 options_of_the_filter = refl
@@ -240,21 +143,7 @@ refused_for_others : ¬ TellsCut (Err BothDrops) (Err Words)
 refused_for_others e = cc
 
 abbrev meaning : List Text → CutMeaning
-meaning prefixes = record {
-  side = Include;
-  prefixes = prefixes;
-  targets = codes "f" ∷ [];
-  map_name = None;
-  follow = false;
-  keep = false;
-  drop = false;
-  after = None;
-  dry_run = false;
-  quiet = false;
-  verbose = false;
-  workers = 4;
-  window = 64;
-}
+meaning prefixes = record (plain_call Include prefixes) { targets = codes "f" ∷ [] }
 
 trial : asked_map (record (meaning []) { map_name = Some (codes "m"); dry_run = true }) ≡ None
 trial = refl
@@ -288,6 +177,12 @@ same_line = refl
 
 returns_have_a_status : obstacle_status ComesBack ≡ 3
 returns_have_a_status = refl
+
+missing_prefixes_have_it_too : obstacle_status Missing ≡ 3
+missing_prefixes_have_it_too = refl
+
+another_end_has_one : obstacle_status EndsElsewhere ≡ 1
+another_end_has_one = refl
 
 others_have_one : obstacle_status (OddDelete 3) ≡ 1
 others_have_one = refl

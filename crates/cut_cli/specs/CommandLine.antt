@@ -13,4 +13,5 @@ cut_command =
     let said = with_rule (with_rule dry (switch (codes "quiet"))) (switch (codes "verbose")) in
     let plan = with_rule (with_rule said (number (codes "workers") 64 (codes "4"))) (number (codes "window") 4096 (codes "64")) in
     let files = with_rule (with_rule plan (repeated (codes "targets"))) (valued (codes "map")) in
-    with_rule (with_rule files (valued (codes "after"))) any_prefixes
+    let revisions = with_rule (with_rule files (valued (codes "after"))) (valued (codes "youngest")) in
+    with_rule (with_rule revisions (switch (codes "allow-missing"))) any_prefixes

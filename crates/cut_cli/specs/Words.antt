@@ -15,7 +15,8 @@ use Rattle.cut_cli.specs.CommandLine.{cut_command}
 
 -- what a call asks for: a side, prefixes, files with more of them, the file of a map of revisions, whether copies are
 -- followed, whether what copies bring back is kept, whether emptied revisions are dropped, the revision after which the cut is
--- written, whether nothing is written, what is reported, how many workers there are, and how wide their window is
+-- written, the one that has to be the dump's last, whether prefixes may be missing in the dump, whether nothing is written, what is
+-- reported, how many workers there are, and how wide their window is
 pub record CutMeaning : Type 0 where
   pub side : Side
   pub prefixes : List Text
@@ -25,6 +26,8 @@ pub record CutMeaning : Type 0 where
   pub keep : Bool
   pub drop : Bool
   pub after : Option ℕ
+  pub youngest : Option ℕ
+  pub allow_missing : Bool
   pub dry_run : Bool
   pub quiet : Bool
   pub verbose : Bool
@@ -44,22 +47,24 @@ abbrev pub keeps_wrongly : Side → (keep follow : Bool) → Bool
 keeps_wrongly Include keep follow = keep
 keeps_wrongly Exclude keep follow = keep && follow
 
--- the revision after which the cut is written: one to eighteen digits
-abbrev pub after_in : List Row → Option ℕ
-after_in rows = option_and_then number_of (first_of (codes "after") rows)
+-- the revision that an option names: one to eighteen digits
+abbrev pub named_revision : Text → List Row → Option ℕ
+named_revision option rows = option_and_then number_of (first_of option rows)
 
--- whether the text that says after which revision is no number, or the cut can't begin after one, as revisions are dropped
-abbrev pub goes_on_wrongly : Option Text → (drop : Bool) → Bool
-goes_on_wrongly None drop = false
-goes_on_wrongly (Some text) drop = is_none (number_of text) || drop
+-- whether the text that names a revision is no number, or none may be named
+abbrev pub is_named_wrongly : Option Text → (forbidden : Bool) → Bool
+is_named_wrongly None forbidden = false
+is_named_wrongly (Some text) forbidden = is_none (number_of text) || forbidden
 
--- whether the rows have no prefix and no file, or an empty prefix, or options that contradict each other or the side
+-- whether the rows have no prefix and no file, or an empty prefix, or options that contradict each other or the side, or that name
+-- no revision
 abbrev pub are_refused : Side → List Row → Bool
 are_refused side rows = (is_empty (prefixes_in rows) && is_empty (targets_in rows))
     || (list_any is_empty (prefixes_in rows)
     || ((is_set (codes "quiet") rows && is_set (codes "verbose") rows)
     || (keeps_wrongly side (is_set (codes "keep-copies") rows) (is_set (codes "follow-copies") rows)
-    || goes_on_wrongly (first_of (codes "after") rows) (is_set (codes "drop-empty-revs") rows))))
+    || (is_named_wrongly (first_of (codes "after") rows) (is_set (codes "drop-empty-revs") rows)
+    || is_named_wrongly (first_of (codes "youngest") rows) false))))
 
 -- what a side and its rows ask for
 abbrev pub cut_of_side : Side → List Row → Result CutMeaning Usage
@@ -71,7 +76,9 @@ cut_of_side side rows = if are_refused side rows then Err Words else Ok (record 
   follow = is_set (codes "follow-copies") rows;
   keep = is_set (codes "keep-copies") rows;
   drop = is_set (codes "drop-empty-revs") rows;
-  after = after_in rows;
+  after = named_revision (codes "after") rows;
+  youngest = named_revision (codes "youngest") rows;
+  allow_missing = is_set (codes "allow-missing") rows;
   dry_run = is_set (codes "dry-run") rows;
   quiet = is_set (codes "quiet") rows;
   verbose = is_set (codes "verbose") rows;

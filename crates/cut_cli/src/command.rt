@@ -24,5 +24,7 @@ pub fn cut_command<'a>(alloc: Global) -> Result<Command<'a>, AllocError>
         .arg(repeated(alloc, "targets"))?
         .arg(valued(alloc, "map"))?
         .arg(valued(alloc, "after"))?
+        .arg(valued(alloc, "youngest"))?
+        .arg(switch(alloc, "allow-missing"))?
         .arg(any_prefixes(alloc))
 }

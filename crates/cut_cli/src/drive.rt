@@ -241,7 +241,7 @@ fn obstacle_status(obstacle: Obstacle) -> u8
     ensures { result ≡ obstacle_status obstacle }
 {
     match obstacle {
-        Obstacle::CutsOtherwise | Obstacle::ComesBack => 3,
+        Obstacle::Missing | Obstacle::CutsOtherwise | Obstacle::ComesBack => 3,
         _ => 1,
     }
 }

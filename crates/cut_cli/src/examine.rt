@@ -18,7 +18,7 @@ use crate::earlier::cuts_otherwise;
 use crate::expansion::{Expansion, front_to_cut, returns_of, with_additions};
 use crate::faults::{write_no_part, write_not_added, write_rejected, write_unread};
 use crate::lines::write_siblings;
-use crate::numbers::{report_holes, report_last};
+use crate::numbers::{ends_elsewhere, report_holes, report_last};
 use crate::own_lives::report_additions;
 use crate::parents::report_parents;
 use crate::prefixes::report_prefixes;
@@ -44,8 +44,12 @@ pub enum Obstacle {
     Unread(Unread),
     /// `svnadmin load` would reject a change of the dump.
     Rejected(Rejected),
+    /// The last revision of the dump is not the one that the call names.
+    EndsElsewhere,
     /// The dump has no part after the revision that the call names.
     NoPart(NoPart),
+    /// No revision has one of the prefixes, and the call doesn't allow that.
+    Missing,
     /// The call follows copies, and a call for the revisions before its part alone would cut them in another way.
     CutsOtherwise,
     /// Copies would bring excluded content back.
@@ -409,7 +413,9 @@ fn examine_changes<E: Write>(
     requires taken { IsTakenDump dump.now index.now }
     ensures { IfOk result (IsExamined (cut_meaning call.now) dump.now) }
 {
-    report_prefixes(alloc, numbers.first().copied(), index, call, errors)?;
+    if report_prefixes(alloc, numbers.first().copied(), index, call, errors)? {
+        return Ok(Err(Obstacle::Missing));
+    }
     report_last(index, numbers.last().copied(), errors);
     let asked = ask_paths(alloc, dump, index, call, errors)?;
     if cuts_otherwise(alloc, dump, index, &asked.excluded, call, errors)? {
@@ -444,6 +450,9 @@ fn examine_front<E: Write>(
     if let Some(unread) = front.stop {
         let _ = write_unread(errors, dump, unread);
         return Ok(Err(Obstacle::Unread(unread)));
+    }
+    if ends_elsewhere(&front.numbers, call, errors) {
+        return Ok(Err(Obstacle::EndsElsewhere));
     }
     if let Some(why) = no_part(dump, call) {
         let _ = write_no_part(errors, call.after, why);

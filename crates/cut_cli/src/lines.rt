@@ -109,8 +109,25 @@ pub fn write_nested<E: Write>(errors: &mut E, call: &Call<'_>, paths: &[&[u8]]) 
     write_rest(errors, paths.len(), most)
 }
 
+/// Says that nothing is written, since these paths of prefixes are in no revision.
+pub fn write_missing<E: Write>(errors: &mut E, call: &Call<'_>, paths: &[&[u8]]) -> io::Result<()> {
+    write!(
+        errors,
+        "svndumpcut: nothing written: prefixes that no revision has: "
+    )?;
+    write_grouped(errors, paths.len())?;
+    writeln!(errors, "")?;
+    if call.quiet {
+        return Ok(());
+    }
+    for path in paths {
+        write_path_line(errors, path)?;
+    }
+    writeln!(errors, "use --allow-missing if this is intended")
+}
+
 /// Warns of prefixes whose paths are in no revision.
-pub fn write_idle<E: Write>(errors: &mut E, call: &Call<'_>, paths: &[&[u8]]) -> io::Result<()> {
+pub fn write_unused<E: Write>(errors: &mut E, call: &Call<'_>, paths: &[&[u8]]) -> io::Result<()> {
     let most = shown(call);
     for path in paths.iter().take(most) {
         write!(errors, "svndumpcut: warning: no revision has ")?;

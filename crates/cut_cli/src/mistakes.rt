@@ -26,11 +26,20 @@ pub enum Mistake<'a> {
     /// `--follow-copies` and `--keep-copies` exclude each other.
     KeepAndFollow,
     /// The text after `--after` is no number.
-    NoRevision(&'a str),
+    AfterNoRevision(&'a str),
+    /// The text after `--youngest` is no number.
+    YoungestNoRevision(&'a str),
     /// `--after` and the option that drops revisions exclude each other.
     AfterAndDrop,
     /// An argument is not UTF-8.
     NotText,
+}
+
+/// Says that this text of an option is not the number of a revision.
+fn write_no_revision<E: Write>(errors: &mut E, option: &str, text: &str) -> io::Result<()> {
+    write!(errors, "not the number of a revision: --{option} '")?;
+    write_seen(errors, text.as_bytes())?;
+    write!(errors, "'")
 }
 
 /// Writes what is wrong, after the program's name.
@@ -59,11 +68,8 @@ fn write_text<E: Write>(errors: &mut E, mistake: Mistake<'_>) -> io::Result<()> 
                 "--keep-copies and --follow-copies exclude each other"
             )
         }
-        Mistake::NoRevision(text) => {
-            write!(errors, "not the number of a revision: --after '")?;
-            write_seen(errors, text.as_bytes())?;
-            write!(errors, "'")
-        }
+        Mistake::AfterNoRevision(text) => write_no_revision(errors, "after", text),
+        Mistake::YoungestNoRevision(text) => write_no_revision(errors, "youngest", text),
         Mistake::AfterAndDrop => {
             write!(errors, "--after and --drop-empty-revs exclude each other")
         }

@@ -59,6 +59,33 @@ pub fn report_holes<E: Write>(
     Ok(())
 }
 
+/// Says that the last revision of the dump, which has this number if there is one, is not the one that has to be it.
+fn write_other_end<E: Write>(errors: &mut E, last: Option<u64>, youngest: u64) -> io::Result<()> {
+    write!(errors, "svndumpcut: ")?;
+    match last {
+        Some(last) => write!(errors, "the dump ends at r{last}")?,
+        None => write!(errors, "the dump has no revision")?,
+    }
+    write!(errors, ", and --youngest is {youngest}")?;
+    if last < Some(youngest) {
+        write!(errors, ": it is not whole")?;
+    }
+    writeln!(errors, "")
+}
+
+/// Whether the last of these revisions is another one than the call names, if it names one. It reports that.
+pub fn ends_elsewhere<E: Write>(numbers: &[u64], call: &Call<'_>, errors: &mut E) -> bool {
+    let Some(youngest) = call.youngest else {
+        return false;
+    };
+    let last = numbers.last().copied();
+    if last == Some(youngest) {
+        return false;
+    }
+    let _ = write_other_end(errors, last, youngest);
+    true
+}
+
 /// Warns that the last revision, which has this number, has no nodes. `svnadmin dump` writes the record of a revision
 /// before it finds that it can't read it.
 pub fn report_last<E: Write>(index: &ChangeIndex<'_>, last: Option<u64>, errors: &mut E) {

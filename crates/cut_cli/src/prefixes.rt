@@ -1,5 +1,7 @@
 //! Reports what is unusual about the prefixes.
-use crate::lines::{write_first, write_idle, write_nested, write_spelling};
+ghost use Rattle.std.specs.Prelude.{◌≡◌, true, false, IfOk};
+
+use crate::lines::{write_first, write_missing, write_nested, write_spelling, write_unused};
 use crate::words::Call;
 use dump_changes::Memory;
 use dump_cut::canonical_prefix;
@@ -69,40 +71,59 @@ fn is_nested(sorted: &[&[u8]], path: &[u8]) -> bool {
         .any(|(place, byte)| *byte == b'/' && is_given(&path[..place]))
 }
 
-/// Reports prefixes that are inside others, and those whose paths are in no revision.
+/// Reports prefixes whose paths are in no revision, if there are any. It returns whether they end the call.
+fn report_missing<E: Write>(errors: &mut E, call: &Call<'_>, missing: &[&[u8]]) -> bool
+    ensures { result ≡ true → call.now.allow_missing ≡ false }
+{
+    if call.allow_missing {
+        let _ = write_unused(errors, call, missing);
+        return false;
+    }
+    if missing.is_empty() {
+        return false;
+    }
+    let _ = write_missing(errors, call, missing);
+    true
+}
+
+/// Reports prefixes that are inside others, and those whose paths are in no revision. It returns whether these end the
+/// call.
 fn report_paths<E: Write>(
     alloc: Global,
     index: &ChangeIndex<'_>,
     call: &Call<'_>,
     paths: &[&[u8]],
     errors: &mut E,
-) -> Result<(), Memory> {
+) -> Result<bool, Memory>
+    ensures { IfOk result (λ ends. ends ≡ true → call.now.allow_missing ≡ false) }
+{
     let mut nested: Vec<&[u8]> = Vec::new(alloc);
-    let mut idle: Vec<&[u8]> = Vec::new(alloc);
+    let mut missing: Vec<&[u8]> = Vec::new(alloc);
     for path in paths {
         if is_nested(paths, path) {
             nested.push(*path)?;
         }
         if !ends_in_slash(path) && !index.exists_ever(alloc, path)? {
-            idle.push(*path)?;
+            missing.push(*path)?;
         }
     }
     if !call.quiet {
         let _ = write_nested(errors, call, &nested);
     }
-    let _ = write_idle(errors, call, &idle);
-    Ok(())
+    Ok(report_missing(errors, call, &missing))
 }
 
 /// Reports prefixes that aren't in canonical form, whether a load renumbers the first revision, which has this number,
-/// prefixes that are inside others, and those whose paths are in no revision.
+/// prefixes that are inside others, and those whose paths are in no revision. It returns whether these end the call.
 pub fn report_prefixes<E: Write>(
     alloc: Global,
     first: Option<u64>,
     index: &ChangeIndex<'_>,
     call: &Call<'_>,
     errors: &mut E,
-) -> Result<(), Memory> {
+) -> Result<bool, Memory>
+    ensures { IfOk result (λ ends. ends ≡ true → call.now.allow_missing ≡ false) }
+{
     let paths = canonical_paths(alloc, call, errors)?;
     if let Some(first) = first {
         if first > 1 {

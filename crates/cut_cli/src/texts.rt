@@ -20,6 +20,8 @@ each prefix, and the directories above; exclude keeps what no prefix matches.
   --drop-empty-revs  drop revisions that lose all of their nodes, and renumber
   --after N          write only the revisions after N, for a repository that was
                      loaded from an earlier cut up to N
+  --youngest N       write nothing unless the last revision of the dump is N
+  --allow-missing    cut the dump although no revision has one of the prefixes
   --dry-run          do everything but write the new dump
   --quiet            write only warnings, faults and failures
   --verbose          write lists whole
@@ -30,8 +32,8 @@ each prefix, and the directories above; exclude keeps what no prefix matches.
   --                 every argument after this one is a prefix
 
 The exit status is 0 if the dump is cut, 1 after a fault or a failure, 2 if the
-arguments are wrong, and 3 if copies would bring excluded content back, or
-change the cut of earlier revisions.
+arguments are wrong, and 3 if no revision has one of the prefixes, or copies
+would bring excluded content back or change the cut of earlier revisions.
 The manual page svndumpcut(1) has more.
 ";
 

@@ -1,5 +1,5 @@
 //! The arguments of a call.
-ghost use Rattle.std.specs.Prelude.{◌≡◌, ◌≢◌, ◌≤◌, Err, IfOk, is_some, map, option_map, true, codes};
+ghost use Rattle.std.specs.Prelude.{◌≡◌, ◌≢◌, ◌≤◌, Err, IfOk, is_some, map, option_map, true, false, codes};
 ghost use Rattle.std.specs.List.{list_any};
 ghost use Rattle.std.specs.Option.{option_and_then};
 ghost use Rattle.dump_text.specs.Number.{number_of};
@@ -10,7 +10,7 @@ ghost use Rattle.cli_support.specs.steps.LineReading.{ReadsLine};
 ghost use Rattle.cli_support.specs.Arguments.{flag_number};
 ghost use Rattle.cli_support.specs.steps.FilledFlags.{AreFilled};
 ghost use Rattle.dump_pipeline.specs.PlanViews.{worker_count, window_size};
-ghost use Rattle.cut_cli.specs.Words.{are_refused, cut_of_words, cut_of_side, goes_on_wrongly, keeps_wrongly, prefixes_in, targets_in, with_texts_of};
+ghost use Rattle.cut_cli.specs.Words.{are_refused, cut_of_words, cut_of_side, is_named_wrongly, keeps_wrongly, prefixes_in, targets_in, with_texts_of};
 ghost use Rattle.cut_cli.specs.steps.Words.{TellsCut, asked_map, cut_meaning};
 
 use crate::command::cut_command;
@@ -44,6 +44,10 @@ pub struct Call<'a> {
     pub drop: bool,
     /// The revision after which the cut begins; the earlier ones were loaded before.
     pub after: Option<u64>,
+    /// The revision that has to be the last one of the dump.
+    pub youngest: Option<u64>,
+    /// Whether the dump is cut although no revision has a prefix.
+    pub allow_missing: bool,
     /// Whether nothing is written.
     pub dry_run: bool,
     /// Whether only warnings and faults are reported.
@@ -137,8 +141,8 @@ fn wrong_keeping(side: Side, keep: bool, follow: bool) -> Option<Mistake<'static
     }
 }
 
-/// The number of the revision after which the cut begins, read from its text.
-fn after_of(text: Option<&str>) -> Option<u64>
+/// The number of a revision, read from its text.
+fn revision_of(text: Option<&str>) -> Option<u64>
     ensures { result ≡ option_and_then number_of (option_map (λ text. text.now) text.entry) }
 {
     match text {
@@ -149,11 +153,21 @@ fn after_of(text: Option<&str>) -> Option<u64>
 
 /// What is wrong with the text of the revision after which the cut begins; `drop` says whether revisions are dropped.
 fn wrong_after<'a>(text: Option<&'a str>, drop: bool) -> Option<Mistake<'a>>
-    ensures { is_some result ≡ goes_on_wrongly (option_map (λ text. text.now) text.entry) drop }
+    ensures { is_some result ≡ is_named_wrongly (option_map (λ text. text.now) text.entry) drop }
 {
     match text {
-        Some(text) if number(text.as_bytes()).is_none() => Some(Mistake::NoRevision(text)),
+        Some(text) if number(text.as_bytes()).is_none() => Some(Mistake::AfterNoRevision(text)),
         Some(_) if drop => Some(Mistake::AfterAndDrop),
+        _ => None,
+    }
+}
+
+/// What is wrong with the text of the revision that has to be the last one.
+fn wrong_youngest<'a>(text: Option<&'a str>) -> Option<Mistake<'a>>
+    ensures { is_some result ≡ is_named_wrongly (option_map (λ text. text.now) text.entry) false }
+{
+    match text {
+        Some(text) if number(text.as_bytes()).is_none() => Some(Mistake::YoungestNoRevision(text)),
         _ => None,
     }
 }
@@ -184,7 +198,11 @@ fn mistake_in<'a>(
         return wrong;
     }
     let drop = is_set(matches, "drop-empty-revs");
-    wrong_after(read_value(matches, "after"), drop)
+    let wrong = wrong_after(read_value(matches, "after"), drop);
+    if wrong.is_some() {
+        return wrong;
+    }
+    wrong_youngest(read_value(matches, "youngest"))
 }
 
 /// Reads a side and the arguments after it.
@@ -214,7 +232,9 @@ fn read_call<'a, E: Write>(
         follow: is_set(matches, "follow-copies"),
         keep: is_set(matches, "keep-copies"),
         drop: is_set(matches, "drop-empty-revs"),
-        after: after_of(read_value(matches, "after")),
+        after: revision_of(read_value(matches, "after")),
+        youngest: revision_of(read_value(matches, "youngest")),
+        allow_missing: is_set(matches, "allow-missing"),
         dry_run: is_set(matches, "dry-run"),
         quiet: is_set(matches, "quiet"),
         verbose: is_set(matches, "verbose"),

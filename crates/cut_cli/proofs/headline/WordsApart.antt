@@ -10,7 +10,7 @@ use Rattle.dump_rules.specs.declared.options.Side.TheVariants.{Exclude, Include}
 use Rattle.cli_support.specs.Arguments.{flag_number, is_set, meaning_by, side_in}
 use Rattle.cli_support.specs.declared.usage.Usage.TheVariants.{Words}
 use Rattle.cut_cli.specs.CommandLine.{cut_command}
-use Rattle.cut_cli.specs.Words.{CutMeaning, after_in, are_refused, cut_of_side, cut_of_words, goes_on_wrongly, keeps_wrongly, prefixes_in, targets_in}
+use Rattle.cut_cli.specs.Words.{CutMeaning, are_refused, cut_of_side, cut_of_words, keeps_wrongly, prefixes_in, named_revision, targets_in}
 
 not_wrongly : (side : Side) (keep follow : Bool) → keeps_wrongly side keep follow ≡ false → (keep && follow) ≡ false
 not_wrongly Include keep follow is = ap (λ k. k && follow) is
@@ -26,7 +26,9 @@ meant side rows = record {
   follow = is_set (codes "follow-copies") rows;
   keep = is_set (codes "keep-copies") rows;
   drop = is_set (codes "drop-empty-revs") rows;
-  after = after_in rows;
+  after = named_revision (codes "after") rows;
+  youngest = named_revision (codes "youngest") rows;
+  allow_missing = is_set (codes "allow-missing") rows;
   dry_run = is_set (codes "dry-run") rows;
   quiet = is_set (codes "quiet") rows;
   verbose = is_set (codes "verbose") rows;
@@ -43,7 +45,7 @@ rows_apart side rows m is = cases (are_refused side rows) refl is
         (second_false (is_empty (prefixes_in rows) && is_empty (targets_in rows)) _ fine) in
         let keeps = second_false (is_set (codes "quiet") rows && is_set (codes "verbose") rows) _ rest in
         not_wrongly side (is_set (codes "keep-copies") rows) (is_set (codes "follow-copies") rows)
-        (first_false _ (goes_on_wrongly (first_of (codes "after") rows) (is_set (codes "drop-empty-revs") rows)) keeps)
+        (first_false _ _ keeps)
 
     cases : (b : Bool) → are_refused side rows ≡ b → (if b then Err Words else Ok (meant side rows)) ≡ Ok m
         → (m.keep && m.follow) ≡ false

@@ -209,10 +209,13 @@ abbrev pub WouldDiffer : CutMeaning → List ℕ → Type 0
 WouldDiffer m dump = (listed : List Listed) × (excluded : List NodePath) × IsTakenDump dump listed
     × IsAskedBy m.side m dump listed excluded × CutsOtherwise m dump listed excluded
 
--- why nothing is written with status 3. The reason for status 1 isn't said
+-- why nothing is written with status 3; of prefixes that no revision has, only that the call doesn't allow them. The reason for
+-- status 1 isn't said
 abbrev pub IsObstacleTo : CutMeaning → List ℕ → Obstacle → Type 0
 IsObstacleTo m dump obstacles.ComesBack = WouldComeBack m dump
 IsObstacleTo m dump obstacles.CutsOtherwise = WouldDiffer m dump
+IsObstacleTo m dump obstacles.Missing = m.allow_missing ≡ false
+IsObstacleTo m dump obstacles.EndsElsewhere = ⊤
 IsObstacleTo m dump (obstacles.Unread reason) = ⊤
 IsObstacleTo m dump (obstacles.Rejected rejected) = ⊤
 IsObstacleTo m dump (obstacles.NoPart why) = ⊤

@@ -36,6 +36,8 @@ obstacle_status (obstacles.Unread _) = 1
 obstacle_status (obstacles.Rejected _) = 1
 obstacle_status obstacles.ComesBack = 3
 obstacle_status obstacles.CutsOtherwise = 3
+obstacle_status obstacles.Missing = 3
+obstacle_status obstacles.EndsElsewhere = 1
 obstacle_status (obstacles.OddDelete _) = 1
 obstacle_status (obstacles.NotAdded _) = 1
 obstacle_status (obstacles.NoPart _) = 1
@@ -109,9 +111,10 @@ CleanTextsAreCuts m expansion settings deletes dump =
     → IsCleanText settings (text_read expansion dump) again filtered → IsTrimmedIf deletes filtered text
     → IsCutText m expansion settings dump text
 
--- nothing is written: with status 1, or with status 3 for one of two reasons
+-- nothing is written: with status 1, or with status 3 for one of three reasons
 abbrev pub EndsUnwritten : CutMeaning → List ℕ → ℕ → Type 0
-EndsUnwritten m dump status = (status ≡ 1) ⊎ ((status ≡ 3) × (WouldComeBack m dump ⊎ WouldDiffer m dump))
+EndsUnwritten m dump status = (status ≡ 1)
+    ⊎ ((status ≡ 3) × (WouldComeBack m dump ⊎ (WouldDiffer m dump ⊎ (m.allow_missing ≡ false))))
 
 -- a dump is cut; or nothing is written
 abbrev pub CutsDump : CutMeaning → List ℕ → (old new map_old map_new : Option (List ℕ)) → ℕ → Type 0

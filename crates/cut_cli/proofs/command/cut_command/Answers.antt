@@ -19,5 +19,7 @@ returns c =
     let e9 = one_more _ _ _ _ _ c.in_ok-arg-9.ensures c.repeated.ensures.local e8 c.repeated.ensures.rule in
     let e10 = one_more _ _ _ _ _ c.in_ok-arg-10.ensures c.valued.ensures.local e9 c.valued.ensures.rule in
     let e11 = one_more _ _ _ _ _ c.in_ok-arg-11.ensures c.valued-2.ensures.local e10 c.valued-2.ensures.rule in
-    IfOk-weaker c.arg-12.result _ _
-    (λ r adds. one_more _ _ _ _ _ adds c.any_prefixes.ensures.local e11 c.any_prefixes.ensures.rule) c.arg-12.ensures
+    let e12 = one_more _ _ _ _ _ c.in_ok-arg-12.ensures c.valued-3.ensures.local e11 c.valued-3.ensures.rule in
+    let e13 = one_more _ _ _ _ _ c.in_ok-arg-13.ensures c.switch-7.ensures.local e12 c.switch-7.ensures.rule in
+    IfOk-weaker c.arg-14.result _ _
+    (λ r adds. one_more _ _ _ _ _ adds c.any_prefixes.ensures.local e13 c.any_prefixes.ensures.rule) c.arg-14.ensures
