@@ -112,7 +112,7 @@ COUNTS = ("kept", "emptied", "nodes", "dropped", "deletes")
 # copies that are written as additions
 WRITTEN_COUNT = re.compile(
     rb"^([\d,]+) cop(?:y is|ies are) written as (?:an addition|additions), because (?:its source is|their sources are) not "
-    rb"included; --follow-copies includes (?:it|them)$",
+    rb"included: svn merge does not take (?:it for a copy|them for copies); --follow-copies includes the sources?$",
     re.MULTILINE,
 )
 KEPT_COUNT = re.compile(rb"^copies bring excluded content back, in ([\d,]+) places? \(--keep-copies\)$", re.MULTILINE)
@@ -120,7 +120,7 @@ PARENTS_COUNT = re.compile(rb"^copies of parents of prefixes that are written as
 # that later copies change what is cut up to a revision
 DIFFERING = re.compile(
     rb"^svndumpcut: nothing written: --follow-copies now cuts what exists up to r(\d+) differently, at ([\d,]+) paths?: "
-    rb"cut the whole dump again\n((?:  /.*\n)+)\Z",
+    rb"cut the whole dump again\n((?:  /.*\n)+)or go on with these paths .* without --follow-copies:\n(?:  /.*\n)+\Z",
     re.MULTILINE,
 )
 OWN_LIFE = re.compile(

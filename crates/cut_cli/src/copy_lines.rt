@@ -128,6 +128,29 @@ pub fn write_differences<E: Write>(
     write_rest(errors, paths.len(), most)
 }
 
+/// Says how a repository can be kept up to date by the paths of its first cut, and lists these if the call is for whole
+/// lists.
+pub fn write_first_paths<E: Write>(
+    errors: &mut E,
+    call: &Call<'_>,
+    paths: &[&[u8]],
+) -> io::Result<()> {
+    if !call.verbose {
+        return writeln!(
+            errors,
+            "or go on with the paths of the first cut as prefixes, without --follow-copies (--verbose lists them)"
+        );
+    }
+    writeln!(
+        errors,
+        "or go on with these paths of the first cut as prefixes, without --follow-copies:"
+    )?;
+    for path in paths {
+        write_path_line(errors, path)?;
+    }
+    Ok(())
+}
+
 /// Writes the line of a path to which a copy is followed: for an excluded path, what is copied to it; for an included
 /// path, what is copied from it.
 fn write_addition<E: Write>(
@@ -263,13 +286,13 @@ pub fn write_written<E: Write>(errors: &mut E, count: usize) -> io::Result<()> {
     if count == 1 {
         return writeln!(
             errors,
-            "1 copy is written as an addition, because its source is not included; --follow-copies includes it"
+            "1 copy is written as an addition, because its source is not included: svn merge does not take it for a copy; --follow-copies includes the source"
         );
     }
     write_grouped(errors, count)?;
     writeln!(
         errors,
-        " copies are written as additions, because their sources are not included; --follow-copies includes them"
+        " copies are written as additions, because their sources are not included: svn merge does not take them for copies; --follow-copies includes the sources"
     )
 }
 

@@ -7,7 +7,7 @@ ghost use Rattle.dump_cut.specs.steps.ExcludedPaths.{paths_of};
 ghost use Rattle.cut_cli.specs.steps.Cuts.{BeginsAsBefore, CutsOtherwise, DiffersBefore};
 ghost use Rattle.cut_cli.specs.steps.Words.{cut_meaning};
 
-use crate::copy_lines::write_differences;
+use crate::copy_lines::{write_differences, write_first_paths};
 use crate::examine::ask_paths;
 use crate::words::Call;
 use dump_changes::Memory;
@@ -54,6 +54,32 @@ fn report_differences<E: Write>(
     Ok(())
 }
 
+/// Reports how the repository that was loaded can be kept up to date all the same.
+fn report_way_out<E: Write>(
+    alloc: Global,
+    dump: &[u8],
+    index: &ChangeIndex<'_>,
+    call: &Call<'_>,
+    number: u64,
+    errors: &mut E,
+) -> Result<(), Memory>
+    requires { IsTrue (list_all has_named_paths index.now) }
+{
+    if call.quiet {
+        return Ok(());
+    }
+    let earlier = index.up_to(alloc, number)?;
+    let asked = ask_paths(
+        alloc,
+        first_part(dump, number),
+        &earlier,
+        call,
+        &mut io::sink(),
+    )?;
+    let _ = write_first_paths(errors, call, &asked.named().paths(alloc)?);
+    Ok(())
+}
+
 /// Whether the call follows copies and writes the part after a revision, and the cut up to this revision differs from
 /// the cut of a dump that ends there. It reports where.
 pub fn cuts_otherwise<E: Write>(
@@ -80,5 +106,6 @@ pub fn cuts_otherwise<E: Write>(
         return Ok(false);
     }
     report_differences(alloc, call, number, &found, errors)?;
+    report_way_out(alloc, dump, index, call, number, errors)?;
     Ok(true)
 }

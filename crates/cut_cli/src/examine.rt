@@ -93,6 +93,16 @@ pub(crate) struct Asked {
     pub included: Option<Excluded>,
 }
 
+impl Asked {
+    /// The paths of this side of the call: what it includes, or what it excludes.
+    pub(crate) fn named(&self) -> &Excluded {
+        match &self.included {
+            Some(included) => included,
+            None => &self.excluded,
+        }
+    }
+}
+
 /// How many revisions have changes, all of them at excluded paths.
 fn count_emptied(excluded: &Excluded, changes: &[NodeChange<'_>]) -> u64 {
     let mut emptied: u64 = 0;

@@ -192,6 +192,15 @@ fn write_no_text<E: Write>(errors: &mut E, defect: TextDefect, spot: Spot<'_>) -
     }
 }
 
+/// Says that a copy needs a text that the next line is about.
+fn write_needing<E: Write>(errors: &mut E, copy: Spot<'_>) -> io::Result<()> {
+    write_copied(errors, copy)?;
+    writeln!(
+        errors,
+        "this copy needs a text that can't be made, unless --follow-copies is given"
+    )
+}
+
 /// Says why nothing can be written in place of a copy.
 pub fn write_not_added<E: Write>(
     errors: &mut E,
@@ -199,16 +208,22 @@ pub fn write_not_added<E: Write>(
     changes: &[NodeChange<'_>],
     not_added: NotAdded,
 ) -> io::Result<()> {
-    let place = match not_added.reason {
-        Reason::Text(no_text) => no_text.place,
-        Reason::NoLoad | Reason::NotWritable => not_added.place,
-    };
-    let Some(change) = changes.get(place) else {
+    let Some(copy) = changes.get(not_added.place) else {
         return Ok(());
     };
-    let spot = spot_of(dump, change.record_number);
+    let spot = spot_of(dump, copy.record_number);
     match not_added.reason {
-        Reason::Text(no_text) => write_no_text(errors, no_text.defect, spot),
+        Reason::Text(no_text) => {
+            let Some(change) = changes.get(no_text.place) else {
+                return Ok(());
+            };
+            write_needing(errors, spot)?;
+            write_no_text(
+                errors,
+                no_text.defect,
+                spot_of(dump, change.record_number),
+            )
+        }
         // the load check comes first, so no such copy gets here
         Reason::NoLoad => write_rejection(errors, dump, Rejection::NoSource, spot),
         Reason::NotWritable => {

@@ -51,7 +51,7 @@ Node-path: e/f\nNode-kind: file\nNode-action: add\nProp-content-length: 10\nText
 PROPS-END\na\n\n\n";
 
 const ADDED_LINES: &[u8] =
-    b"1 copy is written as an addition, because its source is not included; --follow-copies includes it\n  \
+    b"1 copy is written as an addition, because its source is not included: svn merge does not take it for a copy; --follow-copies includes the source\n  \
 r2: /e, copied from /d@1: 1 file, 2 bytes\n\
 revisions kept 3 (1 of them emptied), dropped 0; nodes kept 2, dropped 2; 1 node written as 2; texts checked 0\n";
 
