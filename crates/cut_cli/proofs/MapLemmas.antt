@@ -1,5 +1,5 @@
 -- The map of revisions, line by line.
-use Rattle.std.proofs.Common.{◌≡◌, ℕ, ◌+◌, ◌<◌, ◌≤◌, ◌^◌, List, [], ◌∷◌, ◌++◌, drop, Option, None, if◌then◌else◌, refl, ◌∙◌, arith, unwrap_or, ◌==◌}
+use Rattle.std.proofs.Common.{◌≡◌, ℕ, ◌≤◌, List, [], ◌++◌, drop, Option, None, refl, arith, unwrap_or}
 use Rattle.dump_cut.specs.declared.fates.RevisionFate.{RevisionFate}
 use Rattle.cut_cli.specs.RevisionMap.{fate_lines}
 

@@ -34,7 +34,6 @@ use Rattle.dump_index.specs.steps.Listed.{Listed, all_placed, listed_of}
 use Rattle.dump_index.specs.steps.ToldKinds.{kinds_told_by}
 use Rattle.dump_index.specs.declared.change.NodeChange.{NodeChange}
 use Rattle.dump_additions.specs.steps.Additions.{AreAdditionsFrom}
-use Rattle.dump_additions.specs.declared.not_added.NotAdded.{NotAdded}
 use Rattle.dump_changes.specs.TextDeltas.{AgreesWithSvndiff}
 use Rattle.dump_changes.specs.steps.FileTexts.{record_texts}
 use Rattle.dump_changes.specs.ListedDumps.{rise_from}

@@ -1,5 +1,5 @@
 -- What the program's arguments mean, by the side and by what clap finds after it.
-use Rattle.std.specs.Prelude.{Result, drop, map, option_map, Option, None, if◌then◌else◌}
+use Rattle.std.specs.Prelude.{Result, map, option_map, Option, None, if◌then◌else◌}
 use Rattle.clap.specs.Words.{Text}
 use Rattle.dump_pipeline.specs.PlanViews.{worker_count, window_size}
 use Rattle.cli_support.specs.Arguments.{Answers}

@@ -1,4 +1,3 @@
-use Rattle.std.proofs.Common.{drop}
 use Rattle.cut_cli.proofs.MapLemmas.{LinesSoFar}
 use Rattle.cut_cli.proofs.map.lines_of.Given as goal
 
