@@ -38,6 +38,7 @@ so. The last line is 'N passed, M failed'.
 """
 import collections
 import concurrent.futures
+import copy as copying
 import functools
 import os
 import random
@@ -401,6 +402,17 @@ def placed_records(dump):
         yield place, Record(headers, None if parts[0] is None else property_list(parts[0]), parts[1])
 
 
+def nodes_of(dump):
+    """The paths of the nodes of each revision of a dump."""
+    found = []
+    for record in records(dump):
+        if b"Revision-number" in record.headers:
+            found.append([])
+        elif b"Node-path" in record.headers:
+            found[-1].append(record.headers[b"Node-path"])
+    return found
+
+
 # a directory has no text
 Node = collections.namedtuple("Node", "properties text")
 
@@ -484,13 +496,14 @@ class History:
 
     def with_nodes_of(self, part):
         """With the nodes of the part that was loaded, since a node that changes nothing isn't in a dump of what it made."""
-        self.nodes = [[]]
-        for record in records(part):
-            if b"Revision-number" in record.headers:
-                self.nodes.append([])
-            elif b"Node-path" in record.headers:
-                self.nodes[-1].append(record.headers[b"Node-path"])
+        self.nodes = [[], *nodes_of(part)]
         return self
+
+    def dumped_as(self, dump):
+        """The same history with the nodes of another dump of it: svnrdump writes no node for a change that changes nothing."""
+        found = copying.copy(self)
+        found.nodes = nodes_of(dump)
+        return found
 
     def validate(self):
         """Sees that each tree is the one that svnadmin dumps whole; svnadmin omits the root's properties there."""
@@ -815,7 +828,7 @@ class Cut(Trial):
     side = "exclude"
 
     def __init__(self, name, original, dump, given, place):
-        super().__init__(name, original, dump, [])
+        super().__init__(name, original.dumped_as(dump), dump, [])
         self.given, self.is_dry, self.is_validated, self.place = given, place % 3 == 0, place % 10 == 0, place
         # how many paths --follow-copies adds, as it is said without it, and the last output that was right
         self.added, self.right = 0, None
