@@ -6,8 +6,9 @@ import time
 
 from repository import below, lanes, read
 
-# what several jobs take more of the processors than one, and which part of the time a proof takes with them
-MORE, SHARE = 1.3, 0.5
+# what a build takes more of the processors than the table says, as several jobs take more than one and processors are idle; and
+# which part of the time a proof takes with several jobs
+MORE, SHARE = 1.65, 0.5
 
 
 def measured():
