@@ -218,11 +218,7 @@ pub fn write_not_added<E: Write>(
                 return Ok(());
             };
             write_needing(errors, spot)?;
-            write_no_text(
-                errors,
-                no_text.defect,
-                spot_of(dump, change.record_number),
-            )
+            write_no_text(errors, no_text.defect, spot_of(dump, change.record_number))
         }
         // the load check comes first, so no such copy gets here
         Reason::NoLoad => write_rejection(errors, dump, Rejection::NoSource, spot),
